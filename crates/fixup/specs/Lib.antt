@@ -1,0 +1,2 @@
+-- The three kinds of reference and where they lead.
+pub mod Target

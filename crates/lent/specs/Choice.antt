@@ -1,0 +1,24 @@
+-- Choosing by a test, and the first of several things that there is.
+use mathlib.Core.Bool.{Bool, true, false}
+use mathlib.Core.List.{List, [], _∷_}
+use mathlib.Core.Option.{Option, none, some}
+
+infix 10 if_then_else_
+abbrev pub if_then_else_ : {A : Type 0} → Bool → A → A → A
+if true then a else b = a
+if false then a else b = b
+
+-- something, if a test passes
+abbrev pub when : {A : Type 0} → Bool → A → Option A
+when true a = some a
+when false a = none
+
+-- this, or else that
+abbrev pub orElse : {A : Type 0} → Option A → Option A → Option A
+orElse none b = b
+orElse (some a) b = some a
+
+-- the first that there is
+unfoldable pub leading : {A : Type 0} → List (Option A) → Option A
+leading [] = none
+leading (a ∷ rest) = orElse a (leading rest)

@@ -1,0 +1,38 @@
+-- Bytes of the library: single ones, numbers of two, parts, and names, which are parts.
+use Prim.Native.Nat.{ℕ, _+_, _*_}
+use mathlib.Core.Bool.{Bool, true, false, _&&_, _||_}
+use mathlib.Core.List.{List, [], _∷_}
+use lib.Dec.{eqb, ltb}
+use lib.ListN.{getD, take, drop}
+use Rattle.lent.specs.declared.part.Part.{Part}
+
+-- the byte at a place; the number of two bytes, low byte first
+abbrev pub byteAt : List ℕ → ℕ → ℕ
+byteAt library at = getD library at 0
+
+abbrev pub wordAt : List ℕ → ℕ → ℕ
+wordAt library at = byteAt library at + 256 * byteAt library (at + 1)
+
+-- the bytes of a part; of one that passes the library's end, those that there are
+abbrev pub bytesOf : List ℕ → Part → List ℕ
+bytesOf library p = take (p .len) (drop (p .at) library)
+
+-- two strings of bytes are the same; one comes before another in byte order
+unfoldable pub same : List ℕ → List ℕ → Bool
+same [] [] = true
+same [] (y ∷ ys) = false
+same (x ∷ xs) [] = false
+same (x ∷ xs) (y ∷ ys) = eqb x y && same xs ys
+
+unfoldable pub before : List ℕ → List ℕ → Bool
+before [] [] = false
+before [] (y ∷ ys) = true
+before (x ∷ xs) [] = false
+before (x ∷ xs) (y ∷ ys) = ltb x y || (eqb x y && before xs ys)
+
+-- names are compared by their bytes, wherever they stand
+abbrev pub sameName : List ℕ → Part → Part → Bool
+sameName library a b = same (bytesOf library a) (bytesOf library b)
+
+abbrev pub nameBefore : List ℕ → Part → Part → Bool
+nameBefore library a b = before (bytesOf library a) (bytesOf library b)

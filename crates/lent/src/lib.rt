@@ -1,0 +1,3 @@
+// What every stage shares: parts of the library, refusals, and rows of numbers in lent memory.
+pub mod part;
+pub mod refusal;

@@ -1,0 +1,3 @@
+-- The whole: the run, what is proved of it, and document 01's examples.
+pub mod Run
+pub mod Examples

@@ -1,0 +1,159 @@
+-- The whole: what is lent, the order of the refusals, the answer, and what is left in lent memory.
+use Prim.Native.Nat.{ℕ, _+_}
+use mathlib.Core.Bool.{Bool, true, false, _||_}
+use mathlib.Core.List.{List, [], _∷_}
+use mathlib.Core.Option.{Option, none, some}
+use lib.Dec.{leb, ltb}
+use lib.ListN.{length}
+use Rattle.lent.specs.declared.refusal.Refusal.{Refusal}
+use Rattle.lent.specs.declared.refusal.Refusal.the-variants.{RuleSet, ImageTooLong, LibraryTooLong, StretchPastEnd, TooFewRows}
+use Rattle.lent.specs.Choice.{if_then_else_, when, leading}
+use Rattle.lent.specs.Lists.{total}
+use Rattle.lent.specs.Refusals.{refusalNumber}
+use Rattle.lent.specs.Rows.{zeros, padded, tooMany}
+use Rattle.pattern.specs.View.{view}
+use Rattle.fixup.specs.Target.{rulesOf}
+use Rattle.omf51.specs.File.{file, fileRefusal, modulesIn}
+use Rattle.segments.specs.Collect.{Collected, collect}
+use Rattle.segments.specs.Refuse.{collectRefusal}
+use Rattle.segments.specs.SegmentRows.{segmentWidth, referenceWidth, symbolWidth, segmentNumbers, referenceNumbers, symbolNumbers, patternBytes, patternMasks}
+use Rattle.search.specs.declared.Asked.{Asked}
+use Rattle.search.specs.Search.{Placing, Noting, placed, noted}
+use Rattle.search.specs.SearchRows.{placedWidth, notedWidth, placedNumbers, notedNumbers}
+use Rattle.listing.specs.declared.Line.{Line}
+use Rattle.listing.specs.Listing.{listing, lineWidth, lineNumbers}
+use Rattle.libfind.specs.declared.Settings.{Settings}
+use Rattle.libfind.specs.declared.Counts.{Counts}
+use Rattle.libfind.specs.declared.Answer.{Answer}
+use Rattle.libfind.specs.declared.Answer.the-variants.{Done, Refused}
+
+-- the lent lists of numbers: rows of each stage, and the pattern memory
+pub record Lent : Type 0 where
+  pub segments : List ℕ
+  pub references : List ℕ
+  pub symbols : List ℕ
+  pub bytes : List ℕ
+  pub masks : List ℕ
+  pub placed : List ℕ
+  pub noted : List ℕ
+  pub lines : List ℕ
+
+-- what the stages yield
+pub record Yield : Type 0 where
+  pub segments : List Collected
+  pub placed : List Placing
+  pub noted : List Noting
+  pub lines : List Line
+
+-- what a run comes to: the answer, and the lent lists afterwards
+pub record Outcome : Type 0 where
+  pub answer : Answer
+  pub left : Lent
+
+-- the stages, one after another
+abbrev pub askedOf : Settings → Asked
+askedOf s = record { rules = rulesOf (s .rules); check = s .check; minimum = s .minimum }
+
+unfoldable pub stages : List ℕ → List ℕ → Settings → Yield
+stages cells library s =
+    let a : Asked = askedOf s in
+    let segments = collect (a .rules) library (modulesIn (file library)) in
+    let p = placed library cells a segments in
+    let n = noted library cells a segments in
+    record { segments = segments; placed = p; noted = n; lines = listing library cells a (s .skip) segments p n }
+
+unfoldable pub counted : Yield → Counts
+counted y = record {
+  segments = length (y .segments);
+  references = total (λ g. length (g .references)) (y .segments);
+  symbols = total (λ g. length (g .symbols)) (y .segments);
+  pattern = total (λ g. length (g .bytes)) (y .segments);
+  placed = length (y .placed);
+  noted = length (y .noted);
+  lines = length (y .lines);
+}
+
+-- refusals 1 to 4
+unfoldable pub settingsRefusal : List ℕ → List ℕ → Settings → Option Refusal
+settingsRefusal cells library s =
+    if ltb 1 (s .rules) then some RuleSet
+    else if ltb 65536 (length cells) then some ImageTooLong
+    else if ltb 1048576 (length library) then some LibraryTooLong
+    else when (ltb (length cells) (s .stretch .start + s .stretch .len)) StretchPastEnd
+
+-- refusal 9: a stage yields more rows or pattern bytes than were lent for it
+abbrev pub collectOver : Lent → Counts → Bool
+collectOver lent c =
+    tooMany segmentWidth (lent .segments) (c .segments) || tooMany referenceWidth (lent .references) (c .references)
+    || tooMany symbolWidth (lent .symbols) (c .symbols) || tooMany 1 (lent .bytes) (c .pattern) || tooMany 1 (lent .masks) (c .pattern)
+
+abbrev pub searchOver : Lent → Counts → Bool
+searchOver lent c = tooMany placedWidth (lent .placed) (c .placed) || tooMany notedWidth (lent .noted) (c .noted)
+
+abbrev pub listOver : Lent → Counts → Bool
+listOver lent c = tooMany lineWidth (lent .lines) (c .lines)
+
+-- the refusals in their order, of which the first counts
+unfoldable pub refusals : List ℕ → List ℕ → Settings → Lent → Counts → List (Option Refusal)
+refusals cells library s lent c =
+    settingsRefusal cells library s
+    ∷ fileRefusal (file library)
+    ∷ when (collectOver lent c) TooFewRows
+    ∷ collectRefusal (modulesIn (file library))
+    ∷ when (searchOver lent c) TooFewRows
+    ∷ when (listOver lent c) TooFewRows
+    ∷ []
+
+-- lent memory set to zero; and filled with what the stages yield, the rest zero
+unfoldable pub zeroed : Lent → Lent
+zeroed lent = record {
+  segments = zeros (length (lent .segments));
+  references = zeros (length (lent .references));
+  symbols = zeros (length (lent .symbols));
+  bytes = zeros (length (lent .bytes));
+  masks = zeros (length (lent .masks));
+  placed = zeros (length (lent .placed));
+  noted = zeros (length (lent .noted));
+  lines = zeros (length (lent .lines));
+}
+
+unfoldable pub filledWith : Yield → Lent → Lent
+filledWith y lent = record {
+  segments = padded (length (lent .segments)) (segmentNumbers (y .segments));
+  references = padded (length (lent .references)) (referenceNumbers (y .segments));
+  symbols = padded (length (lent .symbols)) (symbolNumbers (y .segments));
+  bytes = padded (length (lent .bytes)) (patternBytes (y .segments));
+  masks = padded (length (lent .masks)) (patternMasks (y .segments));
+  placed = padded (length (lent .placed)) (placedNumbers (y .placed));
+  noted = padded (length (lent .noted)) (notedNumbers (y .noted));
+  lines = padded (length (lent .lines)) (lineNumbers (y .lines));
+}
+
+-- refusals 1 to 8 write nothing, 9 to 13 set all lent memory to zero
+abbrev pub leftBy : Refusal → Lent → Lent
+leftBy r lent = if leb (refusalNumber r) 8 then lent else zeroed lent
+
+abbrev pub outcomeOf : Option Refusal → Yield → Lent → Outcome
+outcomeOf none y lent = record { answer = Done (counted y); left = filledWith y lent }
+outcomeOf (some r) y lent = record { answer = Refused r; left = leftBy r lent }
+
+-- the run, from the view, which is as long as the image; and from the image
+unfoldable pub runSeen : List ℕ → List ℕ → Settings → Lent → Outcome
+runSeen cells library s lent =
+    let y = stages cells library s in
+    outcomeOf (leading (refusals cells library s lent (counted y))) y lent
+
+unfoldable pub run : List ℕ → List ℕ → Settings → Lent → Outcome
+run image library s lent = runSeen (view image (s .stretch)) library s lent
+
+-- what an answer says: the number, and the counts, which are zero for every refusal
+abbrev pub numberOf : Answer → ℕ
+numberOf (Done c) = 0
+numberOf (Refused r) = refusalNumber r
+
+abbrev pub noCounts : Counts
+noCounts = record { segments = 0; references = 0; symbols = 0; pattern = 0; placed = 0; noted = 0; lines = 0 }
+
+abbrev pub countsOf : Answer → Counts
+countsOf (Done c) = c
+countsOf (Refused r) = noCounts

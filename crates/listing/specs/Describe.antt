@@ -1,0 +1,100 @@
+-- Descriptions of names, as parse_description finds them.
+use Prim.Native.Nat.{ℕ}
+use Prim.Native.String.{String, [] as end, _∷_ as _then_}
+use Prim.Native.Char.{code}
+use mathlib.Core.Bool.{Bool}
+use mathlib.Core.List.{List, [], _∷_, _++_}
+use mathlib.Core.Option.{Option, none, some}
+use lib.ListN.{length, take, drop}
+use Rattle.lent.specs.Lists.{one, first}
+use Rattle.lent.specs.Parts.{same}
+
+-- the bytes of a text
+abbrev pub text : String → List ℕ
+text end = []
+text (c then rest) = code c ∷ text rest
+
+-- a step takes words off the front of a name: what they say, and the rest of the name; or it fails
+abbrev pub Said : Type 0
+Said = Option (List ℕ × List ℕ)
+
+abbrev pub Step : Type 0
+Step = List ℕ → Said
+
+-- words, each with what it says
+abbrev pub Words : Type 0
+Words = List (String × String)
+
+abbrev pub startsWith : List ℕ → List ℕ → Bool
+startsWith name word = same (take (length word) name) word
+
+abbrev pub wordOff : List ℕ → Option (String × String) → Said
+wordOff name none = none
+wordOff name (some (word, says)) = some (text says, drop (length (text word)) name)
+
+-- the first of the words that the name starts with
+unfoldable pub oneOf : Words → Step
+oneOf words name = wordOff name (first (λ w. startsWith name (text (w .0))) words)
+
+-- one step and then another
+abbrev pub more : List ℕ → Said → Said
+more says none = none
+more says (some (rest, left)) = some (says ++ rest, left)
+
+abbrev pub onward : Step → Said → Said
+onward q none = none
+onward q (some (says, left)) = more says (q left)
+
+infixr 20 _and_
+abbrev pub _and_ : Step → Step → Step
+_and_ p q = λ name. onward q (p name)
+
+-- one step or, if it fails, another: what was taken is never reconsidered
+abbrev pub otherwise : Step → List ℕ → Said → Said
+otherwise q name none = q name
+otherwise q name (some got) = some got
+
+infixr 15 _or_
+abbrev pub _or_ : Step → Step → Step
+_or_ p q = λ name. otherwise q name (p name)
+
+abbrev pub perhaps : Step → Step
+perhaps p = p or λ name. some ([], name)
+
+abbrev pub signs : Words
+signs = ("S", "signed ") ∷ ("U", "unsigned ") ∷ []
+
+abbrev pub types : Words
+types =
+    ("C", "char (8-bit) ") ∷ ("I", "int (16-bit) ") ∷ ("P", "general pointer ")
+    ∷ ("L0", "long (r3-r0) ") ∷ ("L", "long (32-bit) ") ∷ ("FP", "float ") ∷ []
+
+-- the twelve operation words
+abbrev pub operations : Words
+operations =
+    ("ADD", "addition") ∷ ("SUB", "subtraction") ∷ ("MUL", "multiply") ∷ ("DIV", "division") ∷ ("CMP", "compare")
+    ∷ ("AND", "bitwise and") ∷ ("OR", "bitwise or") ∷ ("XOR", "bitwise xor") ∷ ("NEG", "negation") ∷ ("NOT", "logical not")
+    ∷ ("SHL", "shift left") ∷ ("SHR", "shift right") ∷ []
+
+abbrev pub moves : Words
+moves =
+    ("LD", "load from ") ∷ ("LDI", "post-increment load from ") ∷ ("ILD", "pre-increment load from ")
+    ∷ ("STK", "constant store to ") ∷ ("ST", "store to ") ∷ []
+
+abbrev pub memories : Words
+memories =
+    ("XDATA", "xdata") ∷ ("PDATA", "pdata (external ram)") ∷ ("IDATA", "idata (indirect ram access)")
+    ∷ ("CODE", "code space") ∷ ("OPTR", "general pointer with offset") ∷ ("PTR", "general pointer") ∷ []
+
+-- the rest of the name is ignored
+unfoldable pub description : Step
+description =
+    oneOf (one ("?C?", "")) and perhaps (oneOf signs) and oneOf types
+    and (oneOf operations or oneOf moves and oneOf memories and perhaps (oneOf (one ("0", " into r3-r0"))))
+
+abbrev pub saidIn : Said → Option (List ℕ)
+saidIn none = none
+saidIn (some (says, left)) = some says
+
+unfoldable pub describe : List ℕ → Option (List ℕ)
+describe name = saidIn (description name)

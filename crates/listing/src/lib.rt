@@ -1,0 +1,15 @@
+// The list: graded names by address.
+use lent::part::Part;
+
+// A position with more names than this is left out.
+pub enum Skip {
+    Never,
+    Above(usize),
+}
+
+// A line of the list.
+pub struct Line {
+    pub address: u64,
+    pub grade: u8,
+    pub name: Part,
+}

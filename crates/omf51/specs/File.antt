@@ -1,0 +1,40 @@
+-- The whole file: bare modules, or a 2Ch library.
+use Prim.Native.Nat.{ℕ}
+use mathlib.Core.List.{List, []}
+use mathlib.Core.Option.{Option, none, some}
+use lib.Dec.{eqb}
+use Rattle.lent.specs.declared.refusal.Refusal.{Refusal}
+use Rattle.lent.specs.declared.refusal.Refusal.the-variants.{NoModule}
+use Rattle.lent.specs.Choice.{if_then_else_}
+use Rattle.lent.specs.Parts.{byteAt}
+use Rattle.omf51.specs.Reader.{Outcome, read, stop, refused, Reader, _>>=_, give, atLeastOne}
+use Rattle.omf51.specs.Record.{recordOf}
+use Rattle.omf51.specs.Module.{Module, moduleAt}
+
+-- bare modules: what stands after those that can be read is ignored
+abbrev pub modulesAt : List ℕ → Reader (List Module)
+modulesAt library = atLeastOne library (moduleAt library)
+
+-- a library goes on to its three closing records; bytes after those are ignored
+unfoldable pub libraryAt : List ℕ → Reader (List Module)
+libraryAt library = do
+  _ ← recordOf library (eqb 0x2c) give
+  modules ← modulesAt library
+  _ ← recordOf library (eqb 0x28) give
+  _ ← recordOf library (eqb 0x26) give
+  _ ← recordOf library (eqb 0x2a) give
+  give modules
+
+unfoldable pub file : List ℕ → Outcome (List Module)
+file library = if eqb (byteAt library 0) 0x2c then libraryAt library 0 else modulesAt library 0
+
+-- refusals 5 to 8, if there is one; and the modules, none where it is refused
+abbrev pub fileRefusal : Outcome (List Module) → Option Refusal
+fileRefusal (read modules at) = none
+fileRefusal stop = some NoModule
+fileRefusal (refused r) = some r
+
+abbrev pub modulesIn : Outcome (List Module) → List Module
+modulesIn (read modules at) = modules
+modulesIn stop = []
+modulesIn (refused r) = []

@@ -1,0 +1,6 @@
+-- Reading the library: readers, records, entries, modules, the file.
+pub mod Reader
+pub mod Record
+pub mod Entry
+pub mod Module
+pub mod File

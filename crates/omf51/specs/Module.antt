@@ -1,0 +1,83 @@
+-- One module: header, definitions, contents with their fixups, end. The type byte alone decides what a record is.
+use Prim.Native.Nat.{ℕ, _+_, _-_}
+use mathlib.Core.Bool.{Bool, not, _||_}
+use mathlib.Core.List.{List, [], _∷_}
+use lib.Dec.{eqb, leb}
+use Rattle.lent.specs.declared.refusal.Refusal.the-variants.{NamesDiffer}
+use Rattle.lent.specs.Choice.{if_then_else_}
+use Rattle.lent.specs.Lists.{one, isIn}
+use Rattle.lent.specs.Parts.{byteAt, wordAt, sameName}
+use Rattle.omf51.specs.declared.Frame.{Frame}
+use Rattle.omf51.specs.declared.Definition.{Definition}
+use Rattle.omf51.specs.declared.Content.{Content}
+use Rattle.omf51.specs.declared.Fixup.{Fixup}
+use Rattle.omf51.specs.Reader.{read, stop, Reader, _>>=_, give, refuse, many, atLeastOne}
+use Rattle.omf51.specs.Record.{recordOf}
+use Rattle.omf51.specs.Entry.{nameWith, idSize, idAt, definitionAt, fixupAt}
+
+-- KNOWN_TYPES (08h stands there twice); the types of definitions, contents and fixups; those skipped among contents
+abbrev pub isKnown : ℕ → Bool
+isKnown =
+    isIn
+    (0x02 ∷ 0x04 ∷ 0x06 ∷ 0x07 ∷ 0x08 ∷ 0x09 ∷ 0x0e ∷ 0x0f ∷ 0x10 ∷ 0x11 ∷ 0x12 ∷ 0x13 ∷ 0x16 ∷ 0x17 ∷ 0x18 ∷ 0x19 ∷ 0x26 ∷ 0x28 ∷ 0x2a ∷ 0x2c ∷ [])
+
+abbrev pub defines : ℕ → Bool
+defines = isIn (0x0e ∷ 0x0f ∷ 0x16 ∷ 0x17 ∷ 0x18 ∷ 0x19 ∷ [])
+
+abbrev pub fills : ℕ → Bool
+fills = isIn (0x06 ∷ 0x07 ∷ [])
+
+abbrev pub fixes : ℕ → Bool
+fixes = isIn (0x08 ∷ 0x09 ∷ [])
+
+abbrev pub isIdle : ℕ → Bool
+isIdle type = not (isKnown type) || isIn (0x10 ∷ 0x12 ∷ 0x13 ∷ []) type
+
+-- among definitions: a record of at least one whole entry (a partial one after the first is dropped), or a skipped record
+unfoldable pub definitionsAt : List ℕ → Reader (List Definition)
+definitionsAt library =
+    recordOf library (λ type. defines type || not (isKnown type)) λ f.
+    if defines (f .kind) then atLeastOne library (definitionAt library f) else give []
+
+unfoldable pub fixupsAt : List ℕ → Reader (List Fixup)
+fixupsAt library = recordOf library fixes λ f. atLeastOne library (fixupAt library f)
+
+-- the body of a content: id, offset (2), and the rest is the data
+abbrev pub contentBody : List ℕ → Frame → Reader Content
+contentBody library f at =
+    let w = at + idSize f in
+    let content : Content = record {
+      id = idAt library f at;
+      offset = wordAt library w;
+      part = record { at = w + 2; len = f .end - (w + 2) };
+    } in
+    if leb (w + 2) (f .end) then read content (f .end) else stop
+
+-- a content and the fixups of the records that follow it at once
+pub record Section : Type 0 where
+  pub content : Content
+  pub fixups : List Fixup
+
+unfoldable pub sectionAt : List ℕ → Reader (List Section)
+sectionAt library = do
+  content ← recordOf library fills (contentBody library)
+  fixups ← many library (fixupsAt library)
+  give (one (record { content = content; fixups = fixups }))
+
+-- among contents: one of those, or a skipped record
+unfoldable pub sectionsAt : List ℕ → Reader (List Section)
+sectionsAt library at =
+    if fills (byteAt library at) then sectionAt library at else recordOf library isIdle (λ f. give []) at
+
+-- a module: its definitions and its contents, in file order
+pub record Module : Type 0 where
+  pub definitions : List Definition
+  pub sections : List Section
+
+unfoldable pub moduleAt : List ℕ → Reader (List Module)
+moduleAt library = do
+  name ← recordOf library (eqb 0x02) (nameWith 2 library)
+  definitions ← many library (definitionsAt library)
+  sections ← many library (sectionsAt library)
+  last ← recordOf library (eqb 0x04) (nameWith 4 library)
+  if sameName library name last then give (one (record { definitions = definitions; sections = sections })) else refuse NamesDiffer

@@ -1,0 +1,28 @@
+-- One record: type byte, length (2 bytes), body (length - 1 bytes), checksum byte, which is not examined.
+use Prim.Native.Nat.{ℕ, _+_}
+use mathlib.Core.Bool.{Bool}
+use mathlib.Core.List.{List}
+use lib.Dec.{eqb, ltb}
+use lib.ListN.{length}
+use Rattle.lent.specs.declared.refusal.Refusal.the-variants.{BodyPastEnd, LengthZero}
+use Rattle.lent.specs.Choice.{if_then_else_}
+use Rattle.lent.specs.Parts.{byteAt, wordAt}
+use Rattle.omf51.specs.declared.Frame.{Frame}
+use Rattle.omf51.specs.Reader.{read, stop, refused, Reader, andThen}
+
+-- the record at a place: it stops where there are fewer than two length bytes, or no checksum byte
+unfoldable pub frameAt : List ℕ → Reader Frame
+frameAt library at =
+    let len = wordAt library (at + 1) in
+    if ltb (length library) (at + 3) then stop
+    else if eqb len 0 then refused LengthZero
+    else if ltb (length library) (at + 2 + len) then refused BodyPastEnd
+    else if ltb (length library) (at + 3 + len) then stop
+    else read (record { kind = byteAt library at; body = at + 3; end = at + 2 + len }) (at + 3 + len)
+
+-- a record of a type that is allowed here, its body read by `inner`; what that leaves of the body is passed over
+unfoldable pub recordOf : {A : Type 0} → List ℕ → (ℕ → Bool) → (Frame → Reader A) → Reader A
+recordOf library allowed inner at =
+    if allowed (byteAt library at)
+    then andThen (frameAt library at) (λ f next. andThen (inner f (f .body)) λ a left. read a next)
+    else stop

@@ -1,0 +1,49 @@
+// OMF-51 library files: what their records say.
+use lent::part::Part;
+
+// An id as a module numbers its segments, and its externals. It means nothing outside its module.
+pub struct ModuleId(pub u16);
+
+// A record: its type, and where its body starts and ends.
+pub struct Frame {
+    pub kind: u8,
+    pub body: usize,
+    pub end: usize,
+}
+
+// What the entries of definition records say.
+pub enum Definition {
+    Segment {
+        id: ModuleId,
+        info: u8,
+        relocation: u8,
+        size: usize,
+        name: Part,
+    },
+    Public {
+        id: ModuleId,
+        offset: usize,
+        name: Part,
+    },
+    External {
+        id: ModuleId,
+        info: u8,
+        name: Part,
+    },
+}
+
+// Data for the segment of an id, at an offset; of id 0 it is absolute, and the offset is its address.
+pub struct Content {
+    pub id: ModuleId,
+    pub offset: usize,
+    pub part: Part,
+}
+
+// A place in the content before it that the linker fills in: how, and with the address of what.
+pub struct Fixup {
+    pub location: usize,
+    pub kind: u8,
+    pub block: u8,
+    pub id: ModuleId,
+    pub offset: usize,
+}

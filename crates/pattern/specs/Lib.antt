@@ -1,0 +1,3 @@
+-- What may be seen of an image, and where a masked pattern matches it.
+pub mod View
+pub mod Match

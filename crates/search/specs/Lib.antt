@@ -1,0 +1,3 @@
+-- Searching: matches and their references, symbols placed, names noted, and the rows of both.
+pub mod Search
+pub mod SearchRows

@@ -1,0 +1,115 @@
+-- The segments of all modules: pattern bytes and masks, references, symbols.
+use Prim.Native.Nat.{ℕ, _+_, _-_}
+use mathlib.Core.Bool.{Bool, true, false, _&&_}
+use mathlib.Core.List.{List, [], _∷_, _++_, map}
+use mathlib.Core.Option.{Option, none, some}
+use lib.Dec.{eqb, leb, ltb}
+use lib.ListN.{length}
+use Rattle.lent.specs.Choice.{if_then_else_}
+use Rattle.lent.specs.Lists.{one, keep, joined, fold, numbered}
+use Rattle.lent.specs.Parts.{bytesOf}
+use Rattle.pattern.specs.declared.Seat.{Seat}
+use Rattle.pattern.specs.declared.Seat.the-variants.{Anywhere, Only}
+use Rattle.fixup.specs.declared.Rules.{Rules}
+use Rattle.fixup.specs.declared.Rules.the-variants.{Found, Documented}
+use Rattle.fixup.specs.declared.Kind.{Kind}
+use Rattle.fixup.specs.Target.{kindOf}
+use Rattle.omf51.specs.declared.ModuleId.{ModuleId}
+use Rattle.omf51.specs.declared.Definition.{Definition}
+use Rattle.omf51.specs.declared.Definition.the-variants.{Segment, Public, External}
+use Rattle.omf51.specs.declared.Content.{Content}
+use Rattle.omf51.specs.declared.Fixup.{Fixup}
+use Rattle.omf51.specs.Module.{Section, Module}
+use Rattle.segments.specs.declared.Goal.{Goal}
+use Rattle.segments.specs.declared.Goal.the-variants as Goal
+use Rattle.segments.specs.declared.Reference.{Reference}
+use Rattle.segments.specs.declared.Symbol.{Symbol}
+use Rattle.segments.specs.Ids.{sameId, kept, keptPlace, named, isCode, sizeOf, idOf, nameIn}
+use Rattle.segments.specs.Refuse.{fixupRefusal}
+use Rattle.segments.specs.Masks.{masksOf, filled}
+
+-- a segment to be searched for
+pub record Collected : Type 0 where
+  pub seat : Seat
+  pub bytes : List ℕ
+  pub masks : List ℕ
+  pub references : List Reference
+  pub symbols : List Symbol
+
+-- where a fixup leads, given the number of the module's first segment: block 1 to the first kept segment of its id, block 2 to the external's name
+abbrev pub goalOf : Module → ℕ → Fixup → Goal
+goalOf m number f =
+    if eqb (f .block) 1 then Goal.Segment (record { 0 = number + keptPlace m (f .id) }) else Goal.Name (nameIn (named m f))
+
+-- what a fixup leaves, `base` added to its place: a reference, if it is not refused, what it names is code, and its kind is one of three
+abbrev pub left : Bool → Option Kind → ℕ → ℕ → Goal → List Reference
+left false kind place offset goal = []
+left true none place offset goal = []
+left true (some kind) place offset goal = one (record { place = place; kind = kind; offset = offset; goal = goal })
+
+abbrev pub isNone : {A : Type 0} → Option A → Bool
+isNone none = true
+isNone (some a) = false
+
+abbrev pub leaves : Module → ℕ → ℕ → Fixup → List Reference
+leaves m number base f =
+    left (isNone (fixupRefusal m f) && isCode (named m f)) (kindOf (f .kind)) (base + f .location) (f .offset) (goalOf m number f)
+
+unfoldable pub referencesOf : Module → ℕ → ℕ → Section → List Reference
+referencesOf m number base s = joined (leaves m number base) (s .fixups)
+
+-- the module's public symbols of an id whose offset passes a test, `base` taken from their offsets
+abbrev pub symbolOf : ModuleId → (ℕ → Bool) → ℕ → Definition → List Symbol
+symbolOf id inside base (Segment own info relocation size name) = []
+symbolOf id inside base (Public own offset name) =
+    if sameId own id && inside offset then one (record { name = name; offset = offset - base }) else []
+symbolOf id inside base (External own info name) = []
+
+unfoldable pub symbolsOf : Module → ModuleId → (ℕ → Bool) → ℕ → List Symbol
+symbolsOf m id inside base = joined (symbolOf id inside base) (m .definitions)
+
+-- the contents of an id
+abbrev pub sectionsOf : Module → ModuleId → List Section
+sectionsOf m id = keep (λ s. sameId (s .content .id) id) (m .sections)
+
+-- a kept segment, with its place among the kept ones: the contents of its id go to the first of that id
+unfoldable pub keptSegment : List ℕ → Module → ℕ → ℕ × Definition → Collected
+keptSegment library m number (place, d) =
+    let sections = if eqb (keptPlace m (idOf d)) place then sectionsOf m (idOf d) else [] in
+    record {
+      seat = Anywhere;
+      bytes = filled (sizeOf d) (λ s. bytesOf library (s .content .part)) sections;
+      masks = filled (sizeOf d) masksOf sections;
+      references = joined (λ s. referencesOf m number (s .content .offset) s) sections;
+      symbols = symbolsOf m (idOf d) (λ offset. true) 0;
+    }
+
+-- an absolute content carries the symbols of id 0 inside it: as found one is placed at content start + offset, as documented
+-- at its own offset
+abbrev pub absoluteId : ModuleId
+absoluteId = record { 0 = 0 }
+
+abbrev pub insideOf : Content → ℕ → Bool
+insideOf c offset = leb (c .offset) offset && ltb offset (c .offset + c .part .len)
+
+abbrev pub symbolBase : Rules → Content → ℕ
+symbolBase Found c = 0
+symbolBase Documented c = c .offset
+
+unfoldable pub absoluteSegment : Rules → List ℕ → Module → ℕ → Section → Collected
+absoluteSegment rules library m number s = record {
+  seat = Only (s .content .offset);
+  bytes = bytesOf library (s .content .part);
+  masks = masksOf s;
+  references = referencesOf m number 0 s;
+  symbols = symbolsOf m absoluteId (insideOf (s .content)) (symbolBase rules (s .content));
+}
+
+-- the segments of a module, the first of which has a number: the kept ones, then the absolute contents
+unfoldable pub moduleSegments : Rules → List ℕ → ℕ → Module → List Collected
+moduleSegments rules library number m =
+    map (keptSegment library m number) (numbered 0 (kept m))
+    ++ map (absoluteSegment rules library m number) (sectionsOf m absoluteId)
+
+unfoldable pub collect : Rules → List ℕ → List Module → List Collected
+collect rules library modules = fold (λ found m. found ++ moduleSegments rules library (length found) m) [] modules

@@ -1,0 +1,6 @@
+-- Collecting: what a module's ids mean, refusals 10 to 13, masks and merging, the segments, and their rows.
+pub mod Ids
+pub mod Refuse
+pub mod Masks
+pub mod Collect
+pub mod SegmentRows
