@@ -1,2 +1,3 @@
 -- The three kinds of reference and where they lead.
 pub mod Target
+pub mod TargetLaws

@@ -1,6 +1,10 @@
 -- What the stages share, in reading order; each file of laws stands behind its definitions.
 pub mod Choice
+pub mod ChoiceLaws
+pub mod Leading
 pub mod Lists
+pub mod ListLaws
+pub mod Members
 pub mod Parts
 pub mod Refusals
 pub mod Rows

@@ -2,8 +2,9 @@
 use Prim.Native.Nat.{ℕ, _+_, _*_}
 use mathlib.Core.Bool.{Bool, true, false, _&&_, _||_}
 use mathlib.Core.List.{List, [], _∷_}
-use lib.Dec.{eqb, ltb}
-use lib.ListN.{getD, take, drop}
+use lib.Dec.{eqb, leb, ltb}
+use lib.ListN.{length, getD, take, drop}
+use Rattle.lent.specs.Choice.{if_then_else_}
 use Rattle.lent.specs.declared.part.Part.{Part}
 
 -- the byte at a place; the number of two bytes, low byte first
@@ -13,9 +14,9 @@ byteAt library at = getD library at 0
 abbrev pub wordAt : List ℕ → ℕ → ℕ
 wordAt library at = byteAt library at + 256 * byteAt library (at + 1)
 
--- the bytes of a part; of one that passes the library's end, those that there are
+-- the bytes of a part; one that passes the library's end is empty
 abbrev pub bytesOf : List ℕ → Part → List ℕ
-bytesOf library p = take (p .len) (drop (p .at) library)
+bytesOf library p = if leb (p .at + p .len) (length library) then take (p .len) (drop (p .at) library) else []
 
 -- two strings of bytes are the same; one comes before another in byte order
 unfoldable pub same : List ℕ → List ℕ → Bool

@@ -21,7 +21,8 @@ use Rattle.fixup.specs.Target.{addressIn, kindNumber, readable, target}
 use Rattle.omf51.specs.Reader.{repeat}
 use Rattle.omf51.specs.Record.{frameAt, recordOf}
 use Rattle.omf51.specs.Entry.{segmentSize, definitionOf, definitionAt, fixupAt}
-use Rattle.omf51.specs.Module.{Section, definitionsAt, fixupsAt, sectionAt, sectionsAt, moduleAt}
+use Rattle.omf51.specs.declared.Fixup.{Fixup}
+use Rattle.omf51.specs.Module.{definitionsAt, fixupsAt, sectionAt, sectionsAt, moduleAt}
 use Rattle.omf51.specs.File.{libraryAt, file}
 use Rattle.segments.specs.Ids.{kept, named}
 use Rattle.segments.specs.Refuse.{fixupRefusal, contentRefusal, tests, collectRefusal}
@@ -64,12 +65,9 @@ targetAt rules kind pos bytes = asList (addressIn (target (replicate pos 0 ++ by
 abbrev bothAt : Kind → ℕ → List ℕ → List ℕ
 bothAt kind pos bytes = targetAt Found kind pos bytes ++ targetAt Documented kind pos bytes
 
--- a content of three bytes with a fixup of kind Word at its last
-abbrev P12 : Section
-P12 = record {
-  content = record { id = record { 0 = 1 }; offset = 0; part = record { at = 0; len = 3 } };
-  fixups = one (record { location = 2; kind = kindNumber Word; block = 1; id = record { 0 = 1 }; offset = 0 });
-}
+-- a fixup of kind Word at the last of three bytes
+abbrev P12 : Fixup
+P12 = record { location = 2; kind = kindNumber Word; block = 1; id = record { 0 = 1 }; offset = 0 }
 
 abbrev P4 : List ℕ
 P4 = 0x41 ∷ 0x42 ∷ 0x43 ∷ 0x41 ∷ 0x00 ∷ 0x43 ∷ []
@@ -90,7 +88,7 @@ table =
     ∷ P 9 (targetAt Found Relative 0 (0xfe ∷ [])) (one (2 ^ 64 - 1))
     ∷ P 10 (length (targetAt Found Word 3 (0x12 ∷ [])) ∷ length (targetAt Found Word 3 (0x12 ∷ 0x34 ∷ [])) ∷ []) (0 ∷ 1 ∷ [])
     ∷ P 11 (segmentSize 0x80 5 ∷ segmentSize 0 0 ∷ segmentSize 0 0xffff ∷ []) (0 ∷ 65536 ∷ 65535 ∷ [])
-    ∷ P 12 (masksOf P12) (0xff ∷ 0xff ∷ 0x00 ∷ [])
+    ∷ P 12 (masksOf 3 (one P12)) (0xff ∷ 0xff ∷ 0x00 ∷ [])
     ∷ P 13 (words (describe (text "?C?CLDIDATA")) ++ words (describe (text "?C?CLDIXDATA")))
     (text "char (8-bit) load from idata (indirect ram access)" ++ one 0)
     ∷ P 14 (matchesP4 (view P4 (record { start = 4; len = 1 }))) (0 ∷ [])

@@ -68,6 +68,13 @@ symbolOf id inside base (External own info name) = []
 unfoldable pub symbolsOf : Module → ModuleId → (ℕ → Bool) → ℕ → List Symbol
 symbolsOf m id inside base = joined (symbolOf id inside base) (m .definitions)
 
+-- the bytes of a content, and its masks
+abbrev pub dataOf : List ℕ → Section → List ℕ
+dataOf library s = bytesOf library (s .content .part)
+
+abbrev pub dataMasks : List ℕ → Section → List ℕ
+dataMasks library s = masksOf (length (dataOf library s)) (s .fixups)
+
 -- the contents of an id
 abbrev pub sectionsOf : Module → ModuleId → List Section
 sectionsOf m id = keep (λ s. sameId (s .content .id) id) (m .sections)
@@ -78,8 +85,8 @@ keptSegment library m number (place, d) =
     let sections = if eqb (keptPlace m (idOf d)) place then sectionsOf m (idOf d) else [] in
     record {
       seat = Anywhere;
-      bytes = filled (sizeOf d) (λ s. bytesOf library (s .content .part)) sections;
-      masks = filled (sizeOf d) masksOf sections;
+      bytes = filled (sizeOf d) (dataOf library) sections;
+      masks = filled (sizeOf d) (dataMasks library) sections;
       references = joined (λ s. referencesOf m number (s .content .offset) s) sections;
       symbols = symbolsOf m (idOf d) (λ offset. true) 0;
     }
@@ -99,8 +106,8 @@ symbolBase Documented c = c .offset
 unfoldable pub absoluteSegment : Rules → List ℕ → Module → ℕ → Section → Collected
 absoluteSegment rules library m number s = record {
   seat = Only (s .content .offset);
-  bytes = bytesOf library (s .content .part);
-  masks = masksOf s;
+  bytes = dataOf library s;
+  masks = dataMasks library s;
   references = referencesOf m number 0 s;
   symbols = symbolsOf m absoluteId (insideOf (s .content)) (symbolBase rules (s .content));
 }

@@ -21,8 +21,9 @@ masked masks f =
     else if eqb (f .kind) (kindNumber Inblock) then set (set masks (f .location) 0x1f) (f .location + 1) 0
     else set masks (f .location) 0
 
-unfoldable pub masksOf : Section → List ℕ
-masksOf s = fold masked (replicate (s .content .part .len) 0xff) (s .fixups)
+-- the masks of n bytes under fixups, in file order
+unfoldable pub masksOf : ℕ → List Fixup → List ℕ
+masksOf n fixups = fold masked (replicate n 0xff) fixups
 
 -- new bytes ORed into old ones from the start on, and into a pattern from an offset on
 unfoldable pub ored : List ℕ → List ℕ → List ℕ
