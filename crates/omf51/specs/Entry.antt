@@ -15,16 +15,17 @@ use Rattle.omf51.specs.declared.Definition.the-variants.{Segment, Public
 use Rattle.omf51.specs.declared.Fixup.{Fixup}
 use Rattle.omf51.specs.Reader.{read, stop, Reader, andThen, give}
 
+-- what was read, if it ends within the body
+unfoldable pub ending : {A : Type 0} → Frame → A → Reader A
+ending f a next = if leb next (f .end) then read a next else stop
+
 -- a name: a length byte and that many bytes, handed back as that very part of the library
 abbrev pub nameAt : List ℕ → Frame → Reader Part
-nameAt library f at =
-    let n = byteAt library at in
-    if leb (at + 1 + n) (f .end) then read (record { at = at + 1; len = n }) (at + 1 + n) else stop
+nameAt library f at = let n = byteAt library at in ending f (record { at = at + 1; len = n }) (at + 1 + n)
 
 -- the name in the body of a header (2 bytes more) or an end (4 more); bytes left over are dropped
 abbrev pub nameWith : ℕ → List ℕ → Frame → Reader Part
-nameWith more library f at =
-    andThen (nameAt library f at) λ name next. if leb (next + more) (f .end) then read name next else stop
+nameWith more library f at = andThen (nameAt library f at) λ name next. ending f name (next + more)
 
 -- ids have two bytes in records of odd type
 abbrev pub idSize : Frame → ℕ
@@ -74,4 +75,4 @@ fixupAt library f at =
       id = idAt library f (at + 4);
       offset = wordAt library w;
     } in
-    if leb next (f .end) then read (one fixup) next else stop
+    ending f (one fixup) next

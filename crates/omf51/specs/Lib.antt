@@ -1,6 +1,8 @@
 -- Reading the library: readers, records, entries, modules, the file.
 pub mod Reader
 pub mod Record
+pub mod RecordLaws
 pub mod Entry
 pub mod Module
 pub mod File
+pub mod FileLaws

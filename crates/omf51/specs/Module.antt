@@ -2,7 +2,7 @@
 use Prim.Native.Nat.{ℕ, _+_, _-_}
 use mathlib.Core.Bool.{Bool, not, _||_}
 use mathlib.Core.List.{List, [], _∷_}
-use lib.Dec.{eqb, leb}
+use lib.Dec.{eqb}
 use Rattle.lent.specs.declared.refusal.Refusal.the-variants.{NamesDiffer}
 use Rattle.lent.specs.Choice.{if_then_else_}
 use Rattle.lent.specs.Lists.{one, isIn}
@@ -11,9 +11,9 @@ use Rattle.omf51.specs.declared.Frame.{Frame}
 use Rattle.omf51.specs.declared.Definition.{Definition}
 use Rattle.omf51.specs.declared.Content.{Content}
 use Rattle.omf51.specs.declared.Fixup.{Fixup}
-use Rattle.omf51.specs.Reader.{read, stop, Reader, _>>=_, give, refuse, many, atLeastOne}
+use Rattle.omf51.specs.Reader.{Reader, _>>=_, give, refuse, many, atLeastOne}
 use Rattle.omf51.specs.Record.{recordOf}
-use Rattle.omf51.specs.Entry.{nameWith, idSize, idAt, definitionAt, fixupAt}
+use Rattle.omf51.specs.Entry.{ending, nameWith, idSize, idAt, definitionAt, fixupAt}
 
 -- KNOWN_TYPES (08h stands there twice); the types of definitions, contents and fixups; those skipped among contents
 abbrev pub isKnown : ℕ → Bool
@@ -51,7 +51,7 @@ contentBody library f at =
       offset = wordAt library w;
       part = record { at = w + 2; len = f .end - (w + 2) };
     } in
-    if leb (w + 2) (f .end) then read content (f .end) else stop
+    ending f content (w + 2)
 
 -- a content and the fixups of the records that follow it at once
 pub record Section : Type 0 where
