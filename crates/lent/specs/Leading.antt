@@ -1,7 +1,7 @@
 -- The first of several things that there is, in words: nothing before it, and then it. Assumes nothing.
 use Prim.Native.Nat.{ℕ}
 use mathlib.Core.Path.{_≡_, refl}
-use mathlib.Core.Logic.{_⊎_, inl, inr}
+use mathlib.Core.Logic.{_↔_}
 use mathlib.Core.List.{List, [], _∷_, _++_, map}
 use mathlib.Core.Option.{Option, none, some}
 use native.Mathlib.Omega.{arith}
@@ -25,7 +25,7 @@ pub record First {A B : Type 0} (f : A → Option B) (P : A → Type 0) (xs : Li
 pub none≢some : {A : Type 0} {a : A} → none ≡ some a → ⊥
 none≢some e = let z : _≡_ {A = ℕ} 0 1 = cc in omega arith
 
-pub leading-first : {A B : Type 0} (f : A → Option B) {b : B} (xs : List A) → leading (map f xs) ≡ some b → First f (λ x. f x ≡ some b) xs
+leading-first : {A B : Type 0} (f : A → Option B) {b : B} (xs : List A) → leading (map f xs) ≡ some b → First f (λ x. f x ≡ some b) xs
 unfolding leading
 leading-first f [] e = absurd (none≢some e)
 leading-first {A} {B} f {b} (x ∷ xs) e = go (f x) refl e (leading-first f xs)
@@ -37,7 +37,7 @@ leading-first {A} {B} f {b} (x ∷ xs) e = go (f x) refl e (leading-first f xs)
         record { earlier = x ∷ r .earlier; here = r .here; later = r .later; split = cc (r .split); quiet = (q, r .quiet); holds = r .holds }
     go (some a) q p rest = record { earlier = []; here = x; later = xs; split = refl; quiet = tt; holds = cc }
 
-pub first-leading : {A B : Type 0} (f : A → Option B) {b : B} (xs : List A) → First f (λ x. f x ≡ some b) xs → leading (map f xs) ≡ some b
+first-leading : {A B : Type 0} (f : A → Option B) {b : B} (xs : List A) → First f (λ x. f x ≡ some b) xs → leading (map f xs) ≡ some b
 unfolding leading
 first-leading {A} {B} f {b} xs r = rw (r .split) (go (r .earlier) (r .quiet))
   where
@@ -58,3 +58,19 @@ pub none-leading : {A B : Type 0} (f : A → Option B) (xs : List A) → Quiet f
 unfolding leading
 none-leading f [] q = refl
 none-leading f (x ∷ xs) q = rw (q .0) (none-leading f xs (q .1))
+
+-- both ways, where it is known when there is this thing
+pub leading-at : {A B : Type 0} (f : A → Option B) {b : B} (P : A → Type 0) → ((x : A) → (f x ≡ some b) ↔ P x) → (xs : List A)
+    → (leading (map f xs) ≡ some b) ↔ First f P xs
+leading-at f P iff xs = (
+  (λ e. let r = leading-first f xs e in
+    record { earlier = r .earlier; here = r .here; later = r .later; split = r .split; quiet = r .quiet; holds = iff (r .here) .0 (r .holds) }),
+  (λ r. first-leading f xs (record {
+    earlier = r .earlier;
+    here = r .here;
+    later = r .later;
+    split = r .split;
+    quiet = r .quiet;
+    holds = iff (r .here) .1 (r .holds);
+  })),
+)

@@ -1,6 +1,8 @@
 -- Collecting: what a module's ids mean, refusals 10 to 13, masks and merging, the segments, and their rows.
 pub mod Ids
 pub mod Refuse
+pub mod RefuseLaws
 pub mod Masks
+pub mod MaskLaws
 pub mod Collect
 pub mod SegmentRows
