@@ -1,3 +1,4 @@
 -- Searching: matches and their references, symbols placed, names noted, and the rows of both.
 pub mod Search
+pub mod SearchLaws
 pub mod SearchRows

@@ -5,4 +5,5 @@ pub mod RefuseLaws
 pub mod Masks
 pub mod MaskLaws
 pub mod Collect
+pub mod CollectLaws
 pub mod SegmentRows
