@@ -7,4 +7,5 @@ pub mod ListLaws
 pub mod Members
 pub mod Parts
 pub mod Refusals
+pub mod RefusalLaws
 pub mod Rows

@@ -20,7 +20,7 @@ use Rattle.fixup.specs.declared.Kind.the-variants.{Relative, Word, Inblock}
 use Rattle.fixup.specs.Target.{addressIn, kindNumber, readable, target}
 use Rattle.omf51.specs.Reader.{repeat}
 use Rattle.omf51.specs.Record.{frameAt, recordOf}
-use Rattle.omf51.specs.Entry.{segmentSize, definitionOf, definitionAt, fixupAt}
+use Rattle.omf51.specs.Entry.{ending, segmentSize, definitionOf, definitionAt, fixupAt}
 use Rattle.omf51.specs.declared.Fixup.{Fixup}
 use Rattle.omf51.specs.Module.{definitionsAt, fixupsAt, sectionAt, sectionsAt, moduleAt}
 use Rattle.omf51.specs.File.{libraryAt, file}
@@ -38,7 +38,7 @@ use Rattle.listing.specs.Print.{digits, moreDigits, printedLine, printed}
 use Rattle.libfind.specs.declared.Settings.{Settings}
 use Rattle.libfind.specs.declared.Counts.{Counts}
 use Rattle.libfind.specs.declared.Answer.the-variants.{Done}
-use Rattle.libfind.specs.Run.{Lent, Outcome, stages, counted, settingsRefusal, refusals, filledWith, runSeen, run}
+use Rattle.libfind.specs.Run.{Lent, Outcome, stages, counted, refusals, filledWith, runSeen, run}
 
 -- a row of the table: its number, what is computed, and the result that the document gives
 pub record Example : Type 0 where
@@ -146,10 +146,10 @@ pub whole : (run image library settings lent ≡ outcome)
     × (printed library (stages image library settings .lines)
     ≡ text "Address | Name                 | Description\n0x0001    ?C?LADD                long (32-bit) addition\n")
 unfolding leading keep joined fold any all placeOf from numbered insert sorted total same before view matchesAt matches readable target
-    repeat frameAt recordOf definitionOf definitionAt fixupAt definitionsAt fixupsAt sectionAt sectionsAt moduleAt libraryAt file
+    repeat frameAt recordOf ending definitionOf definitionAt fixupAt definitionsAt fixupsAt sectionAt sectionsAt moduleAt libraryAt file
     kept named fixupRefusal contentRefusal tests collectRefusal masksOf ored merged filled referencesOf symbolsOf keptSegment absoluteSegment
     moduleSegments collect segmentRowsFrom segmentNumbers referenceNumbers symbolNumbers patternBytes patternMasks positionsOf allMatches isValid
     holds notes note noted symbolsAt place placed newest linkedFrom placedNumbers notedNumbers bestGrade best grade gradedAt linesAt leftovers
     listing lineNumbers oneOf description describe digits moreDigits printedLine printed
-    stages counted settingsRefusal refusals filledWith runSeen run
+    stages counted refusals filledWith runSeen run
 whole = (refl, refl)

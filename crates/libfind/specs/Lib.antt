@@ -1,3 +1,8 @@
 -- The whole: the run, what is proved of it, and document 01's examples.
 pub mod Run
 pub mod Examples
+pub mod Withheld
+pub mod Order
+pub mod Given
+pub mod StageLaws
+pub mod Refused

@@ -73,19 +73,12 @@ counted y = record {
   lines = length (y .lines);
 }
 
--- refusals 1 to 4
-unfoldable pub settingsRefusal : List ℕ → List ℕ → Settings → Option Refusal
-settingsRefusal cells library s =
-    if ltb 1 (s .rules) then some RuleSet
-    else if ltb 65536 (length cells) then some ImageTooLong
-    else if ltb 1048576 (length library) then some LibraryTooLong
-    else when (ltb (length cells) (s .stretch .start + s .stretch .len)) StretchPastEnd
-
 -- refusal 9: a stage yields more rows or pattern bytes than were lent for it
 abbrev pub collectOver : Lent → Counts → Bool
 collectOver lent c =
-    tooMany segmentWidth (lent .segments) (c .segments) || tooMany referenceWidth (lent .references) (c .references)
-    || tooMany symbolWidth (lent .symbols) (c .symbols) || tooMany 1 (lent .bytes) (c .pattern) || tooMany 1 (lent .masks) (c .pattern)
+    tooMany segmentWidth (lent .segments) (c .segments)
+    || (tooMany referenceWidth (lent .references) (c .references)
+    || (tooMany symbolWidth (lent .symbols) (c .symbols) || (tooMany 1 (lent .bytes) (c .pattern) || tooMany 1 (lent .masks) (c .pattern))))
 
 abbrev pub searchOver : Lent → Counts → Bool
 searchOver lent c = tooMany placedWidth (lent .placed) (c .placed) || tooMany notedWidth (lent .noted) (c .noted)
@@ -93,10 +86,13 @@ searchOver lent c = tooMany placedWidth (lent .placed) (c .placed) || tooMany no
 abbrev pub listOver : Lent → Counts → Bool
 listOver lent c = tooMany lineWidth (lent .lines) (c .lines)
 
--- the refusals in their order, of which the first counts
+-- the refusals in their order, of which the first counts; the view is as long as the image
 unfoldable pub refusals : List ℕ → List ℕ → Settings → Lent → Counts → List (Option Refusal)
 refusals cells library s lent c =
-    settingsRefusal cells library s
+    when (ltb 1 (s .rules)) RuleSet
+    ∷ when (ltb 65536 (length cells)) ImageTooLong
+    ∷ when (ltb 1048576 (length library)) LibraryTooLong
+    ∷ when (ltb (length cells) (s .stretch .start + s .stretch .len)) StretchPastEnd
     ∷ fileRefusal (file library)
     ∷ when (collectOver lent c) TooFewRows
     ∷ collectRefusal (modulesIn (file library))
@@ -137,7 +133,7 @@ abbrev pub outcomeOf : Option Refusal → Yield → Lent → Outcome
 outcomeOf none y lent = record { answer = Done (counted y); left = filledWith y lent }
 outcomeOf (some r) y lent = record { answer = Refused r; left = leftBy r lent }
 
--- the run, from the view, which is as long as the image; and from the image
+-- the run, from the view, and from the image
 unfoldable pub runSeen : List ℕ → List ℕ → Settings → Lent → Outcome
 runSeen cells library s lent =
     let y = stages cells library s in

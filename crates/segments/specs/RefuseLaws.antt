@@ -14,16 +14,13 @@ use Rattle.lent.specs.Choice.{if_then_else_, when, leading}
 use Rattle.lent.specs.ChoiceLaws.{chosen, both}
 use Rattle.lent.specs.Leading.{none≢some, First, leading-at}
 use Rattle.lent.specs.Refusals.{refusalNumber}
+use Rattle.lent.specs.RefusalLaws.{same-number}
 use Rattle.omf51.specs.declared.Content.{Content}
 use Rattle.omf51.specs.declared.Definition.{Definition}
 use Rattle.omf51.specs.declared.Fixup.{Fixup}
 use Rattle.omf51.specs.Module.{Module}
 use Rattle.segments.specs.Ids.{anyKept, firstKept, named, isCode, sizeOf}
 use Rattle.segments.specs.Refuse.{leadsNowhere, fixupRefusal, passes, contentRefusal, Test, ofFixup, ofContent, testRefusal, tests, collectRefusal}
-
--- refusals that are the same have one number
-pub same-number : {a b : Refusal} → some a ≡ some b → refusalNumber a ≡ refusalNumber b
-same-number {a} {b} e = let z : a ≡ b = cc in ap refusalNumber z
 
 -- 10: a fixup kind above 7, block not 3
 abbrev pub KindAbove : Test → Type 0

@@ -1,0 +1,84 @@
+-- Document 01's table of refusals, as conditions on what goes into a run. It states; Refused.antt proves.
+use Prim.Native.Nat.{ℕ, _+_, _*_, _≤_, _<_}
+use mathlib.Core.Path.{_≡_}
+use mathlib.Core.Logic.{_⊎_}
+use mathlib.Core.List.{List}
+use lib.ListN.{length}
+use Rattle.lent.specs.declared.refusal.Refusal.{Refusal}
+use Rattle.lent.specs.declared.refusal.Refusal.the-variants.{RuleSet, ImageTooLong, LibraryTooLong, StretchPastEnd, NoModule, BodyPastEnd, LengthZero, NamesDiffer, TooFewRows, UnknownKind, UnknownBlock, ContentPastSegment, NoKeptSegment}
+use Rattle.lent.specs.Leading.{Quiet, First}
+use Rattle.pattern.specs.View.{view}
+use Rattle.omf51.specs.Reader.{read, stop, refused}
+use Rattle.omf51.specs.Module.{Module}
+use Rattle.omf51.specs.File.{file, modulesIn}
+use Rattle.segments.specs.Refuse.{Test, testRefusal, tests}
+use Rattle.segments.specs.RefuseLaws.{KindAbove, BlockAbove, PastSegment, NowhereKept}
+use Rattle.segments.specs.SegmentRows.{segmentWidth, referenceWidth, symbolWidth}
+use Rattle.search.specs.SearchRows.{placedWidth, notedWidth}
+use Rattle.listing.specs.Listing.{lineWidth}
+use Rattle.libfind.specs.declared.Settings.{Settings}
+use Rattle.libfind.specs.declared.Counts.{Counts}
+use Rattle.libfind.specs.Run.{Lent, stages, counted}
+
+-- n rows of a width do not fit into what was lent
+abbrev pub Over : ℕ → List ℕ → ℕ → Type 0
+Over width lent n = length lent < n * width
+
+abbrev pub CollectionOver : Lent → Counts → Type 0
+CollectionOver lent c =
+    Over segmentWidth (lent .segments) (c .segments) ⊎ Over referenceWidth (lent .references) (c .references)
+    ⊎ Over symbolWidth (lent .symbols) (c .symbols) ⊎ Over 1 (lent .bytes) (c .pattern) ⊎ Over 1 (lent .masks) (c .pattern)
+
+abbrev pub SearchOver : Lent → Counts → Type 0
+SearchOver lent c = Over placedWidth (lent .placed) (c .placed) ⊎ Over notedWidth (lent .noted) (c .noted)
+
+abbrev pub ListOver : Lent → Counts → Type 0
+ListOver lent c = Over lineWidth (lent .lines) (c .lines)
+
+-- none of 1 to 4 applies
+pub record Accepted (image library : List ℕ) (s : Settings) : Type 0 where
+  pub rule-set : s .rules ≤ 1
+  pub image-fits : length image ≤ 65536
+  pub library-fits : length library ≤ 1048576
+  pub stretch-fits : s .stretch .start + s .stretch .len ≤ length image
+
+-- none of 5 to 8 applies
+abbrev pub IsRead : List ℕ → Type 0
+IsRead library = (modules : List Module) × (next : ℕ) × (file library ≡ read modules next)
+
+module _ (image library : List ℕ) (s : Settings) (lent : Lent) where
+  abbrev pub counts : Counts
+  counts = counted (stages (view image (s .stretch)) library s)
+
+  -- what comes before the tests of 10 to 13
+  pub record Reached : Type 0 where
+    pub accepted : Accepted image library s
+    pub is-read : IsRead library
+    pub room : CollectionOver lent counts → ⊥
+
+  -- the first test in file order that refuses does so in this case
+  abbrev pub FirstTest : (Test → Type 0) → Type 0
+  FirstTest Case = First testRefusal Case (tests (modulesIn (file library)))
+
+  -- 9 for the collection; or, once none of 10 to 13 applies, for the search or the listing
+  abbrev pub TooLittle : Type 0
+  TooLittle =
+      (Accepted image library s × IsRead library × CollectionOver lent counts)
+      ⊎ (Reached × Quiet testRefusal (tests (modulesIn (file library))) × (SearchOver lent counts ⊎ ListOver lent counts))
+
+  -- DOCUMENT 01'S TABLE, "Given exactly when"
+  abbrev pub Given : Refusal → Type 0
+  Given RuleSet = 1 < s .rules
+  Given ImageTooLong = (s .rules ≤ 1) × (65536 < length image)
+  Given LibraryTooLong = (s .rules ≤ 1) × (length image ≤ 65536) × (1048576 < length library)
+  Given StretchPastEnd =
+      (s .rules ≤ 1) × (length image ≤ 65536) × (length library ≤ 1048576) × (length image < s .stretch .start + s .stretch .len)
+  Given NoModule = Accepted image library s × (file library ≡ stop)
+  Given BodyPastEnd = Accepted image library s × (file library ≡ refused BodyPastEnd)
+  Given LengthZero = Accepted image library s × (file library ≡ refused LengthZero)
+  Given NamesDiffer = Accepted image library s × (file library ≡ refused NamesDiffer)
+  Given TooFewRows = TooLittle
+  Given UnknownKind = Reached × FirstTest KindAbove
+  Given UnknownBlock = Reached × FirstTest BlockAbove
+  Given ContentPastSegment = Reached × FirstTest PastSegment
+  Given NoKeptSegment = Reached × FirstTest NowhereKept

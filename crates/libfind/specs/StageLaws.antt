@@ -1,0 +1,141 @@
+-- What each stage of a run can refuse with, and when it does, in words. Assumes nothing.
+use Prim.Native.Nat.{ℕ, _+_, _*_, _≤_, _<_}
+use mathlib.Core.Path.{_≡_, refl, sym, ap, _∙_}
+use mathlib.Core.Logic.{_⊎_, inl, inr, _↔_, Iff·trans, Iff·and}
+use mathlib.Core.Bool.{Bool, true, false, _||_, or-true, false≢true}
+use mathlib.Core.List.{List, [], _∷_, _++_}
+use mathlib.Core.Option.{Option, none, some}
+use native.Mathlib.Omega.{arith}
+use borrow.Author.Tests.{ltb-true, ltb-false, lt-ltb, le-ltb}
+use lib.Dec.{ltb}
+use lib.ListN.{length}
+use Rattle.lent.specs.declared.refusal.Refusal.{Refusal}
+use Rattle.lent.specs.declared.refusal.Refusal.the-variants.{RuleSet, ImageTooLong, LibraryTooLong, StretchPastEnd, NoModule, BodyPastEnd, LengthZero, NamesDiffer, TooFewRows, UnknownKind, UnknownBlock, ContentPastSegment, NoKeptSegment}
+use Rattle.lent.specs.Choice.{when, leading}
+use Rattle.lent.specs.ChoiceLaws.{either}
+use Rattle.lent.specs.Leading.{Quiet, First, none≢some, leading-none, none-leading}
+use Rattle.lent.specs.Lists.{all}
+use Rattle.lent.specs.Refusals.{refusalNumber}
+use Rattle.lent.specs.RefusalLaws.{number-tells, same-number, number-range}
+use Rattle.lent.specs.Rows.{tooMany}
+use Rattle.pattern.specs.View.{view}
+use Rattle.pattern.specs.ViewLaws.{view-length}
+use Rattle.omf51.specs.Reader.{Outcome, read, stop, refused}
+use Rattle.omf51.specs.Module.{Module}
+use Rattle.omf51.specs.File.{file, fileRefusal, modulesIn}
+use Rattle.omf51.specs.FileLaws.{OfReading, Reads, file-reads}
+use Rattle.segments.specs.Refuse.{Test, testRefusal, tests, collectRefusal}
+use Rattle.segments.specs.RefuseLaws.{KindAbove, BlockAbove, PastSegment, NowhereKept, gives-10, gives-11, gives-12, gives-13, collect-gives, collect-late}
+use Rattle.segments.specs.SegmentRows.{segmentWidth, referenceWidth, symbolWidth}
+use Rattle.search.specs.SearchRows.{placedWidth, notedWidth}
+use Rattle.listing.specs.Listing.{lineWidth}
+use Rattle.libfind.specs.declared.Settings.{Settings}
+use Rattle.libfind.specs.declared.Counts.{Counts}
+use Rattle.libfind.specs.Run.{Lent, Yield, stages, counted, collectOver, searchOver, listOver, refusals, outcomeOf, runSeen, run, numberOf}
+use Rattle.libfind.specs.Order.{Stage, outs, beyond, or-else, after-none, at-stage}
+use Rattle.libfind.specs.Given.{Over, CollectionOver, SearchOver, ListOver, Accepted, IsRead, counts, Reached, FirstTest, TooLittle, Given}
+
+-- a test that refuses: with one refusal, exactly if it passes
+pub when-some : (t : Bool) (r : Refusal) → (when t r ≡ some r) ↔ (t ≡ true)
+when-some true r = ((λ e. refl), λ e. refl)
+when-some false r = ((λ e. absurd (none≢some e)), λ e. let z : _≡_ {A = ℕ} 0 1 = cc in absurd (omega arith))
+
+pub when-none : (t : Bool) (r : Refusal) → (when t r ≡ none) ↔ (t ≡ false)
+when-none true r = ((λ e. absurd (none≢some (sym e))), λ e. let z : _≡_ {A = ℕ} 0 1 = cc in absurd (omega arith))
+when-none false r = ((λ e. refl), λ e. refl)
+
+unfoldable pub when-stage : Bool → Refusal → Stage
+when-stage t r = record { out = when t r; low = refusalNumber r; high = refusalNumber r; ranged = λ q e. go t q e }
+  where
+    go : (u : Bool) (q : Refusal) → when u r ≡ some q → (refusalNumber r ≤ refusalNumber q) × (refusalNumber q ≤ refusalNumber r)
+    go true q e = (omega (arith, same-number e), omega (arith, same-number e))
+    go false q e = absurd (none≢some e)
+
+-- reading refuses with 5 to 8; the collection with 10 to 13
+unfoldable pub reading-stage : List ℕ → Stage
+reading-stage library = record { out = fileRefusal (file library); low = 5; high = 8; ranged = λ r e. go (file library) (file-reads library) r e }
+  where
+    by-reader : (r : Refusal) → OfReading r → (5 ≤ refusalNumber r) × (refusalNumber r ≤ 8)
+    by-reader RuleSet h = absurd h
+    by-reader ImageTooLong h = absurd h
+    by-reader LibraryTooLong h = absurd h
+    by-reader StretchPastEnd h = absurd h
+    by-reader NoModule h = absurd h
+    by-reader BodyPastEnd h = (omega arith, omega arith)
+    by-reader LengthZero h = (omega arith, omega arith)
+    by-reader NamesDiffer h = (omega arith, omega arith)
+    by-reader TooFewRows h = absurd h
+    by-reader UnknownKind h = absurd h
+    by-reader UnknownBlock h = absurd h
+    by-reader ContentPastSegment h = absurd h
+    by-reader NoKeptSegment h = absurd h
+
+    go : (o : Outcome (List Module)) → Reads o → (r : Refusal) → fileRefusal o ≡ some r → (5 ≤ refusalNumber r) × (refusalNumber r ≤ 8)
+    go (read modules next) h r e = absurd (none≢some e)
+    go stop h r e = (omega (arith, same-number e), omega (arith, same-number e))
+    go (refused q) h r e = let p = by-reader q h in (omega (arith, same-number e, p .0), omega (arith, same-number e, p .1))
+
+unfoldable pub collecting-stage : List Module → Stage
+collecting-stage modules =
+    record { out = collectRefusal modules; low = 10; high = 13; ranged = λ r e. (collect-late modules e, number-range r .1) }
+
+-- what the stages come to, in words
+pub file-stops : (library : List ℕ) → (fileRefusal (file library) ≡ some NoModule) ↔ (file library ≡ stop)
+file-stops library = (there (file library) (file-reads library), λ e. rw e)
+  where
+    there : (o : Outcome (List Module)) → Reads o → fileRefusal o ≡ some NoModule → o ≡ stop
+    there (read modules next) h e = absurd (none≢some e)
+    there stop h e = refl
+    there (refused r) h e = let z : r ≡ NoModule = cc in absurd (rw z at h)
+
+pub file-refuses : (library : List ℕ) (r : Refusal) → 6 ≤ refusalNumber r → (fileRefusal (file library) ≡ some r) ↔ (file library ≡ refused r)
+file-refuses library r l = (there (file library), λ e. rw e)
+  where
+    there : (o : Outcome (List Module)) → fileRefusal o ≡ some r → o ≡ refused r
+    there (read modules next) e = absurd (none≢some e)
+    there stop e = absurd (omega (arith, same-number e))
+    there (refused q) e = cc
+
+pub file-is-read : (library : List ℕ) → (fileRefusal (file library) ≡ none) ↔ IsRead library
+file-is-read library = (there (file library) refl, λ h. rw (h .2))
+  where
+    there : (o : Outcome (List Module)) → file library ≡ o → fileRefusal o ≡ none → IsRead library
+    there (read modules next) q e = (modules, next, q)
+    there stop q e = absurd (none≢some (sym e))
+    there (refused r) q e = absurd (none≢some (sym e))
+
+-- rows that do not fit
+pub over : (width : ℕ) (lent : List ℕ) (n : ℕ) → (tooMany width lent n ≡ true) ↔ Over width lent n
+over width lent n = (ltb-true (length lent) (n * width), lt-ltb (length lent) (n * width))
+
+pub or-true-iff : {A B : Type 0} (a b : Bool) → (a ≡ true) ↔ A → (b ≡ true) ↔ B → ((a || b) ≡ true) ↔ (A ⊎ B)
+or-true-iff {A} {B} a b p q = ((λ e. there (either a b e)), back)
+  where
+    there : (a ≡ true) ⊎ (b ≡ true) → A ⊎ B
+    there (inl e) = inl (p .0 e)
+    there (inr e) = inr (q .0 e)
+
+    back : A ⊎ B → (a || b) ≡ true
+    back (inl h) = rw (p .1 h)
+    back (inr h) = rw (q .1 h) (or-true a)
+
+pub not-over : {A : Type 0} (t : Bool) → (t ≡ true) ↔ A → (t ≡ false) ↔ (A → ⊥)
+not-over true iff = ((λ e. absurd (false≢true (sym e))), λ n. absurd (n (iff .0 refl)))
+not-over false iff = ((λ e h. false≢true (iff .1 h)), λ n. refl)
+
+pub collection-over : (lent : Lent) (c : Counts) → (collectOver lent c ≡ true) ↔ CollectionOver lent c
+collection-over lent c =
+    or-true-iff _ _ (over segmentWidth (lent .segments) (c .segments))
+    (or-true-iff _ _ (over referenceWidth (lent .references) (c .references))
+    (or-true-iff _ _ (over symbolWidth (lent .symbols) (c .symbols))
+    (or-true-iff _ _ (over 1 (lent .bytes) (c .pattern)) (over 1 (lent .masks) (c .pattern)))))
+
+pub search-over : (lent : Lent) (c : Counts) → (searchOver lent c ≡ true) ↔ SearchOver lent c
+search-over lent c = or-true-iff _ _ (over placedWidth (lent .placed) (c .placed)) (over notedWidth (lent .noted) (c .noted))
+
+-- a refusal by a comparison of numbers
+pub less : (a b : ℕ) (r : Refusal) → (when (ltb a b) r ≡ some r) ↔ (a < b)
+less a b r = Iff·trans (when-some (ltb a b) r) (ltb-true a b, lt-ltb a b)
+
+pub not-less : (a b : ℕ) (r : Refusal) → (when (ltb a b) r ≡ none) ↔ (b ≤ a)
+not-less a b r = Iff·trans (when-none (ltb a b) r) (ltb-false a b, le-ltb a b)
