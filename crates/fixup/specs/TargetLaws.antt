@@ -18,7 +18,6 @@ use Rattle.pattern.specs.ViewLaws.{Inside, view-length, view-inside, view-outsi
 use Rattle.pattern.specs.MatchLaws.{Apart}
 use Rattle.fixup.specs.declared.Rules.{Rules}
 use Rattle.fixup.specs.declared.Kind.{Kind}
-use Rattle.fixup.specs.declared.Target.{Target}
 use Rattle.fixup.specs.declared.Target.the-variants.{At, Nowhere}
 use Rattle.fixup.specs.Target.{minus, leadsTo, reads, readable, target}
 
@@ -36,15 +35,17 @@ readable-seen image s bytes pos n =
     let iff = and-eq-true-iff (leb (pos + n) (length cells)) (all p (from 0 n)) in
     let long = view-length image s in (
       (λ e.
-        let fits : pos + n ≤ length image = omega (arith, leb-true (pos + n) (length cells) (iff .0 e .0), long) in
-        (fits, λ i a b h.
-          let k : pos + (i - pos) ≡ i = omega arith in
-          let byte : cellAt cells i < 256 = rw k at (ltb-true (cellAt cells (pos + (i - pos))) 256 (every p 0 n (iff .0 e .1) (i - pos) (omega arith) (omega arith))) in
-          omega (arith, byte, view-inside image s i (omega (arith, fits)) h))),
+          let fits : pos + n ≤ length image = omega (arith, leb-true (pos + n) (length cells) (iff .0 e .0), long) in (
+            fits,
+            λ i a b h.
+                let k : pos + (i - pos) ≡ i = omega arith in
+                let byte : cellAt cells i < 256 = rw k at (ltb-true (cellAt cells (pos + (i - pos))) 256 (every p 0 n (iff .0 e .1) (i - pos) (omega arith) (omega arith))) in
+                omega (arith, byte, view-inside image s i (omega (arith, fits)) h),
+          )),
       (λ h. iff .1 (
         le-leb (pos + n) (length cells) (omega (arith, h .0, long)),
         if-every p 0 n (λ k a b. lt-ltb (cellAt cells (pos + k)) 256
-          (rw (view-outside image s (pos + k) (h .1 (pos + k) (omega arith) (omega arith))) (bytes (pos + k)))),
+            (rw (view-outside image s (pos + k) (h .1 (pos + k) (omega arith) (omega arith))) (bytes (pos + k)))),
       )),
     )
 

@@ -64,7 +64,7 @@ pub leading-at : {A B : Type 0} (f : A → Option B) {b : B} (P : A → Type 0) 
     → (leading (map f xs) ≡ some b) ↔ First f P xs
 leading-at f P iff xs = (
   (λ e. let r = leading-first f xs e in
-    record { earlier = r .earlier; here = r .here; later = r .later; split = r .split; quiet = r .quiet; holds = iff (r .here) .0 (r .holds) }),
+      record { earlier = r .earlier; here = r .here; later = r .later; split = r .split; quiet = r .quiet; holds = iff (r .here) .0 (r .holds) }),
   (λ r. first-leading f xs (record {
     earlier = r .earlier;
     here = r .here;

@@ -9,3 +9,4 @@ pub mod Parts
 pub mod Refusals
 pub mod RefusalLaws
 pub mod Rows
+pub mod RowLaws

@@ -3,12 +3,12 @@ use Prim.Native.Nat.{ℕ, zero, suc, _+_, _*_, _≤_, _<_}
 use mathlib.Core.Path.{_≡_, refl, sym, ap, _∙_}
 use mathlib.Core.Logic.{_↔_}
 use mathlib.Core.Bool.{Bool, true, and-eq-true-iff}
-use mathlib.Core.List.{List, [], _∷_, _++_, append-assoc, append-nil}
+use mathlib.Core.List.{List, [], _∷_}
 use native.Mathlib.Decide.{decLt}
 use native.Mathlib.Nat.{suc-mul}
 use native.Mathlib.Omega.{arith}
 use lib.ListN.{length, length-append}
-use Rattle.lent.specs.Lists.{one, joined, all, from, numbered, total}
+use Rattle.lent.specs.Lists.{joined, all, from, numbered, total}
 
 -- all the numbers from a on pass a test exactly if each does
 pub every : (p : ℕ → Bool) (a n : ℕ) → all p (from a n) ≡ true → (k : ℕ) → a ≤ k → k < a + n → p k ≡ true

@@ -1,7 +1,7 @@
 -- The fourteen examples of document 01, all proved by one statement over the table, and its whole printed case.
 use Prim.Native.Nat.{ℕ, _-_, _^_}
 use mathlib.Core.Path.{_≡_, refl}
-use mathlib.Core.Bool.{Bool, true, false}
+use mathlib.Core.Bool.{true}
 use mathlib.Core.List.{List, [], _∷_, _++_, map}
 use mathlib.Core.Option.{Option, none, some}
 use lib.ListN.{length, replicate}
@@ -10,7 +10,6 @@ use Rattle.lent.specs.Lists.{one, keep, joined, fold, any, all, placeOf, from, 
 use Rattle.lent.specs.Parts.{same, before}
 use Rattle.lent.specs.Rows.{zeros, flag}
 use Rattle.pattern.specs.declared.Seat.the-variants.{Anywhere}
-use Rattle.pattern.specs.declared.Stretch.{Stretch}
 use Rattle.pattern.specs.View.{view}
 use Rattle.pattern.specs.Match.{agrees, matchesAt, matches}
 use Rattle.fixup.specs.declared.Rules.{Rules}
@@ -36,7 +35,6 @@ use Rattle.listing.specs.Listing.{bestGrade, best, grade, gradedAt, linesAt, le
 use Rattle.listing.specs.Describe.{text, oneOf, description, describe}
 use Rattle.listing.specs.Print.{digits, moreDigits, printedLine, printed}
 use Rattle.libfind.specs.declared.Settings.{Settings}
-use Rattle.libfind.specs.declared.Counts.{Counts}
 use Rattle.libfind.specs.declared.Answer.the-variants.{Done}
 use Rattle.libfind.specs.Run.{Lent, Outcome, stages, counted, refusals, filledWith, runSeen, run}
 

@@ -82,3 +82,10 @@ module _ (image library : List ℕ) (s : Settings) (lent : Lent) where
   Given UnknownBlock = Reached × FirstTest BlockAbove
   Given ContentPastSegment = Reached × FirstTest PastSegment
   Given NoKeptSegment = Reached × FirstTest NowhereKept
+
+  -- 0: done, where none of them applies
+  pub record NothingRefused : Type 0 where
+    pub reached : Reached
+    pub tested : Quiet testRefusal (tests (modulesIn (file library)))
+    pub searched : SearchOver lent counts → ⊥
+    pub listed : ListOver lent counts → ⊥

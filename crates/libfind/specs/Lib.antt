@@ -6,3 +6,5 @@ pub mod Order
 pub mod Given
 pub mod StageLaws
 pub mod Refused
+pub mod Answers
+pub mod OwnAddress

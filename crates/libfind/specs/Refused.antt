@@ -1,39 +1,31 @@
 -- Demand 1: each refusal is given in exactly the case that document 01 names, with no earlier one. Assumes nothing.
-use Prim.Native.Nat.{ℕ, _+_, _*_, _≤_, _<_}
-use mathlib.Core.Path.{_≡_, refl, sym, ap, _∙_}
+use Prim.Native.Nat.{ℕ, _+_}
+use mathlib.Core.Path.{_≡_, refl, sym, ap}
 use mathlib.Core.Logic.{_⊎_, inl, inr, _↔_, Iff·trans, Iff·and}
-use mathlib.Core.Bool.{Bool, true, false, _||_, or-true, false≢true}
+use mathlib.Core.Bool.{Bool, true, false, _||_, false≢true}
 use mathlib.Core.List.{List, [], _∷_, _++_}
 use mathlib.Core.Option.{Option, none, some}
 use native.Mathlib.Omega.{arith}
-use borrow.Author.Tests.{ltb-true, ltb-false, lt-ltb, le-ltb}
 use lib.Dec.{ltb}
 use lib.ListN.{length}
 use Rattle.lent.specs.declared.refusal.Refusal.{Refusal}
 use Rattle.lent.specs.declared.refusal.Refusal.the-variants.{RuleSet, ImageTooLong, LibraryTooLong, StretchPastEnd, NoModule, BodyPastEnd, LengthZero, NamesDiffer, TooFewRows, UnknownKind, UnknownBlock, ContentPastSegment, NoKeptSegment}
 use Rattle.lent.specs.Choice.{when, leading}
-use Rattle.lent.specs.ChoiceLaws.{either}
-use Rattle.lent.specs.Leading.{Quiet, First, none≢some, leading-none, none-leading}
+use Rattle.lent.specs.Leading.{Quiet, none≢some, leading-none, none-leading}
 use Rattle.lent.specs.Lists.{all}
 use Rattle.lent.specs.Refusals.{refusalNumber}
 use Rattle.lent.specs.RefusalLaws.{number-tells, same-number, number-range}
-use Rattle.lent.specs.Rows.{tooMany}
 use Rattle.pattern.specs.View.{view}
 use Rattle.pattern.specs.ViewLaws.{view-length}
-use Rattle.omf51.specs.Reader.{Outcome, read, stop, refused}
-use Rattle.omf51.specs.Module.{Module}
+use Rattle.omf51.specs.Reader.{stop, refused}
 use Rattle.omf51.specs.File.{file, fileRefusal, modulesIn}
-use Rattle.omf51.specs.FileLaws.{OfReading, Reads, file-reads}
 use Rattle.segments.specs.Refuse.{Test, testRefusal, tests, collectRefusal}
-use Rattle.segments.specs.RefuseLaws.{KindAbove, BlockAbove, PastSegment, NowhereKept, gives-10, gives-11, gives-12, gives-13, collect-gives, collect-late}
-use Rattle.segments.specs.SegmentRows.{segmentWidth, referenceWidth, symbolWidth}
-use Rattle.search.specs.SearchRows.{placedWidth, notedWidth}
+use Rattle.segments.specs.RefuseLaws.{KindAbove, BlockAbove, PastSegment, NowhereKept, gives-10, gives-11, gives-12, gives-13, collect-gives}
 use Rattle.listing.specs.Listing.{lineWidth}
 use Rattle.libfind.specs.declared.Settings.{Settings}
-use Rattle.libfind.specs.declared.Counts.{Counts}
 use Rattle.libfind.specs.Run.{Lent, Yield, stages, counted, collectOver, searchOver, listOver, refusals, outcomeOf, runSeen, run, numberOf}
 use Rattle.libfind.specs.Order.{Stage, outs, beyond, or-else, after-none, at-stage}
-use Rattle.libfind.specs.Given.{Over, CollectionOver, SearchOver, ListOver, Accepted, IsRead, counts, Reached, FirstTest, TooLittle, Given}
+use Rattle.libfind.specs.Given.{CollectionOver, SearchOver, ListOver, Accepted, IsRead, Reached, FirstTest, TooLittle, Given, NothingRefused}
 use Rattle.libfind.specs.StageLaws.{when-some, when-none, when-stage, reading-stage, collecting-stage, file-stops, file-refuses, file-is-read, over, or-true-iff, not-over, collection-over, search-over, less, not-less}
 
 module _ (image library : List ℕ) (s : Settings) (lent : Lent) where
@@ -120,11 +112,11 @@ module _ (image library : List ℕ) (s : Settings) (lent : Lent) where
   unfolding settings-stages cells yield
   reached = (
     (λ q.
-      let h = read-so-far .0 (q .0, (q .1 .0, (q .1 .1 .0, (q .1 .1 .1 .0, (q .1 .1 .1 .1 .0, tt))))) in
-      record { accepted = h .0; is-read = h .1; room = has-room .0 (q .1 .1 .1 .1 .1 .0) }),
+        let h = read-so-far .0 (q .0, (q .1 .0, (q .1 .1 .0, (q .1 .1 .1 .0, (q .1 .1 .1 .1 .0, tt))))) in
+        record { accepted = h .0; is-read = h .1; room = has-room .0 (q .1 .1 .1 .1 .1 .0) }),
     λ r.
-      let h = read-so-far .1 (r .accepted, r .is-read) in
-      (h .0, (h .1 .0, (h .1 .1 .0, (h .1 .1 .1 .0, (h .1 .1 .1 .1 .0, (has-room .1 (r .room), tt)))))),
+        let h = read-so-far .1 (r .accepted, r .is-read) in
+        (h .0, (h .1 .0, (h .1 .1 .0, (h .1 .1 .1 .0, (h .1 .1 .1 .1 .0, (has-room .1 (r .room), tt)))))),
   )
 
   -- none of 10 to 13
@@ -245,3 +237,52 @@ module _ (image library : List ℕ) (s : Settings) (lent : Lent) where
   given-exactly UnknownBlock = by-tests UnknownBlock BlockAbove gives-11 refl refl
   given-exactly ContentPastSegment = by-tests ContentPastSegment PastSegment gives-12 refl refl
   given-exactly NoKeptSegment = by-tests NoKeptSegment NowhereKept gives-13 refl refl
+
+  -- and 0 exactly if none applies
+  done-is : (numberOf (run image library s lent .answer) ≡ 0) ↔ (leading (outs (settings-stages ++ later-stages)) ≡ none)
+  unfolding run runSeen refusals cells yield settings-stages later-stages row-stages rules-stage image-stage library-stage stretch-stage collection-stage modules-stage
+      when-stage reading-stage collecting-stage
+  done-is = go (leading (refusals cells library s lent (counted yield)))
+    where
+      go : (o : Option Refusal) → (numberOf (outcomeOf o yield lent .answer) ≡ 0) ↔ (o ≡ none)
+      go none = ((λ e. refl), λ e. refl)
+      go (some q) = ((λ e. absurd (omega (arith, number-range q .0))), λ e. absurd (none≢some (sym e)))
+
+  pub done-exactly : (numberOf (run image library s lent .answer) ≡ 0) ↔ NothingRefused image library s lent
+  unfolding settings-stages later-stages row-stages when-stage cells yield
+  done-exactly =
+      let c = counted yield in
+      let search = Iff·trans (when-none (searchOver lent c) TooFewRows) (not-over (searchOver lent c) (search-over lent c)) in
+      let list = Iff·trans (when-none (listOver lent c) TooFewRows) (not-over (listOver lent c) (over lineWidth (lent .lines) (c .lines))) in
+      let stages = settings-stages ++ later-stages in (
+        (λ e.
+            let q = leading-none (λ g. g .out) stages (done-is .0 e) in
+            let rest = q .1 .1 .1 .1 .1 .1 in
+            record {
+              reached = reached .0 (q .0, (q .1 .0, (q .1 .1 .0, (q .1 .1 .1 .0, (q .1 .1 .1 .1 .0, (q .1 .1 .1 .1 .1 .0, tt))))));
+              tested = quiet-tests .0 (rest .0);
+              searched = search .0 (rest .1 .0);
+              listed = list .0 (rest .1 .1 .0);
+            }),
+        λ h.
+            let r = reached .1 (h .reached) in
+            done-is .1 (none-leading (λ g. g .out) stages (
+              r .0,
+              (
+                r .1 .0,
+                (
+                  r .1 .1 .0,
+                  (
+                    r .1 .1 .1 .0,
+                    (
+                      r .1 .1 .1 .1 .0,
+                      (
+                        r .1 .1 .1 .1 .1 .0,
+                        (quiet-tests .1 (h .tested), (search .1 (h .searched), (list .1 (h .listed), tt))),
+                      ),
+                    ),
+                  ),
+                ),
+              ),
+            )),
+      )

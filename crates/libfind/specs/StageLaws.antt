@@ -1,39 +1,34 @@
 -- What each stage of a run can refuse with, and when it does, in words. Assumes nothing.
-use Prim.Native.Nat.{ℕ, _+_, _*_, _≤_, _<_}
-use mathlib.Core.Path.{_≡_, refl, sym, ap, _∙_}
-use mathlib.Core.Logic.{_⊎_, inl, inr, _↔_, Iff·trans, Iff·and}
+use Prim.Native.Nat.{ℕ, _*_, _≤_, _<_}
+use mathlib.Core.Path.{_≡_, refl, sym}
+use mathlib.Core.Logic.{_⊎_, inl, inr, _↔_, Iff·trans}
 use mathlib.Core.Bool.{Bool, true, false, _||_, or-true, false≢true}
-use mathlib.Core.List.{List, [], _∷_, _++_}
-use mathlib.Core.Option.{Option, none, some}
+use mathlib.Core.List.{List}
+use mathlib.Core.Option.{none, some}
 use native.Mathlib.Omega.{arith}
 use borrow.Author.Tests.{ltb-true, ltb-false, lt-ltb, le-ltb}
 use lib.Dec.{ltb}
 use lib.ListN.{length}
 use Rattle.lent.specs.declared.refusal.Refusal.{Refusal}
 use Rattle.lent.specs.declared.refusal.Refusal.the-variants.{RuleSet, ImageTooLong, LibraryTooLong, StretchPastEnd, NoModule, BodyPastEnd, LengthZero, NamesDiffer, TooFewRows, UnknownKind, UnknownBlock, ContentPastSegment, NoKeptSegment}
-use Rattle.lent.specs.Choice.{when, leading}
+use Rattle.lent.specs.Choice.{when}
 use Rattle.lent.specs.ChoiceLaws.{either}
-use Rattle.lent.specs.Leading.{Quiet, First, none≢some, leading-none, none-leading}
-use Rattle.lent.specs.Lists.{all}
+use Rattle.lent.specs.Leading.{none≢some}
 use Rattle.lent.specs.Refusals.{refusalNumber}
-use Rattle.lent.specs.RefusalLaws.{number-tells, same-number, number-range}
+use Rattle.lent.specs.RefusalLaws.{same-number, number-range}
 use Rattle.lent.specs.Rows.{tooMany}
-use Rattle.pattern.specs.View.{view}
-use Rattle.pattern.specs.ViewLaws.{view-length}
 use Rattle.omf51.specs.Reader.{Outcome, read, stop, refused}
 use Rattle.omf51.specs.Module.{Module}
-use Rattle.omf51.specs.File.{file, fileRefusal, modulesIn}
+use Rattle.omf51.specs.File.{file, fileRefusal}
 use Rattle.omf51.specs.FileLaws.{OfReading, Reads, file-reads}
-use Rattle.segments.specs.Refuse.{Test, testRefusal, tests, collectRefusal}
-use Rattle.segments.specs.RefuseLaws.{KindAbove, BlockAbove, PastSegment, NowhereKept, gives-10, gives-11, gives-12, gives-13, collect-gives, collect-late}
+use Rattle.segments.specs.Refuse.{collectRefusal}
+use Rattle.segments.specs.RefuseLaws.{collect-late}
 use Rattle.segments.specs.SegmentRows.{segmentWidth, referenceWidth, symbolWidth}
 use Rattle.search.specs.SearchRows.{placedWidth, notedWidth}
-use Rattle.listing.specs.Listing.{lineWidth}
-use Rattle.libfind.specs.declared.Settings.{Settings}
 use Rattle.libfind.specs.declared.Counts.{Counts}
-use Rattle.libfind.specs.Run.{Lent, Yield, stages, counted, collectOver, searchOver, listOver, refusals, outcomeOf, runSeen, run, numberOf}
-use Rattle.libfind.specs.Order.{Stage, outs, beyond, or-else, after-none, at-stage}
-use Rattle.libfind.specs.Given.{Over, CollectionOver, SearchOver, ListOver, Accepted, IsRead, counts, Reached, FirstTest, TooLittle, Given}
+use Rattle.libfind.specs.Run.{Lent, collectOver, searchOver}
+use Rattle.libfind.specs.Order.{Stage}
+use Rattle.libfind.specs.Given.{Over, CollectionOver, SearchOver, IsRead}
 
 -- a test that refuses: with one refusal, exactly if it passes
 pub when-some : (t : Bool) (r : Refusal) → (when t r ≡ some r) ↔ (t ≡ true)

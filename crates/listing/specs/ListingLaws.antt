@@ -1,9 +1,9 @@
 -- What a line of the list comes from. Assumes nothing.
 use Prim.Native.Nat.{ℕ, _≤_, max}
-use mathlib.Core.Path.{_≡_, refl, sym, ap, _∙_}
+use mathlib.Core.Path.{_≡_, sym, ap}
 use mathlib.Core.Logic.{_⊎_, inl, inr}
-use mathlib.Core.Bool.{Bool, true, false, not, _&&_}
-use mathlib.Core.List.{List, [], _∷_, _++_, map, List·Memᴰ·not-nil, List·Memᴰ·cases-cons, List·Memᴰ·append-cases, Memᴰ·of-map}
+use mathlib.Core.Bool.{Bool, true, false, _&&_}
+use mathlib.Core.List.{List, [], _∷_, map, List·Memᴰ·not-nil, List·Memᴰ·cases-cons, List·Memᴰ·append-cases, Memᴰ·of-map}
 use native.Mathlib.Omega.{arith}
 use borrow.Author.Tests.{eqb-true}
 use lib.Dec.{eqb, ltb}
@@ -14,7 +14,7 @@ use Rattle.lent.specs.Members.{_among_, of-keep, of-joined, of-sorted}
 use Rattle.lent.specs.Parts.{nameBefore}
 use Rattle.segments.specs.Collect.{Collected}
 use Rattle.search.specs.declared.Asked.{Asked}
-use Rattle.search.specs.Search.{Placing, Noting, isNoted}
+use Rattle.search.specs.Search.{Placing, Noting}
 use Rattle.listing.specs.declared.Skip.{Skip}
 use Rattle.listing.specs.declared.Line.{Line}
 use Rattle.listing.specs.Listing.{notedLine, bestGrade, best, crowded, grade, stays, placedLine, gradedAt, linesAt, isLeftover, leftovers, listing}

@@ -1,5 +1,5 @@
 -- The entries of bodies. Fields stand one after another, so an entry is whole if its last field ends within the body.
-use Prim.Native.Nat.{ℕ, _+_, _-_, _%_}
+use Prim.Native.Nat.{ℕ, _+_, _%_}
 use mathlib.Core.Bool.{Bool, _||_}
 use mathlib.Core.List.{List}
 use lib.Bits.{bitAnd}

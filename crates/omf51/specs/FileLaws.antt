@@ -1,7 +1,6 @@
 -- Reading refuses with nothing but 5, 6, 7 and 8. Assumes nothing.
 use Prim.Native.Nat.{ℕ, zero, suc, _+_}
-use mathlib.Core.Path.{_≡_, refl}
-use mathlib.Core.Bool.{Bool, true, false, not, _||_}
+use mathlib.Core.Bool.{Bool}
 use mathlib.Core.List.{List, [], _∷_, _++_}
 use lib.Dec.{eqb, leb}
 use lib.ListN.{length}
@@ -107,9 +106,9 @@ unfolding sectionsAt sectionAt
 sections-reads library at =
     chosen Reads (fills (byteAt library at))
     (λ e.
-      then-reads (recordOf library fills (contentBody library) at) _
-      (record-reads library fills (contentBody library) (λ f k. ending-reads f _ _) at) λ content next.
-      then-reads (many library (fixupsAt library) next) _ (many-reads library (fixupsAt library) (fixups-reads library) next) λ fixups last. tt)
+    then-reads (recordOf library fills (contentBody library) at) _
+    (record-reads library fills (contentBody library) (λ f k. ending-reads f _ _) at) λ content next.
+    then-reads (many library (fixupsAt library) next) _ (many-reads library (fixupsAt library) (fixups-reads library) next) λ fixups last. tt)
     (λ e. record-reads library _ _ (λ f k. tt) at)
 
 module-reads : (library : List ℕ) (at : ℕ) → Reads (moduleAt library at)
@@ -132,9 +131,9 @@ unfolding file libraryAt
 file-reads library =
     chosen Reads (eqb (byteAt library 0) 0x2c)
     (λ e.
-      then-reads (recordOf library (eqb 0x2c) give 0) _ (skipped-reads library 0x2c 0) λ _ a.
-      then-reads (modulesAt library a) _ (modules-reads library a) λ modules b.
-      then-reads (recordOf library (eqb 0x28) give b) _ (skipped-reads library 0x28 b) λ _ c.
-      then-reads (recordOf library (eqb 0x26) give c) _ (skipped-reads library 0x26 c) λ _ d.
-      then-reads (recordOf library (eqb 0x2a) give d) _ (skipped-reads library 0x2a d) λ _ e. tt)
+    then-reads (recordOf library (eqb 0x2c) give 0) _ (skipped-reads library 0x2c 0) λ _ a.
+    then-reads (modulesAt library a) _ (modules-reads library a) λ modules b.
+    then-reads (recordOf library (eqb 0x28) give b) _ (skipped-reads library 0x28 b) λ _ c.
+    then-reads (recordOf library (eqb 0x26) give c) _ (skipped-reads library 0x26 c) λ _ d.
+    then-reads (recordOf library (eqb 0x2a) give d) _ (skipped-reads library 0x2a d) λ _ e. tt)
     (λ e. modules-reads library 0)

@@ -9,9 +9,8 @@ use native.Mathlib.Nat.{add-zero, zero-add}
 use native.Mathlib.Omega.{arith}
 use borrow.Author.Tests.{leb-true, le-leb, ltb-true, lt-ltb}
 use lib.Dec.{leb, ltb}
-use lib.ListN.{length, getD, length-map, List·getD-eq-default}
+use lib.ListN.{length, length-map, List·getD-eq-default}
 use lib.Seq.{ext-getD}
-use Rattle.lent.specs.Choice.{if_then_else_}
 use Rattle.lent.specs.Lists.{numbered}
 use Rattle.lent.specs.ListLaws.{numbered-length}
 use Rattle.pattern.specs.declared.Stretch.{Stretch}

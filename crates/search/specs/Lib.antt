@@ -2,3 +2,4 @@
 pub mod Search
 pub mod SearchLaws
 pub mod SearchRows
+pub mod SearchRowLaws

@@ -3,13 +3,12 @@ use Prim.Native.Nat.{ℕ, _+_, _≤_, _<_}
 use mathlib.Core.Path.{_≡_, refl, sym, ap, _∙_}
 use mathlib.Core.Logic.{_⊎_, inl, inr}
 use mathlib.Core.Bool.{Bool, true, false, not, _&&_, _||_, or-true}
-use mathlib.Core.List.{List, [], _∷_, _++_, map, List·Memᴰ·not-nil, List·Memᴰ·append-cases, List·Memᴰ·eq-of-singleton, Memᴰ·of-map}
-use borrow.Author.Tests.{leb-true, leb-false, le-leb, lt-leb}
-use lib.Dec.{eqb, leb}
+use mathlib.Core.List.{List, [], _++_, map, List·Memᴰ·not-nil, List·Memᴰ·append-cases, List·Memᴰ·eq-of-singleton, Memᴰ·of-map}
+use borrow.Author.Tests.{leb-false, le-leb, lt-leb}
+use lib.Dec.{leb}
 use lib.ListN.{length}
-use Rattle.lent.specs.declared.part.Part.{Part}
 use Rattle.lent.specs.Choice.{if_then_else_}
-use Rattle.lent.specs.Lists.{one, keep, joined, fold, numbered}
+use Rattle.lent.specs.Lists.{one, joined, numbered}
 use Rattle.lent.specs.Members.{_among_, of-keep, of-joined, of-fold, of-numbered}
 use Rattle.pattern.specs.declared.Seat.{Seat}
 use Rattle.pattern.specs.declared.Seat.the-variants.{Anywhere, Only}
@@ -38,10 +37,10 @@ tried-seated cells (Only address) at i = List·Memᴰ·eq-of-singleton i
 pub matched : (cells : List ℕ) (segments : List Collected) (m : Match) → m among allMatches cells segments → Matched cells segments m
 unfolding allMatches matches
 matched cells segments m i = rw (sym (q .2)) (record {
-    collected = of-numbered 0 segments (p .1);
-    matching = k .1;
-    seated = tried-seated cells (g .seat) (q .0) (k .0);
-  })
+  collected = of-numbered 0 segments (p .1);
+  matching = k .1;
+  seated = tried-seated cells (g .seat) (q .0) (k .0);
+})
   where
     p : (x : ℕ × Collected) × (x among numbered 0 segments) × (m among matchesOf cells x)
     p = of-joined (matchesOf cells) (numbered 0 segments) i
@@ -103,7 +102,7 @@ pub placed-by : (library cells : List ℕ) (a : Asked) (segments : List Collecte
 unfolding placed symbolsAt
 placed-by library cells a segments p i =
     start (of-fold (place library (length cells)) (λ new q. (q ≡ new) × (new .position < length cells)) (λ rows new. of-place library (length cells) rows new)
-      (joined (symbolsAt cells a segments) (allMatches cells segments)) [] i)
+    (joined (symbolsAt cells a segments) (allMatches cells segments)) [] i)
   where
     symbol : (m : Match) → m among allMatches cells segments → (new : Placing) → p ≡ new → new .position < length cells
         → (t : Bool) → new among (if t then [] else map (symbolAt a m) (m .segment .symbols)) → PlacedBy cells segments p

@@ -1,9 +1,7 @@
 -- What the lent rows of the search hold, as numbers. Each row has a link, by which rows are found without looking at all of them.
 use Prim.Native.Nat.{ℕ, _+_, _-_, _%_}
-use mathlib.Core.Bool.{Bool}
-use mathlib.Core.List.{List, [], _∷_, map}
+use mathlib.Core.List.{List, [], _∷_}
 use lib.Dec.{eqb}
-use lib.ListN.{getD}
 use Rattle.lent.specs.Choice.{if_then_else_}
 use Rattle.lent.specs.Lists.{joined}
 use Rattle.lent.specs.Rows.{flag}

@@ -3,7 +3,7 @@ use Prim.Native.Nat.{ℕ, _+_, _-_, _≤_, _<_}
 use mathlib.Core.Path.{_≡_, refl, sym, ap, _∙_}
 use mathlib.Core.Logic.{_⊎_, inl, inr}
 use mathlib.Core.Bool.{Bool, true, false, _&&_}
-use mathlib.Core.List.{List, [], _∷_, _++_, map, List·Memᴰ·not-nil, List·Memᴰ·append-cases, List·Memᴰ·eq-of-singleton, Memᴰ·of-map}
+use mathlib.Core.List.{List, [], _++_, map, List·Memᴰ·not-nil, List·Memᴰ·append-cases, List·Memᴰ·eq-of-singleton, Memᴰ·of-map}
 use native.Mathlib.Omega.{arith}
 use borrow.Author.Tests.{leb-true, ltb-true, eqb-true}
 use lib.Dec.{leb, ltb}
@@ -11,17 +11,17 @@ use lib.ListN.{length}
 use Rattle.lent.specs.declared.part.Part.{Part}
 use Rattle.lent.specs.Choice.{if_then_else_}
 use Rattle.lent.specs.ChoiceLaws.{both}
-use Rattle.lent.specs.Lists.{one, fold, numbered}
+use Rattle.lent.specs.Lists.{one, numbered}
 use Rattle.lent.specs.Members.{_among_, of-keep, of-joined, of-fold, of-numbered}
 use Rattle.fixup.specs.declared.Rules.{Rules}
-use Rattle.fixup.specs.declared.Rules.the-variants.{Found, Documented}
+use Rattle.fixup.specs.declared.Rules.the-variants.{Documented}
 use Rattle.omf51.specs.declared.ModuleId.{ModuleId}
 use Rattle.omf51.specs.declared.Definition.{Definition}
 use Rattle.omf51.specs.declared.Definition.the-variants.{Segment, Public, External}
 use Rattle.omf51.specs.declared.Content.{Content}
 use Rattle.omf51.specs.Module.{Section, Module}
 use Rattle.segments.specs.declared.Symbol.{Symbol}
-use Rattle.segments.specs.Ids.{sameId, kept, idOf, sizeOf}
+use Rattle.segments.specs.Ids.{sameId, kept, sizeOf}
 use Rattle.segments.specs.MaskLaws.{masks-length, filled-length}
 use Rattle.segments.specs.Collect.{Collected, symbolOf, symbolsOf, dataOf, dataMasks, sectionsOf, keptSegment, absoluteId, insideOf, symbolBase, absoluteSegment, moduleSegments, collect}
 

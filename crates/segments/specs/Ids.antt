@@ -1,6 +1,6 @@
 -- What the ids of a module mean: the kept segments, and the first definition of an id.
 use Prim.Native.Nat.{ℕ}
-use mathlib.Core.Bool.{Bool, true, false, not, _&&_}
+use mathlib.Core.Bool.{Bool, false, not, _&&_}
 use mathlib.Core.List.{List}
 use mathlib.Core.Option.{Option, none, some}
 use lib.Bits.{bitAnd}

@@ -7,3 +7,4 @@ pub mod MaskLaws
 pub mod Collect
 pub mod CollectLaws
 pub mod SegmentRows
+pub mod SegmentRowLaws

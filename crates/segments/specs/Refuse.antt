@@ -1,5 +1,5 @@
 -- Refusals 10 to 13: by module, content and fixup in file order, 12 after that content's fixups.
-use Prim.Native.Nat.{ℕ, _+_}
+use Prim.Native.Nat.{_+_}
 use mathlib.Core.Bool.{Bool, false, not, _&&_}
 use mathlib.Core.List.{List, _++_, map}
 use mathlib.Core.Option.{Option, none, some}
@@ -11,7 +11,7 @@ use Rattle.lent.specs.Lists.{one, joined}
 use Rattle.omf51.specs.declared.Content.{Content}
 use Rattle.omf51.specs.declared.Definition.{Definition}
 use Rattle.omf51.specs.declared.Fixup.{Fixup}
-use Rattle.omf51.specs.Module.{Section, Module}
+use Rattle.omf51.specs.Module.{Module}
 use Rattle.segments.specs.Ids.{anyKept, firstKept, named, isCode, sizeOf}
 
 -- refusal 13: a block-1 fixup names a code segment, and no kept segment has its id

@@ -1,16 +1,16 @@
 -- When each of 10 to 13 is given, in document 01's words. Assumes nothing.
-use Prim.Native.Nat.{ℕ, _+_, _≤_, _<_}
+use Prim.Native.Nat.{_+_, _≤_, _<_}
 use mathlib.Core.Path.{_≡_, refl, sym, ap, _∙_}
 use mathlib.Core.Logic.{_↔_, Iff·rfl}
 use mathlib.Core.Bool.{Bool, true, false, not, _&&_, false≢true}
-use mathlib.Core.List.{List, map}
+use mathlib.Core.List.{List}
 use mathlib.Core.Option.{Option, none, some}
 use native.Mathlib.Omega.{arith}
-use borrow.Author.Tests.{ltb-true, ltb-false, lt-ltb, eqb-true, eqb-false, eq-eqb, not-true, not-false}
+use borrow.Author.Tests.{ltb-true, ltb-false, lt-ltb, eqb-true, eqb-false, eq-eqb, not-true}
 use lib.Dec.{eqb, ltb}
 use Rattle.lent.specs.declared.refusal.Refusal.{Refusal}
 use Rattle.lent.specs.declared.refusal.Refusal.the-variants.{UnknownKind, UnknownBlock, ContentPastSegment, NoKeptSegment}
-use Rattle.lent.specs.Choice.{if_then_else_, when, leading}
+use Rattle.lent.specs.Choice.{when}
 use Rattle.lent.specs.ChoiceLaws.{chosen, both}
 use Rattle.lent.specs.Leading.{none≢some, First, leading-at}
 use Rattle.lent.specs.Refusals.{refusalNumber}

@@ -1,0 +1,122 @@
+-- Demand 1: what a run answers and what it leaves in lent memory. Assumes nothing.
+use Prim.Native.Nat.{ℕ, _≤_, _<_}
+use mathlib.Core.Path.{_≡_, refl}
+use mathlib.Core.Logic.{inl, inr}
+use native.Mathlib.Decide.{decLt}
+use mathlib.Core.List.{List}
+use mathlib.Core.Option.{Option, none, some}
+use native.Mathlib.Omega.{arith}
+use borrow.Author.Tests.{le-leb, lt-leb}
+use lib.ListN.{length, length-replicate}
+use Rattle.lent.specs.declared.refusal.Refusal.{Refusal}
+use Rattle.lent.specs.Choice.{leading}
+use Rattle.lent.specs.ListLaws.{rows-length}
+use Rattle.lent.specs.Refusals.{refusalNumber}
+use Rattle.lent.specs.RefusalLaws.{number-range}
+use Rattle.lent.specs.RowLaws.{fitting-length}
+use Rattle.pattern.specs.View.{view}
+use Rattle.fixup.specs.Target.{rulesOf}
+use Rattle.omf51.specs.File.{file, modulesIn}
+use Rattle.segments.specs.SegmentRows.{segmentWidth, referenceWidth, symbolWidth, segmentNumbers, referenceNumbers, symbolNumbers, patternBytes, patternMasks}
+use Rattle.segments.specs.SegmentRowLaws.{segments-take, references-take, symbols-take, bytes-take, masks-take}
+use Rattle.search.specs.SearchRows.{placedWidth, notedWidth, placedNumbers, notedNumbers}
+use Rattle.search.specs.SearchRowLaws.{placed-take, noted-take}
+use Rattle.listing.specs.Listing.{lineWidth, lineCells, lineNumbers}
+use Rattle.libfind.specs.declared.Settings.{Settings}
+use Rattle.libfind.specs.Run.{Lent, Yield, Outcome, stages, counted, refusals, zeroed, filledWith, outcomeOf, runSeen, run, numberOf, noCounts, countsOf}
+use Rattle.libfind.specs.Given.{NothingRefused}
+use Rattle.libfind.specs.Refused.{done-exactly}
+
+-- two sets of lent lists are as long as one another
+pub record SameLengths (a b : Lent) : Type 0 where
+  pub segments : length (a .segments) ≡ length (b .segments)
+  pub references : length (a .references) ≡ length (b .references)
+  pub symbols : length (a .symbols) ≡ length (b .symbols)
+  pub bytes : length (a .bytes) ≡ length (b .bytes)
+  pub masks : length (a .masks) ≡ length (b .masks)
+  pub placed : length (a .placed) ≡ length (b .placed)
+  pub noted : length (a .noted) ≡ length (b .noted)
+  pub lines : length (a .lines) ≡ length (b .lines)
+
+module _ (image library : List ℕ) (s : Settings) (lent : Lent) where
+  abbrev pub outcome : Outcome
+  outcome = run image library s lent
+
+  abbrev pub yielded : Yield
+  yielded = stages (view image (s .stretch)) library s
+
+  -- what an outcome has to be, by its number
+  pub record Sound (o : Outcome) : Type 0 where
+    -- on 0 the counts are the numbers of rows, and each lent list holds its stage's rows, the rest zero
+    pub counts-done : numberOf (o .answer) ≡ 0 → countsOf (o .answer) ≡ counted yielded
+    pub left-done : numberOf (o .answer) ≡ 0 → o .left ≡ filledWith yielded lent
+    -- every refusal has zero counts; 1 to 8 write nothing, and 9 to 13 set all to zero
+    pub counts-refused : 1 ≤ numberOf (o .answer) → countsOf (o .answer) ≡ noCounts
+    pub left-early : 1 ≤ numberOf (o .answer) → numberOf (o .answer) ≤ 8 → o .left ≡ lent
+    pub left-late : 9 ≤ numberOf (o .answer) → o .left ≡ zeroed lent
+
+  pub sound : Sound outcome
+  unfolding run runSeen
+  sound = go (leading (refusals (view image (s .stretch)) library s lent (counted yielded)))
+    where
+      go : (o : Option Refusal) → Sound (outcomeOf o yielded lent)
+      go none = record {
+        counts-done = λ e. refl;
+        left-done = λ e. refl;
+        counts-refused = λ h. absurd (omega arith);
+        left-early = λ h l. absurd (omega arith);
+        left-late = λ h. absurd (omega arith);
+      }
+      go (some r) = record {
+        counts-done = λ e. absurd (omega (arith, number-range r .0));
+        left-done = λ e. absurd (omega (arith, number-range r .0));
+        counts-refused = λ h. refl;
+        left-early = λ h l. rw (le-leb (refusalNumber r) 8 l);
+        left-late = λ h. rw (lt-leb (refusalNumber r) 8 h);
+      }
+
+  -- every lent list keeps its length: what is yielded fits
+  filled-lengths : NothingRefused image library s lent → SameLengths (filledWith yielded lent) lent
+  unfolding filledWith counted stages lineNumbers
+  filled-lengths h =
+      let rules = rulesOf (s .rules) in
+      let modules = modulesIn (file library) in
+      let room = h .reached .room in
+      let y = yielded in record {
+        segments = fitting-length (lent .segments) (segmentNumbers (y .segments)) segmentWidth _ (segments-take (y .segments)) (λ o. room (inl o));
+        references = fitting-length (lent .references) (referenceNumbers (y .segments)) referenceWidth _ (references-take (y .segments)) (λ o. room (inr (inl o)));
+        symbols = fitting-length (lent .symbols) (symbolNumbers (y .segments)) symbolWidth _ (symbols-take (y .segments)) (λ o. room (inr (inr (inl o))));
+        bytes = fitting-length (lent .bytes) (patternBytes (y .segments)) 1 _ (bytes-take (y .segments)) (λ o. room (inr (inr (inr (inl o)))));
+        masks = fitting-length (lent .masks) (patternMasks (y .segments)) 1 _ (masks-take rules library modules) (λ o. room (inr (inr (inr (inr o)))));
+        placed = fitting-length (lent .placed) (placedNumbers (y .placed)) placedWidth _ (placed-take (y .placed)) (λ o. h .searched (inl o));
+        noted = fitting-length (lent .noted) (notedNumbers (y .noted)) notedWidth _ (noted-take (y .noted)) (λ o. h .searched (inr o));
+        lines = fitting-length (lent .lines) (lineNumbers (y .lines)) lineWidth _ (rows-length lineWidth lineCells (λ l. refl) (y .lines)) (h .listed);
+      }
+
+  zero-lengths : SameLengths (zeroed lent) lent
+  unfolding zeroed
+  zero-lengths = record {
+    segments = length-replicate (length (lent .segments)) 0;
+    references = length-replicate (length (lent .references)) 0;
+    symbols = length-replicate (length (lent .symbols)) 0;
+    bytes = length-replicate (length (lent .bytes)) 0;
+    masks = length-replicate (length (lent .masks)) 0;
+    placed = length-replicate (length (lent .placed)) 0;
+    noted = length-replicate (length (lent .noted)) 0;
+    lines = length-replicate (length (lent .lines)) 0;
+  }
+
+  pub lengths-kept : SameLengths (outcome .left) lent
+  lengths-kept = go (decLt 0 n) (decLt 8 n)
+    where
+      n : ℕ
+      n = numberOf (outcome .answer)
+
+      go : Dec (0 < n) → Dec (8 < n) → SameLengths (outcome .left) lent
+      go (no l) d =
+          let done : n ≡ 0 = omega arith in
+          rw (sound .left-done done) (filled-lengths (done-exactly image library s lent .0 done))
+      go (yes l) (yes m) = rw (sound .left-late m) zero-lengths
+      go (yes l) (no m) =
+          rw (sound .left-early l (omega arith))
+          (record { segments = refl; references = refl; symbols = refl; bytes = refl; masks = refl; placed = refl; noted = refl; lines = refl })
