@@ -79,7 +79,8 @@ module _ (library cells : List ℕ) (modules : List Module) (m : Module) (i : m 
         matching = rw back t;
       }
 
-  own-absolute : (s : Section) → s among m .sections → s .content .id .0 ≡ 0 → (y : Symbol) (found : ℕ) → y among absoluteSegment Documented library m number s .symbols
+  own-absolute : (s : Section) → s among m .sections → s .content .id .0 ≡ 0 → (y : Symbol) (found : ℕ)
+      → y among absoluteSegment Documented library m number s .symbols
       → matchesAt cells (dataOf library s) (dataMasks library s) found ≡ true → found ≡ s .content .offset
       → OfAbsolute library cells modules (y .name) (found + y .offset)
   unfolding absoluteSegment

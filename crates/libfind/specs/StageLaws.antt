@@ -39,7 +39,7 @@ pub when-none : (t : Bool) (r : Refusal) → (when t r ≡ none) ↔ (t ≡ fals
 when-none true r = ((λ e. absurd (none≢some (sym e))), λ e. let z : _≡_ {A = ℕ} 0 1 = cc in absurd (omega arith))
 when-none false r = ((λ e. refl), λ e. refl)
 
-unfoldable pub when-stage : Bool → Refusal → Stage
+abbrev pub when-stage : Bool → Refusal → Stage
 when-stage t r = record { out = when t r; low = refusalNumber r; high = refusalNumber r; ranged = λ q e. go t q e }
   where
     go : (u : Bool) (q : Refusal) → when u r ≡ some q → (refusalNumber r ≤ refusalNumber q) × (refusalNumber q ≤ refusalNumber r)
@@ -47,7 +47,7 @@ when-stage t r = record { out = when t r; low = refusalNumber r; high = refusalN
     go false q e = absurd (none≢some e)
 
 -- reading refuses with 5 to 8; the collection with 10 to 13
-unfoldable pub reading-stage : List ℕ → Stage
+abbrev pub reading-stage : List ℕ → Stage
 reading-stage library = record { out = fileRefusal (file library); low = 5; high = 8; ranged = λ r e. go (file library) (file-reads library) r e }
   where
     by-reader : (r : Refusal) → OfReading r → (5 ≤ refusalNumber r) × (refusalNumber r ≤ 8)
@@ -70,7 +70,7 @@ reading-stage library = record { out = fileRefusal (file library); low = 5; high
     go stop h r e = (omega (arith, same-number e), omega (arith, same-number e))
     go (refused q) h r e = let p = by-reader q h in (omega (arith, same-number e, p .0), omega (arith, same-number e, p .1))
 
-unfoldable pub collecting-stage : List Module → Stage
+abbrev pub collecting-stage : List Module → Stage
 collecting-stage modules =
     record { out = collectRefusal modules; low = 10; high = 13; ranged = λ r e. (collect-late modules e, number-range r .1) }
 

@@ -72,11 +72,13 @@ module _ (library cells : List ℕ) (a : Asked) (segments : List Collected) (pla
           let y = Memᴰ·of-map notedLine (keep (λ n. eqb (n .target) at && n .valid) noted) j in
           absurd (omega (arith, ap (λ k. k .grade) (y .2)))
 
-  pub listed-of : (skip : Skip) {l : Line} → l among listing library cells a skip segments placed noted → 1 ≤ l .grade → OfPlaced library cells a segments placed noted l
+  pub listed-of : (skip : Skip) {l : Line} → l among listing library cells a skip segments placed noted → 1 ≤ l .grade
+      → OfPlaced library cells a segments placed noted l
   unfolding listing linesAt best leftovers
   listed-of skip {l} i h = go (List·Memᴰ·append-cases (joined (linesAt library cells a segments placed noted skip) (from 0 (length cells))) i)
     where
-      at-position : (at : ℕ) (t : Bool) → l among (if t then [] else sorted (λ x y. nameBefore library (x .name) (y .name)) (best (gradedAt library cells a segments placed noted at)))
+      at-position : (at : ℕ) (t : Bool)
+          → l among (if t then [] else sorted (λ x y. nameBefore library (x .name) (y .name)) (best (gradedAt library cells a segments placed noted at)))
           → OfPlaced library cells a segments placed noted l
       at-position at true j = absurd (List·Memᴰ·not-nil j)
       at-position at false j =

@@ -1,0 +1,147 @@
+"""How a case is stated over the definition. All that depends on the definition's names stands here."""
+import re
+from pathlib import Path
+
+# The crates whose specs/ hold the definition, each before those that use it.
+CRATES = ("lent", "pattern", "fixup", "omf51", "segments", "search", "listing", "libfind")
+
+IMPORTS = """use Prim.Native.Nat.{ℕ, zero, suc}
+use mathlib.Core.Path.{_≡_, refl}
+use mathlib.Core.Bool.{Bool, true, false}
+use mathlib.Core.List.{List, [], _∷_, map}
+use lib.ListN.{getD, drop, replicate}
+use Rattle.lent.specs.Parts.{bytesOf}
+use Rattle.listing.specs.declared.Skip.{Skip}
+use Rattle.listing.specs.declared.Skip.the-variants.{Never, Above}
+use Rattle.listing.specs.declared.Line.{Line}
+use Rattle.libfind.specs.declared.Settings.{Settings}
+use Rattle.libfind.specs.declared.Answer.{Answer}
+use Rattle.libfind.specs.declared.Answer.the-variants.{Done, Refused}
+use Rattle.libfind.specs.Run.{Lent, Outcome, numberOf, countsOf}
+"""
+
+# How many numbers are lent for the rows of a stage, and for the pattern memory. Much lent memory takes
+# long to compute, so little is lent at first, and much where a case then differs.
+LITTLE, MUCH = (700, 100), (10000, 150000)
+
+# What is compared of an outcome: the number, the list as it is left in lent memory with each name's
+# bytes, and the printed text. A refusal prints nothing.
+STATED = """
+pub record CaseLine : Type 0 where
+  pub address : ℕ
+  pub grade : ℕ
+  pub name : List ℕ
+
+pub record CaseListed : Type 0 where
+  pub number : ℕ
+  pub lines : List CaseLine
+
+pub record CaseShown : Type 0 where
+  pub listed : CaseListed
+  pub printed : List ℕ
+
+abbrev caseLine : ℕ → ℕ → List ℕ → CaseLine
+caseLine address grade name = record { address = address; grade = grade; name = name }
+
+abbrev caseLineOf : List ℕ → Line → CaseLine
+caseLineOf library l = caseLine (l .address) (l .grade) (bytesOf library (l .name))
+
+unfoldable pub caseLinesIn : ℕ → List ℕ → List Line
+caseLinesIn zero xs = []
+caseLinesIn (suc n) xs =
+    record { address = getD xs 0 0; grade = getD xs 1 0; name = record { at = getD xs 2 0; len = getD xs 3 0 } }
+    ∷ caseLinesIn n (drop 4 xs)
+
+abbrev caseLines : Outcome → List Line
+caseLines o = caseLinesIn (countsOf (o .answer) .lines) (o .left .lines)
+
+abbrev casePrinted : List ℕ → Answer → List Line → List ℕ
+casePrinted library (Done c) lines = printed library lines
+casePrinted library (Refused r) lines = []
+
+abbrev caseLent : Lent
+caseLent = record {
+  segments = replicate ROWS 7;
+  references = replicate ROWS 7;
+  symbols = replicate ROWS 7;
+  bytes = replicate PATTERN 7;
+  masks = replicate PATTERN 7;
+  placed = replicate ROWS 7;
+  noted = replicate ROWS 7;
+  lines = replicate ROWS 7;
+}
+
+abbrev caseSettings : Bool → ℕ → Skip → Settings
+caseSettings check minimum skip =
+    record { rules = 0; check = check; minimum = minimum; skip = skip; stretch = record { start = 0; len = 0 } }
+
+abbrev caseListedIn : List ℕ → Outcome → CaseListed
+caseListedIn library o = record { number = numberOf (o .answer); lines = map (caseLineOf library) (caseLines o) }
+
+abbrev caseShownIn : List ℕ → Outcome → CaseShown
+caseShownIn library o = record { listed = caseListedIn library o; printed = casePrinted library (o .answer) (caseLines o) }
+
+abbrev caseListed : List ℕ → List ℕ → Settings → CaseListed
+caseListed image library s = caseListedIn library (run image library s caseLent)
+
+abbrev caseShown : List ℕ → List ℕ → Settings → CaseShown
+caseShown image library s = caseShownIn library (run image library s caseLent)
+"""
+
+UNFOLDABLE = re.compile(r"^\s*unfoldable pub (\S+) :", re.MULTILINE)
+
+
+def unfoldable(repository):
+    """Every name that can be unfolded, by crate and file; all are, so that no list here grows old."""
+    found = []
+    for crate in CRATES:
+        for path in sorted(Path(repository, "crates", crate, "specs").glob("*.antt")):
+            names = UNFOLDABLE.findall(path.read_text(encoding="utf-8"))
+            if names:
+                found.append((crate, path.stem, names))
+    return found
+
+
+def own_names(found):
+    """The same, each with the name it gets here: one that stands here already is told apart by its file."""
+    seen = {name for names in re.findall(r"{(.*)}", IMPORTS) for name in names.split(", ")}
+    for crate, stem, names in found:
+        pairs = [(n, f"{n}-{crate}-{stem}" if n in seen else n) for n in names]
+        seen.update(names)
+        yield crate, stem, pairs
+
+
+def listing(numbers):
+    return "(" + " ∷ ".join([str(n) for n in numbers] + ["[]"]) + ")"
+
+
+def asked(case):
+    skip = "Never" if case.skip is None else f"(Above {case.skip})"
+    check = "true" if case.check else "false"
+    return f"{listing(case.image)} {listing(case.library)} (caseSettings {check} {case.minimum} {skip})"
+
+
+def answered(expected):
+    lines = listing(f"caseLine {address} {grade} {listing(name)}" for address, grade, name in expected.lines)
+    return f"record {{ number = {expected.number}; lines = {lines} }}"
+
+
+def statement(number, case, expected):
+    """What must be equal. Without a text to compare, only the number and the list are."""
+    if expected.text is None:
+        return f"pub case-{number} : caseListed {asked(case)}\n    ≡ {answered(expected)}"
+    said = f"record {{ listed = {answered(expected)}; printed = {listing(expected.text)} }}"
+    return f"pub case-{number} : caseShown {asked(case)}\n    ≡ {said}"
+
+
+def module(repository, batch, lent):
+    """A file of specs with one theorem a case; a batch holds (number, case, expected)."""
+    rows, pattern = lent
+    stated = STATED.replace("ROWS", str(rows)).replace("PATTERN", str(pattern))
+    uses, names = [], []
+    for crate, stem, pairs in own_names(unfoldable(repository)):
+        words = ", ".join(n if n == own else f"{n} as {own}" for n, own in pairs)
+        uses.append(f"use Rattle.{crate}.specs.{stem}.{{{words}}}\n")
+        names += [own for _, own in pairs]
+    theorems = [f"\n{statement(n, c, e)}\nunfolding caseLinesIn {' '.join(names)}\ncase-{n} = refl\n" for n, c, e in batch]
+    return IMPORTS + "".join(uses) + stated + "".join(theorems)
