@@ -1,5 +1,5 @@
 -- Laws of lists. Assumes nothing.
-use Prim.Native.Nat.{ℕ, zero, suc, _+_, _*_, _≤_, _<_}
+use Prim.Native.Nat.{ℕ, zero, suc, _+_, _-_, _*_, _≤_, _<_}
 use mathlib.Core.Path.{_≡_, refl, sym, ap, _∙_}
 use mathlib.Core.Logic.{_↔_}
 use mathlib.Core.Bool.{Bool, true, and-eq-true-iff}
@@ -9,6 +9,15 @@ use native.Mathlib.Nat.{suc-mul}
 use native.Mathlib.Omega.{arith}
 use lib.ListN.{length, length-append}
 use Rattle.lent.specs.Lists.{joined, all, from, numbered, total}
+
+-- a loop over the numbers up to n: keep, joined, fold, any and all compute at the result
+pub from-turn : (i n : ℕ) → i < n → from i (n - i) ≡ i ∷ from (i + 1) (n - (i + 1))
+unfolding from
+from-turn i n h = let e : n - i ≡ suc (n - (i + 1)) = omega arith in rw e
+
+pub from-end : (i n : ℕ) → n ≤ i → from i (n - i) ≡ []
+unfolding from
+from-end i n h = let e : n - i ≡ 0 = omega arith in rw e
 
 -- all the numbers from a on pass a test exactly if each does
 pub every : (p : ℕ → Bool) (a n : ℕ) → all p (from a n) ≡ true → (k : ℕ) → a ≤ k → k < a + n → p k ≡ true

@@ -1,5 +1,9 @@
--- What may be seen of an image, and where a masked pattern matches it.
+-- What may be seen of an image, and where a masked pattern matches it; each file of laws stands behind its definitions.
 pub mod View
 pub mod ViewLaws
 pub mod Match
 pub mod MatchLaws
+pub mod Window
+pub mod WindowLaws
+pub mod Next
+pub mod NextLaws

@@ -1,16 +1,18 @@
 -- Where a pattern matches, in words, and what the stretch takes away. Assumes nothing.
-use Prim.Native.Nat.{ℕ, _+_, _-_, _≤_, _<_}
+use Prim.Native.Nat.{ℕ, _+_, _-_, _≤_, _<_, min}
 use mathlib.Core.Path.{_≡_}
 use mathlib.Core.Logic.{_↔_}
 use mathlib.Core.Bool.{Bool, true, false, and-eq-true-iff, false≢true}
 use mathlib.Core.List.{List}
 use native.Mathlib.Omega.{arith}
-use borrow.Author.Tests.{leb-true, le-leb, ltb-true}
+use native.Mathlib.Nat.{sub-zero}
+use borrow.Author.Tests.{leb-true, le-leb, lt-leb, ltb-true, lt-ltb, eq-eqb, ne-eqb}
+use lib.Bits.{bitAnd, bitXor, and-zero-r}
 use lib.Dec.{leb}
-use lib.ListN.{length, getD}
+use lib.ListN.{length, getD, List·getD-eq-default}
 use Rattle.lent.specs.ChoiceLaws.{same-test}
 use Rattle.lent.specs.Lists.{all, from}
-use Rattle.lent.specs.ListLaws.{every, if-every}
+use Rattle.lent.specs.ListLaws.{from-turn, every, if-every}
 use Rattle.pattern.specs.declared.Stretch.{Stretch}
 use Rattle.pattern.specs.View.{view, cellAt, isByte}
 use Rattle.pattern.specs.ViewLaws.{Inside, view-length, view-inside, view-outside}
@@ -32,6 +34,35 @@ matches-at cells bytes masks at =
       }),
       (λ m. iff .1 (le-leb (at + length bytes) (length cells) (m .fits), if-every p 0 (length bytes) (λ i l h. m .agree i (omega arith)))),
     )
+
+-- one that does not fit matches nowhere; the rest of a match, from the pattern's byte i on, by which a loop goes
+module _ (cells bytes masks : List ℕ) (at : ℕ) where
+  abbrev pub restAgrees : ℕ → Bool
+  restAgrees i = all (λ k. agrees (cellAt cells (at + k)) (getD bytes k 0) (getD masks k 0)) (from i (length bytes - i))
+
+  pub match-past : length cells < at + length bytes → matchesAt cells bytes masks at ≡ false
+  unfolding matchesAt
+  match-past h = rw (lt-leb (at + length bytes) (length cells) h)
+
+  pub match-fits : at + length bytes ≤ length cells → restAgrees 0 ≡ matchesAt cells bytes masks at
+  unfolding matchesAt
+  match-fits h = rw (le-leb (at + length bytes) (length cells) h, sub-zero)
+
+  pub rest-fails : (i : ℕ) → i < length bytes → cellAt cells (at + i) < 256
+      → (bitAnd (bitXor (cellAt cells (at + i)) (getD bytes i 0)) (getD masks i 0) ≡ 0 → ⊥) → restAgrees i ≡ false
+  unfolding all
+  rest-fails i h b ne = rw (from-turn i (length bytes) h, lt-ltb (cellAt cells (at + i)) 256 b, ne-eqb _ 0 ne)
+
+  pub rest-turn : (i : ℕ) → i < length bytes → cellAt cells (at + i) < 256
+      → bitAnd (bitXor (cellAt cells (at + i)) (getD bytes i 0)) (getD masks i 0) ≡ 0 → restAgrees i ≡ restAgrees (i + 1)
+  unfolding all
+  rest-turn i h b e = rw (from-turn i (length bytes) h, lt-ltb (cellAt cells (at + i)) 256 b, eq-eqb _ 0 e)
+
+  -- where the pattern or its masks end, nothing disagrees any more
+  pub rest-ends : (i : ℕ) → min (length bytes) (length masks) ≤ i → ((k : ℕ) → cellAt cells k < 256) → restAgrees i ≡ true
+  rest-ends i h b = if-every _ i (length bytes - i) λ k l m.
+      let mask : getD masks k 0 ≡ 0 = List·getD-eq-default masks 0 (omega arith) in
+      rw (lt-ltb (cellAt cells (at + k)) 256 (b (at + k)), mask, and-zero-r)
 
 -- n bytes from a place on share none with the stretch
 abbrev pub Apart : ℕ → ℕ → Stretch → Type 0
