@@ -6,16 +6,19 @@ use mathlib.Core.Bool.{Bool, true, false, and-eq-true-iff, false≢true}
 use mathlib.Core.List.{List}
 use native.Mathlib.Decide.{decLe, decLt}
 use native.Mathlib.Omega.{arith}
-use borrow.Author.Tests.{leb-true, le-leb, ltb-true, lt-ltb}
+use borrow.Author.Tests.{leb-true, le-leb, lt-leb, ltb-true, lt-ltb}
 use lib.Dec.{leb}
 use lib.ListN.{length}
 use Rattle.lent.specs.Choice.{if_then_else_}
+use Rattle.lent.specs.ChoiceLaws.{both, same-test}
 use Rattle.lent.specs.Lists.{all, from}
 use Rattle.lent.specs.ListLaws.{every, if-every}
 use Rattle.pattern.specs.declared.Stretch.{Stretch}
 use Rattle.pattern.specs.View.{view, cellAt, isByte}
 use Rattle.pattern.specs.ViewLaws.{Inside, view-length, view-inside, view-outside}
 use Rattle.pattern.specs.MatchLaws.{Apart}
+use Rattle.pattern.specs.Window.{isApart}
+use Rattle.pattern.specs.WindowLaws.{is-apart}
 use Rattle.fixup.specs.declared.Rules.{Rules}
 use Rattle.fixup.specs.declared.Kind.{Kind}
 use Rattle.fixup.specs.declared.Target.the-variants.{At, Nowhere}
@@ -48,6 +51,22 @@ readable-seen image s bytes pos n =
             (rw (view-outside image s (pos + k) (h .1 (pos + k) (omega arith) (omega arith))) (bytes (pos + k)))),
       )),
     )
+
+-- the code's answers: past the end, and else by the window
+pub readable-past : (cells : List ℕ) (pos n : ℕ) → length cells < pos + n → readable cells pos n ≡ false
+unfolding readable
+readable-past cells pos n h = rw (lt-leb (pos + n) (length cells) h)
+
+pub readable-window : (image : List ℕ) (s : Stretch) → Bytes image → (pos n : ℕ) → pos + n ≤ length image → readable (view image s) pos n ≡ isApart s pos n
+readable-window image s bytes pos n l =
+    same-test (readable (view image s) pos n) (isApart s pos n)
+    (λ e. is-apart s pos n .1 (readable-seen image s bytes pos n .0 e .1)) (λ e. readable-seen image s bytes pos n .1 (l, is-apart s pos n .0 e))
+
+pub readable-fits : (image : List ℕ) (s : Stretch) (pos n : ℕ) → readable (view image s) pos n ≡ true → pos + n ≤ length image
+unfolding readable
+readable-fits image s pos n e =
+    let p = both (leb (pos + n) (length (view image s))) _ e in
+    omega (arith, leb-true (pos + n) (length (view image s)) (p .0), view-length image s)
 
 -- a reference has no target exactly if its bytes pass the image's end or touch the stretch
 abbrev pub Touches : ℕ → ℕ → Stretch → Type 0
