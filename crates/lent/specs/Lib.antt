@@ -6,6 +6,7 @@ pub mod Lists
 pub mod ListLaws
 pub mod Members
 pub mod Parts
+pub mod PartLaws
 pub mod Refusals
 pub mod RefusalLaws
 pub mod Rows
