@@ -1,4 +1,6 @@
 // OMF-51 library files: what their records say.
+ghost use mathlib.Core.Path.{_≡_};
+ghost use Rattle.omf51.specs.Entry.{segmentSize};
 use lent::part::Part;
 
 // An id as a module numbers its segments, and its externals. It means nothing outside its module.
@@ -46,4 +48,17 @@ pub struct Fixup {
     pub block: u8,
     pub id: ModuleId,
     pub offset: usize,
+}
+
+// A segment's size: info bit 80h gives 0, otherwise stored 0 means 65,536.
+pub fn segment_size(info: u8, stored: u16) -> usize
+    ensures { λ r. ⌜ r ≡ segmentSize info stored ⌝ }
+{
+    if info & 0x80 == 0x80 {
+        return 0;
+    }
+    if stored == 0 {
+        return 65536;
+    }
+    stored as usize
 }

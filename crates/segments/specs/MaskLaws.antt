@@ -4,8 +4,9 @@ use mathlib.Core.Path.{_≡_, refl, sym, ap, _∙_}
 use mathlib.Core.List.{List, [], _∷_, _++_}
 use native.Mathlib.Omega.{arith}
 use lib.Bits.{bitOr, or-zero-r}
+use borrow.Author.Tests.{eq-eqb, ne-eqb}
 use lib.Dec.{eqb}
-use lib.ListN.{length, getD, take, drop, replicate, length-append, length-take, length-drop, length-set, length-replicate, List·getD-append}
+use lib.ListN.{length, getD, take, drop, set, replicate, length-append, length-take, length-drop, length-set, length-replicate, List·getD-append}
 use lib.Seq.{getD-take, getD-drop, getD-append-add, length-take-le}
 use Rattle.lent.specs.ChoiceLaws.{chosen}
 use Rattle.lent.specs.Lists.{fold}
@@ -35,6 +36,20 @@ masks-length n fixups = fold-keeps (λ m. length m ≡ n) masked step fixups (re
         chosen P (eqb (f .block) 3) (λ t. e) λ t.
         chosen P (eqb (f .kind) (kindNumber Word)) (λ u. simp length-set e) λ u.
         chosen P (eqb (f .kind) (kindNumber Inblock)) (λ v. simp length-set e) (λ v. simp length-set e)
+
+-- what a fixup makes of masks, by the tests of the code
+module _ (masks : List ℕ) (f : Fixup) where
+  pub mask-ignored : f .block ≡ 3 → masks ≡ masked masks f
+  mask-ignored b = rw (eq-eqb (f .block) 3 b)
+
+  pub mask-word : (f .block ≡ 3 → ⊥) → f .kind ≡ 4 → set (set masks (f .location) 0) (f .location + 1) 0 ≡ masked masks f
+  mask-word b k = rw (ne-eqb (f .block) 3 b, k)
+
+  pub mask-inblock : (f .block ≡ 3 → ⊥) → f .kind ≡ 5 → set (set masks (f .location) 0x1f) (f .location + 1) 0 ≡ masked masks f
+  mask-inblock b k = rw (ne-eqb (f .block) 3 b, k)
+
+  pub mask-other : (f .block ≡ 3 → ⊥) → (f .kind ≡ 4 → ⊥) → (f .kind ≡ 5 → ⊥) → set masks (f .location) 0 ≡ masked masks f
+  mask-other b w k = rw (ne-eqb (f .block) 3 b, ne-eqb (f .kind) 4 w, ne-eqb (f .kind) 5 k)
 
 -- merging keeps a pattern's length
 ored-length : (old new : List ℕ) → length (ored old new) ≡ length old

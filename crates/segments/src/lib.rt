@@ -1,4 +1,6 @@
 // Segments to be searched for, as they are collected from the modules.
+pub mod masks;
+
 use fixup::Kind;
 use lent::part::Part;
 use pattern::Seat;
