@@ -3,20 +3,9 @@ use lib.ListN.{List·getD-eq-default}
 use borrow.Author.Needs.{needs}
 use Rattle.fixup.proofs.byte_at.Statement.{statement}
 use Rattle.fixup.proofs.byte_at.Tie as tie
-use Rattle.fixup.proofs.byte_at.Reads as reads
-use Rattle.fixup.proofs.byte_at.Lts as lts
 
--- src/lib.rt:98:16
-shared-slice-read-result : tie.Need-shared-slice-read-result
-shared-slice-read-result c = search needs
-
--- src/lib.rt:98:9
-returns : tie.Need-returns
-returns c = search needs
-
--- src/lib.rt:94:1
 returns-2 : tie.Need-returns-2
 returns-2 c = sym (List·getD-eq-default (c .before .args .image .now) 0 (c .if1 .left))
 
 pub byte-at-spec : {M : Type 1} → statement M
-byte-at-spec = tie.close (tie.spec shared-slice-read-result returns returns-2)
+byte-at-spec = tie.close (tie.spec (λ c. search needs) (λ c. search needs) returns-2)

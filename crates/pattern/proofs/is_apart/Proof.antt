@@ -1,31 +1,20 @@
 use mathlib.Core.Path.{sym}
-use native.Mathlib.Omega.{arith}
 use Rattle.pattern.specs.WindowLaws.{no-window, no-stretch, window-before, window-after}
 use borrow.Author.Needs.{needs}
 use Rattle.pattern.proofs.is_apart.Statement.{statement}
 use Rattle.pattern.proofs.is_apart.Tie as tie
-use Rattle.pattern.proofs.is_apart.Reads as reads
-use Rattle.pattern.proofs.is_apart.Lts as lts
 
--- src/lib.rt:41:9
 returns : tie.Need-returns
 returns c = let a = c .before .args in sym (no-window (a .s) (a .at) (a .n) (c .if1 .taken))
 
--- src/lib.rt:44:9
 returns-2 : tie.Need-returns-2
 returns-2 c = let a = c .before .before .args in sym (no-stretch (a .s) (a .at) (a .n) (c .if2 .taken))
 
--- src/lib.rt:47:21
-sub-result : tie.Need-sub-result
-sub-result c = search needs
-
--- src/lib.rt:47:9
 returns-3 : tie.Need-returns-3
 returns-3 c = let a = c .before .before .before .args in sym (window-before (a .s) (a .at) (a .n) (c .if3 .taken) (c .before .if2 .left))
 
--- src/lib.rt:35:1
 returns-4 : tie.Need-returns-4
 returns-4 c = let a = c .before .before .before .args in sym (window-after (a .s) (a .at) (a .n) (c .if3 .left) (c .before .before .if1 .left))
 
 pub is-apart-spec : {M : Type 1} → statement M
-is-apart-spec = tie.close (tie.spec returns returns-2 sub-result returns-3 returns-4)
+is-apart-spec = tie.close (tie.spec returns returns-2 (λ c. search needs) returns-3 returns-4)

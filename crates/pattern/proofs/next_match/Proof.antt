@@ -1,4 +1,4 @@
-use Prim.Native.Nat.{ℕ, _+_, _-_, _≤_}
+use Prim.Native.Nat.{ℕ, _+_, _-_}
 use mathlib.Core.Path.{_≡_, refl, sym, _∙_}
 use mathlib.Core.List.{List}
 use native.Mathlib.Omega.{arith}
@@ -11,9 +11,6 @@ use Rattle.pattern.specs.Next.{nextMatch}
 use Rattle.pattern.specs.NextLaws.{next-match, next-other, next-past}
 use Rattle.pattern.proofs.next_match.Statement.{statement}
 use Rattle.pattern.proofs.next_match.Tie as tie
-use Rattle.pattern.proofs.next_match.Reads as reads
-use Rattle.pattern.proofs.next_match.Lts as lts
-use Rattle.pattern.proofs.match_at.Reads as match-at-reads
 
 record Inv (image : List ℕ) (s : Stretch) (bytes masks : List ℕ) (from last at : ℕ) : Type 0 where
   last-is : last + length bytes ≡ length image
@@ -25,7 +22,6 @@ Inv-loop image s bytes masks from last at₀ at = Inv image s bytes masks from l
 abbrev μ-loop : tie.MeasureT-loop
 μ-loop image s bytes masks from last at₀ at = last + 1 - at
 
--- src/lib.rt:88:9
 returns : tie.Need-returns Inv-loop μ-loop
 returns c =
     let a = c .before .before .before .before .args in
@@ -33,19 +29,9 @@ returns c =
     let long = view-length (a .image .now) (a .s) in
     sym (next-past cells (a .bytes .now) (a .masks .now) (a .from) (omega (arith, long)))
 
--- src/lib.rt:90:16
-sub-last : tie.Need-sub-last Inv-loop μ-loop
-sub-last c = search needs
-
--- src/lib.rt:92:5
 loop-holds : tie.Need-loop-holds Inv-loop μ-loop
 loop-holds c = record { last-is = omega arith; same = refl }
 
--- src/lib.rt:93:12
-match-at-requires : tie.Need-match-at-requires Inv-loop μ-loop
-match-at-requires c κs = search needs
-
--- src/lib.rt:94:13
 returns-2 : tie.Need-returns-2 Inv-loop μ-loop
 returns-2 c =
     let a = c .before .before .before .before .before .before .before .before .args in
@@ -54,7 +40,6 @@ returns-2 c =
     let long = view-length (a .image .now) (a .s) in
     sym (next-match cells (a .bytes .now) (a .masks .now) (l .at) (omega (arith, long)) (sym (c .before .match-at .ensures) ∙ c .if2 .taken)) ∙ l .inv .same
 
--- src/lib.rt:97:13
 returns-3 : tie.Need-returns-3 Inv-loop μ-loop
 returns-3 c =
     let a = c .before .before .before .before .before .before .before .before .before .args in
@@ -65,15 +50,6 @@ returns-3 c =
     ∙ sym (next-other cells (a .bytes .now) (a .masks .now) (l .at) (omega (arith, long)) (sym (c .before .before .match-at .ensures) ∙ c .before .if2 .left))
     ∙ l .inv .same
 
--- src/lib.rt:99:9
-add-at : tie.Need-add-at Inv-loop μ-loop
-add-at c = search needs
-
--- src/lib.rt:92:5
-loop-less : tie.Need-loop-less Inv-loop μ-loop
-loop-less c = search needs
-
--- src/lib.rt:92:5
 loop-again : tie.Need-loop-again Inv-loop μ-loop
 loop-again c =
     let a = c .before .before .before .before .before .before .before .before .before .args in
@@ -86,7 +62,6 @@ loop-again c =
       same = sym (next-other cells (a .bytes .now) (a .masks .now) (l .at) (omega (arith, long)) missed) ∙ l .inv .same;
     }
 
--- src/lib.rt:84:1
 returns-4 : tie.Need-returns-4 Inv-loop μ-loop
 returns-4 c =
     let a = c .before .before .before .before .before .before .args in
@@ -102,12 +77,12 @@ next-match-spec =
     Inv-loop
     μ-loop
     returns
-    sub-last
+    (λ c. search needs)
     loop-holds
-    match-at-requires
+    (λ c κs. search needs)
     returns-2
     returns-3
-    add-at
-    loop-less
+    (λ c. search needs)
+    (λ c. search needs)
     loop-again
     returns-4)

@@ -8,9 +8,6 @@ use Rattle.pattern.specs.Match.{matchesAt}
 use Rattle.pattern.specs.MatchLaws.{restAgrees, match-past, match-fits, rest-fails, rest-turn, rest-ends}
 use Rattle.pattern.proofs.stands_at.Statement.{statement}
 use Rattle.pattern.proofs.stands_at.Tie as tie
-use Rattle.pattern.proofs.stands_at.Reads as reads
-use Rattle.pattern.proofs.stands_at.Lts as lts
-use Rattle.pattern.proofs.shorter.Reads as shorter-reads
 
 record Inv (image bytes masks : List ℕ) (at n i : ℕ) : Type 0 where
   inside : i ≤ n
@@ -24,43 +21,15 @@ Inv-loop image bytes masks at n i₀ i = Inv image bytes masks at n i
 abbrev μ-loop : tie.MeasureT-loop
 μ-loop image bytes masks at n i₀ i = n - i
 
--- src/lib.rt:57:9
 returns : tie.Need-returns Inv-loop μ-loop
 returns c = sym (match-past _ _ _ _ (omega arith))
 
--- src/lib.rt:59:8
-sub-if2 : tie.Need-sub-if2 Inv-loop μ-loop
-sub-if2 c = search needs
-
--- src/lib.rt:60:9
 returns-2 : tie.Need-returns-2 Inv-loop μ-loop
 returns-2 c = sym (match-past _ _ _ _ (omega arith))
 
--- src/lib.rt:62:9
-shorter-requires : tie.Need-shorter-requires Inv-loop μ-loop
-shorter-requires c κs = search needs
-
--- src/lib.rt:64:5
 loop-holds : tie.Need-loop-holds Inv-loop μ-loop
 loop-holds c = record { inside = search needs; most = search needs; fits = search needs; same = match-fits _ _ _ _ (omega arith) }
 
--- src/lib.rt:65:19
-add-if3 : tie.Need-add-if3 Inv-loop μ-loop
-add-if3 c = search needs
-
--- src/lib.rt:65:13
-shared-slice-read-if3 : tie.Need-shared-slice-read-if3 Inv-loop μ-loop
-shared-slice-read-if3 c = search needs
-
--- src/lib.rt:65:29
-shared-slice-read-if3-2 : tie.Need-shared-slice-read-if3-2 Inv-loop μ-loop
-shared-slice-read-if3-2 c = search needs
-
--- src/lib.rt:65:41
-shared-slice-read-if3-3 : tie.Need-shared-slice-read-if3-3 Inv-loop μ-loop
-shared-slice-read-if3-3 c = search needs
-
--- src/lib.rt:66:13
 returns-3 : tie.Need-returns-3 Inv-loop μ-loop
 returns-3 c =
     let a = c .before .before .before .before .before .before .before .before .before .before .before .before .args in
@@ -68,15 +37,6 @@ returns-3 c =
     let byte = c .before .before .before .shared-slice-known4 .given (a .at + l .i) in
     sym (rest-fails (a .image .now) (a .bytes .now) (a .masks .now) (a .at) (l .i) (omega arith) (omega (arith, byte)) (c .if3 .taken)) ∙ l .inv .same
 
--- src/lib.rt:68:9
-add-i : tie.Need-add-i Inv-loop μ-loop
-add-i c = search needs
-
--- src/lib.rt:64:5
-loop-less : tie.Need-loop-less Inv-loop μ-loop
-loop-less c = search needs
-
--- src/lib.rt:64:5
 loop-again : tie.Need-loop-again Inv-loop μ-loop
 loop-again c =
     let a = c .before .before .before .before .before .before .before .before .before .before .before .before .args in
@@ -89,7 +49,6 @@ loop-again c =
       same = sym (rest-turn (a .image .now) (a .bytes .now) (a .masks .now) (a .at) (l .i) (omega arith) (omega (arith, byte)) (c .if3 .left)) ∙ l .inv .same;
     }
 
--- src/lib.rt:53:1
 returns-4 : tie.Need-returns-4 Inv-loop μ-loop
 returns-4 c =
     let a = c .before .before .before .before .before .before .before .before .args in
@@ -103,16 +62,16 @@ stands-at-spec =
     Inv-loop
     μ-loop
     returns
-    sub-if2
+    (λ c. search needs)
     returns-2
-    shorter-requires
+    (λ c κs. search needs)
     loop-holds
-    add-if3
-    shared-slice-read-if3
-    shared-slice-read-if3-2
-    shared-slice-read-if3-3
+    (λ c. search needs)
+    (λ c. search needs)
+    (λ c. search needs)
+    (λ c. search needs)
     returns-3
-    add-i
-    loop-less
+    (λ c. search needs)
+    (λ c. search needs)
     loop-again
     returns-4)

@@ -1,4 +1,4 @@
-use Prim.Native.Nat.{ℕ, _+_, _-_, _≤_}
+use Prim.Native.Nat.{ℕ, _-_, _≤_}
 use mathlib.Core.Path.{_≡_, refl, sym, _∙_}
 use mathlib.Core.List.{List}
 use native.Mathlib.Omega.{arith}
@@ -8,8 +8,6 @@ use Rattle.lent.specs.Parts.{before}
 use Rattle.lent.specs.PartLaws.{before-turn, before-differs, before-longer, before-ends}
 use Rattle.lent.proofs.names.before.Statement.{statement}
 use Rattle.lent.proofs.names.before.Tie as tie
-use Rattle.lent.proofs.names.before.Reads as reads
-use Rattle.lent.proofs.names.before.Lts as lts
 
 record Inv (a b : List ℕ) (i : ℕ) : Type 0 where
   inside : i ≤ length a
@@ -21,49 +19,21 @@ Inv-loop a b i₀ i = Inv a b i
 abbrev μ-loop : tie.MeasureT-loop
 μ-loop a b i₀ i = length b - i
 
--- src/names.rt:43:5
 loop-holds : tie.Need-loop-holds Inv-loop μ-loop
 loop-holds c = record { inside = search needs; alike = refl }
 
--- src/names.rt:45:13
 returns : tie.Need-returns Inv-loop μ-loop
 returns c =
     let a = c .before .before .before .args in
     let l = c .before .before .loop in
     sym (before-longer (a .a .now) (a .b .now) (l .i) (omega arith) (omega arith)) ∙ l .inv .alike
 
--- src/names.rt:47:12
-shared-slice-read-if2 : tie.Need-shared-slice-read-if2 Inv-loop μ-loop
-shared-slice-read-if2 c = search needs
-
--- src/names.rt:47:20
-shared-slice-read-if2-2 : tie.Need-shared-slice-read-if2-2 Inv-loop μ-loop
-shared-slice-read-if2-2 c = search needs
-
--- src/names.rt:48:20
-shared-slice-read-result : tie.Need-shared-slice-read-result Inv-loop μ-loop
-shared-slice-read-result c = search needs
-
--- src/names.rt:48:27
-shared-slice-read-result-2 : tie.Need-shared-slice-read-result-2 Inv-loop μ-loop
-shared-slice-read-result-2 c = search needs
-
--- src/names.rt:48:13
 returns-2 : tie.Need-returns-2 Inv-loop μ-loop
 returns-2 c =
     let a = c .before .before .before .before .before .before .before .before .args in
     let l = c .before .before .before .before .before .before .before .loop in
     sym (before-differs (a .a .now) (a .b .now) (l .i) (omega arith) (omega arith) (c .before .before .if2 .taken)) ∙ l .inv .alike
 
--- src/names.rt:50:9
-add-i : tie.Need-add-i Inv-loop μ-loop
-add-i c = search needs
-
--- src/names.rt:43:5
-loop-less : tie.Need-loop-less Inv-loop μ-loop
-loop-less c = search needs
-
--- src/names.rt:43:5
 loop-again : tie.Need-loop-again Inv-loop μ-loop
 loop-again c =
     let a = c .before .before .before .before .before .before .args in
@@ -73,7 +43,6 @@ loop-again c =
       alike = sym (before-turn (a .a .now) (a .b .now) (l .i) (omega arith) (omega arith) (c .if2 .left)) ∙ l .inv .alike;
     }
 
--- src/names.rt:39:1
 returns-3 : tie.Need-returns-3 Inv-loop μ-loop
 returns-3 c =
     let a = c .before .before .args in
@@ -88,12 +57,12 @@ before-spec =
     μ-loop
     loop-holds
     returns
-    shared-slice-read-if2
-    shared-slice-read-if2-2
-    shared-slice-read-result
-    shared-slice-read-result-2
+    (λ c. search needs)
+    (λ c. search needs)
+    (λ c. search needs)
+    (λ c. search needs)
     returns-2
-    add-i
-    loop-less
+    (λ c. search needs)
+    (λ c. search needs)
     loop-again
     returns-3)
