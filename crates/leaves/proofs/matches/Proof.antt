@@ -1,0 +1,32 @@
+use Prim.Native.Nat.{_-_, _≤_}
+use borrow.Author.Needs.{needs}
+use Rattle.leaves.proofs.matches.Statement.{statement}
+use Rattle.leaves.proofs.matches.Tie as tie
+
+abbrev Inv-loop : tie.InvT-loop
+Inv-loop image s bytes masks at₀ t7 t8 counter₀ at counter = counter ≤ 16
+
+abbrev μ-loop : tie.MeasureT-loop
+μ-loop image s bytes masks at₀ t7 t8 counter₀ at counter = 16 - counter
+
+pub matches-spec : {M : Type 1} → statement M
+matches-spec =
+    tie.close
+    (tie.spec
+    Inv-loop
+    μ-loop
+    (λ c. search needs)
+    (λ c κs. search needs)
+    (λ c. search needs)
+    (λ c κs. search needs)
+    (λ c κs. search needs)
+    (λ c. search needs)
+    (λ c. search needs)
+    (λ c κs. search needs)
+    (λ c. search needs)
+    (λ c. search needs)
+    (λ c. search needs)
+    (λ c. search needs)
+    (λ c. search needs)
+    (λ c κs. search needs)
+    (λ c. search needs))

@@ -1,0 +1,281 @@
+// Small examples of the leaves, run and compared: document 01's P1 to P14, jumps and calls of the MCS-51 manual, and limits.
+use fixup::Kind;
+use fixup::Rules;
+use fixup::Target;
+use lent::part::Part;
+use libc::STDOUT_FILENO;
+use omf51::Fixup;
+use omf51::ModuleId;
+use pattern::Found;
+use pattern::Stretch;
+
+fn say(text: &[u8]) {
+    io::write_all(STDOUT_FILENO, text);
+}
+
+fn number(n: usize) {
+    say(b" ");
+    io::print_decimal(STDOUT_FILENO, n as u64);
+}
+
+fn byte(x: u8) {
+    number(x as usize);
+}
+
+fn answer(yes: bool) {
+    if yes {
+        say(b" yes");
+    } else {
+        say(b" no");
+    }
+}
+
+// All matches, ascending; more than 16 are not shown.
+fn matches(image: &[u8], s: Stretch, bytes: &[u8], masks: &[u8]) {
+    let mut at = 0;
+    for _ in 0..16 {
+        match pattern::next_match(image, s, bytes, masks, at) {
+            Found::At(p) => {
+                number(p);
+                at = std::num::wrapping_add_usize(p, 1);
+            }
+            Found::Nothing => {
+                say(b"\n");
+                return;
+            }
+        }
+    }
+    say(b" and more\n");
+}
+
+fn target(image: &[u8], s: Stretch, rules: Rules, pos: usize, kind: Kind, offset: u64) {
+    match fixup::find_target(image, s, rules, pos, kind, offset) {
+        Target::At(t) => {
+            say(b" 0x");
+            io::print_hex(STDOUT_FILENO, t, 4);
+        }
+        Target::Nowhere => {
+            say(b" no target");
+        }
+    }
+}
+
+fn plain() -> Stretch {
+    Stretch { start: 0, len: 0 }
+}
+
+// P1 to P5 and P14.
+fn patterns() {
+    say(b"P1");
+    matches(b"\x07\x08", plain(), b"", b"");
+    say(b"P2");
+    matches(b"", plain(), b"", b"");
+    say(b"P3");
+    matches(b"\x07\x08", plain(), b"\x07\x08\x09", b"\xff\xff\xff");
+    let image = b"\x41\x42\x43\x41\x00\x43";
+    say(b"P4");
+    matches(image, plain(), b"\x41\x00\x43", b"\xff\x00\xff");
+    say(b"P5");
+    answer(pattern::stands_at(b"\xe1", b"\x01", b"\x1f", 0));
+    answer(pattern::stands_at(b"\x11", b"\x01", b"\x1f", 0));
+    say(b"\nP14");
+    matches(
+        image,
+        Stretch { start: 4, len: 1 },
+        b"\x41\x00\x43",
+        b"\xff\x00\xff",
+    );
+}
+
+fn by_both_rules(image: &[u8; 2048], pos: usize, kind: Kind) {
+    target(image, plain(), Rules::Found, pos, kind, 0);
+    target(image, plain(), Rules::Documented, pos, kind, 0);
+    say(b"\n");
+}
+
+// Two bytes at a place of an image that is zero elsewhere, read by both rule sets.
+fn both(pos: usize, kind: Kind, a: u8, b: u8) {
+    let mut image = [0u8; 2048];
+    if pos < 2047 {
+        image[pos] = a;
+        image[pos + 1] = b;
+    }
+    by_both_rules(&image, pos, kind);
+}
+
+// P6 to P10.
+fn targets() {
+    say(b"P6");
+    both(0x0100, Kind::Inblock, 0xe1, 0x34);
+    say(b"P7");
+    both(0x07fe, Kind::Inblock, 0x01, 0x34);
+    say(b"P8");
+    both(0x0010, Kind::Relative, 0xfe, 0);
+    say(b"P9");
+    both(0, Kind::Relative, 0xfe, 0);
+    say(b"P10");
+    target(b"\x00\x00\x00\x12", plain(), Rules::Found, 3, Kind::Word, 0);
+    target(
+        b"\x00\x00\x00\x12\x34",
+        plain(),
+        Rules::Found,
+        3,
+        Kind::Word,
+        0,
+    );
+    say(b"\n");
+}
+
+// The manual's own: AJMP at 0345h to 0123h, ACALL at 0123h to 0345h, SJMP at 0100h to 0123h, LJMP at 0123h to 1234h.
+fn manual() {
+    say(b"AJMP");
+    both(0x0345, Kind::Inblock, 0x21, 0x23);
+    say(b"ACALL");
+    both(0x0123, Kind::Inblock, 0x71, 0x45);
+    say(b"SJMP");
+    both(0x0101, Kind::Relative, 0x21, 0);
+    say(b"LJMP");
+    both(0x0124, Kind::Word, 0x12, 0x34);
+}
+
+fn fixup_at(location: usize, kind: u8, block: u8) -> Fixup {
+    Fixup {
+        location,
+        kind,
+        block,
+        id: ModuleId(1),
+        offset: 0,
+    }
+}
+
+fn masks(text: &[u8], f: Fixup) {
+    let mut m = [255u8; 3];
+    segments::masks::mask(&mut m, f);
+    say(text);
+    byte(m[0]);
+    byte(m[1]);
+    byte(m[2]);
+    say(b"\n");
+}
+
+// P11 and P12, and the other kinds.
+fn sizes_and_masks() {
+    say(b"P11");
+    number(omf51::segment_size(0x80, 5));
+    number(omf51::segment_size(0, 0));
+    number(omf51::segment_size(0, 0xffff));
+    say(b"\n");
+    masks(b"P12", fixup_at(2, 4, 1));
+    masks(b"Inblock", fixup_at(0, 5, 1));
+    masks(b"Byte", fixup_at(1, 1, 0));
+    masks(b"ignored", fixup_at(1, 1, 3));
+    masks(b"past the end", fixup_at(usize::MAX, 4, 1));
+}
+
+fn part(at: usize, len: usize) -> Part {
+    Part { at, len }
+}
+
+// Two names of a library: the same, in order, and parts that do not fit.
+fn names() {
+    let library = b"\x04MAIN\x03MAI\x04MAIN\x04MAIZ";
+    say(b"same");
+    answer(lent::names::same_name(library, part(1, 4), part(10, 4)));
+    answer(lent::names::same_name(library, part(1, 4), part(6, 3)));
+    answer(lent::names::same_name(library, part(6, 3), part(1, 4)));
+    say(b"\nbefore");
+    answer(lent::names::name_before(library, part(6, 3), part(1, 4)));
+    answer(lent::names::name_before(library, part(1, 4), part(6, 3)));
+    answer(lent::names::name_before(library, part(1, 4), part(15, 4)));
+    answer(lent::names::name_before(library, part(1, 4), part(10, 4)));
+    say(b"\nname ");
+    say(lent::names::name(library, part(15, 4)));
+    say(b" [");
+    say(lent::names::name(library, part(15, 5)));
+    say(lent::names::name(library, part(usize::MAX, 1)));
+    say(lent::names::name(library, part(1, usize::MAX)));
+    say(b"]\n");
+}
+
+// Windows beside the stretch, masks that are missing, and numbers at the end of 64 bits.
+fn limits() {
+    let image = b"\x01\x02\x01\x02\x01\x02";
+    say(b"window before, touching, after");
+    matches(
+        image,
+        Stretch { start: 2, len: 1 },
+        b"\x01\x02",
+        b"\xff\xff",
+    );
+    say(b"window of one");
+    matches(image, Stretch { start: 1, len: 4 }, b"\x01", b"\xff");
+    say(b"no masks");
+    matches(image, plain(), b"\x00\x00\x00\x00\x00", b"");
+    say(b"stretch past everything");
+    matches(
+        image,
+        Stretch {
+            start: usize::MAX,
+            len: usize::MAX,
+        },
+        b"\x02",
+        b"\xff",
+    );
+    say(b"place past everything");
+    answer(pattern::match_at(image, plain(), b"\x01", b"\xff", usize::MAX));
+    answer(pattern::match_at(image, plain(), b"", b"", usize::MAX));
+    answer(pattern::match_at(image, plain(), b"", b"", 6));
+    answer(pattern::match_at(image, plain(), b"\x02", b"\xff", 5));
+    answer(pattern::match_at(image, plain(), b"\x02\x02", b"\xff", 5));
+    say(b"\nreference at the end");
+    target(
+        image,
+        plain(),
+        Rules::Documented,
+        usize::MAX,
+        Kind::Relative,
+        0,
+    );
+    target(image, plain(), Rules::Documented, 5, Kind::Relative, 0);
+    target(image, plain(), Rules::Documented, 5, Kind::Word, 0);
+    target(image, plain(), Rules::Documented, 4, Kind::Word, 0);
+    say(b"\nreference in the stretch");
+    target(
+        image,
+        Stretch { start: 4, len: 1 },
+        Rules::Documented,
+        3,
+        Kind::Relative,
+        0,
+    );
+    target(
+        image,
+        Stretch { start: 4, len: 1 },
+        Rules::Documented,
+        3,
+        Kind::Word,
+        0,
+    );
+    target(
+        image,
+        Stretch { start: 4, len: 1 },
+        Rules::Documented,
+        5,
+        Kind::Relative,
+        0,
+    );
+    say(b"\noffset");
+    target(image, plain(), Rules::Found, 0, Kind::Word, 0x0102);
+    target(image, plain(), Rules::Found, 0, Kind::Word, 0x0103);
+    target(image, plain(), Rules::Found, 0, Kind::Word, u64::MAX);
+    say(b"\n");
+}
+
+fn main() {
+    patterns();
+    targets();
+    manual();
+    sizes_and_masks();
+    names();
+    limits();
+}
