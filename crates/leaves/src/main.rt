@@ -32,8 +32,10 @@ fn answer(yes: bool) {
 
 // All matches, ascending; more than 16 are not shown.
 fn matches(image: &[u8], s: Stretch, bytes: &[u8], masks: &[u8]) {
-    let mut at = 0;
-    for _ in 0..16 {
+    let mut at: usize = 0;
+    let mut turns: usize = 0;
+    while turns < 16 {
+        turns += 1;
         match pattern::next_match(image, s, bytes, masks, at) {
             Found::At(p) => {
                 number(p);

@@ -4,10 +4,10 @@ use Rattle.leaves.proofs.matches.Statement.{statement}
 use Rattle.leaves.proofs.matches.Tie as tie
 
 abbrev Inv-loop : tie.InvT-loop
-Inv-loop image s bytes masks at₀ t7 t8 counter₀ at counter = counter ≤ 16
+Inv-loop image s bytes masks at₀ turns₀ t8 t9 at turns = turns ≤ 16
 
 abbrev μ-loop : tie.MeasureT-loop
-μ-loop image s bytes masks at₀ t7 t8 counter₀ at counter = 16 - counter
+μ-loop image s bytes masks at₀ turns₀ t8 t9 at turns = 16 - turns
 
 pub matches-spec : {M : Type 1} → statement M
 matches-spec =
@@ -16,16 +16,16 @@ matches-spec =
     Inv-loop
     μ-loop
     (λ c. search needs)
-    (λ c κs. search needs)
-    (λ c. search needs)
-    (λ c κs. search needs)
-    (λ c κs. search needs)
-    (λ c. search needs)
     (λ c. search needs)
     (λ c κs. search needs)
     (λ c. search needs)
+    (λ c κs. search needs)
+    (λ c κs. search needs)
     (λ c. search needs)
     (λ c. search needs)
+    (λ c. search needs)
+    (λ c. search needs)
+    (λ c κs. search needs)
     (λ c. search needs)
     (λ c. search needs)
     (λ c κs. search needs)
