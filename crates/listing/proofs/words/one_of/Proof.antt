@@ -1,0 +1,128 @@
+use Prim.Native.Nat.{_-_, _≤_}
+use mathlib.Core.Path.{_≡_, refl, _∙_}
+use native.Mathlib.Omega.{arith}
+use lib.ListN.{length, drop}
+use denote.Ref.{now}
+use borrow.Author.Needs.{needs}
+use Rattle.listing.specs.Describe.{oneOf}
+use Rattle.listing.specs.Described.{tableOf}
+use Rattle.listing.specs.WordLaws.{tableFrom, table-turn, table-end}
+use Rattle.listing.proofs.words.one_of.Statement.{statement}
+use Rattle.listing.proofs.words.one_of.Tie as tie
+use Rattle.listing.proofs.words.one_of.Reads as reads
+use Rattle.listing.proofs.words.one_of.Lts as lts
+use Rattle.listing.proofs.words.try_word.Reads as try-word-reads
+
+abbrev Inv-loop : tie.InvT-loop
+Inv-loop name at words lengths says k₀ k =
+    (k ≤ length words) × (oneOf (tableFrom words lengths says k) (drop at name) ≡ oneOf (tableOf words lengths says) (drop at name))
+
+abbrev μ-loop : tie.MeasureT-loop
+μ-loop name at words lengths says k₀ k = length words - k
+
+-- src/words.rt:94:5
+loop-holds : tie.Need-loop-holds Inv-loop μ-loop
+loop-holds c = (omega arith, refl)
+
+-- src/words.rt:95:17
+mul-s : tie.Need-mul-s Inv-loop μ-loop
+mul-s c = omega arith
+
+-- src/words.rt:95:17
+shared-slice-copy-out-s : tie.Need-shared-slice-copy-out-s Inv-loop μ-loop
+shared-slice-copy-out-s c = omega arith
+
+-- src/words.rt:96:35
+array-read-t16 : tie.Need-array-read-t16 Inv-loop μ-loop
+array-read-t16 c = search needs
+
+-- src/words.rt:96:46
+array-read-t19 : tie.Need-array-read-t19 Inv-loop μ-loop
+array-read-t19 c = search needs
+
+-- src/words.rt:97:34
+mul-try-word : tie.Need-mul-try-word Inv-loop μ-loop
+mul-try-word c = omega arith
+
+-- src/words.rt:97:34
+shared-slice-copy-out-try-word : tie.Need-shared-slice-copy-out-try-word Inv-loop μ-loop
+shared-slice-copy-out-try-word c = omega arith
+
+-- src/words.rt:97:44
+mul-try-word-2 : tie.Need-mul-try-word-2 Inv-loop μ-loop
+mul-try-word-2 c = omega arith
+
+-- src/words.rt:97:44
+shared-slice-read-try-word : tie.Need-shared-slice-read-try-word Inv-loop μ-loop
+shared-slice-read-try-word c = omega arith
+
+-- src/words.rt:97:15
+try-word-requires : tie.Need-try-word-requires Inv-loop μ-loop
+try-word-requires c κs = search needs
+
+-- src/words.rt:98:25
+enum-known-piece : tie.Need-enum-known-piece Inv-loop μ-loop
+enum-known-piece c = search needs
+
+-- src/words.rt:99:17
+returns : tie.Need-returns Inv-loop μ-loop
+returns c =
+    let s = c .before .before .before .before .before .before .before .before .before .before .before .args in
+    let l = c .before .before .before .before .before .before .before .before .loop in
+    table-turn (now (s .words)) (now (s .lengths)) (now (s .says)) (l .k) (omega arith) (now (s .name)) (s .at)
+    (c .before .before .before .try-word .ensures) (c .before .piece .given .1)
+    ∙ l .inv .1
+
+-- src/words.rt:102:17
+enum-told : tie.Need-enum-told Inv-loop μ-loop
+enum-told c = search needs
+
+-- src/words.rt:102:17
+add-k : tie.Need-add-k Inv-loop μ-loop
+add-k c = omega arith
+
+-- src/words.rt:94:5
+loop-less : tie.Need-loop-less Inv-loop μ-loop
+loop-less c = omega arith
+
+-- src/words.rt:94:5
+loop-again : tie.Need-loop-again Inv-loop μ-loop
+loop-again c =
+    let s = c .before .before .before .before .before .before .before .before .before .before .args in
+    let l = c .before .before .before .before .before .before .before .loop in (
+      omega arith,
+      table-turn (now (s .words)) (now (s .lengths)) (now (s .says)) (l .k) (omega arith) (now (s .name)) (s .at)
+          (c .before .before .try-word .ensures) (c .enum-told .given .1)
+          ∙ l .inv .1,
+    )
+
+-- src/words.rt:89:1
+returns-2 : tie.Need-returns-2 Inv-loop μ-loop
+returns-2 c =
+    let s = c .before .before .before .before .args in
+    table-end (now (s .words)) (now (s .lengths)) (now (s .says)) (c .before .loop .k) (omega arith) (drop (s .at) (now (s .name)))
+    ∙ c .before .loop .inv .1
+
+pub one-of-spec : {M : Type 1} → statement M
+one-of-spec =
+    tie.close
+    (tie.spec
+    Inv-loop
+    μ-loop
+    loop-holds
+    mul-s
+    shared-slice-copy-out-s
+    array-read-t16
+    array-read-t19
+    mul-try-word
+    shared-slice-copy-out-try-word
+    mul-try-word-2
+    shared-slice-read-try-word
+    try-word-requires
+    enum-known-piece
+    returns
+    enum-told
+    add-k
+    loop-less
+    loop-again
+    returns-2)
