@@ -1,13 +1,22 @@
--- What the code's tables spell, and what is written of a description.
+-- What the code's tables spell, and what it takes off a name and writes.
 use Prim.Native.Nat.{ℕ, zero, suc, _+_}
+use mathlib.Core.Path.{_≡_}
 use mathlib.Core.List.{List, [], _∷_, _++_}
 use mathlib.Core.Option.{Option, none, some}
-use lib.ListN.{take, drop, getD}
+use lib.Dec.{leb}
+use lib.ListN.{length, take, drop, getD}
+use lib.Seq.{sets}
+use Rattle.lent.specs.Choice.{if_then_else_}
 use Rattle.listing.specs.declared.words.Saying.{Saying}
-use Rattle.listing.specs.declared.words.Piece.{Piece}
+use Rattle.listing.specs.declared.describe.Piece.{Piece}
 use Rattle.listing.specs.declared.words.Taken.{Taken}
 use Rattle.listing.specs.declared.words.Taken.the-variants.{Took, Nothing}
-use Rattle.listing.specs.Describe.{Words, Said, front, signs, types, operations, moves, memories, into}
+use Rattle.listing.specs.declared.describe.Sentence.{Sentence}
+use Rattle.listing.specs.declared.describe.Parsed.{Parsed}
+use Rattle.listing.specs.declared.describe.Parsed.the-variants.{Whole, Nothing as NoSentence}
+use Rattle.listing.specs.declared.describe.Described.{Described}
+use Rattle.listing.specs.declared.describe.Described.the-variants.{Written, NoRoom, Nothing as NoDescription}
+use Rattle.listing.specs.Describe.{Words, Said, describe, front, signs, types, operations, moves, memories, into}
 
 -- what all words say, one after another
 abbrev pub allSaid : Words → List ℕ
@@ -32,5 +41,34 @@ tableOf (w ∷ ws) ls ss = (take (getD ls 0 0) w, sayAt (getD (getD ss 0 []) 0 0
 
 -- what the code takes off a name, as a step of the definition says it
 abbrev pub saidBy : List ℕ → Taken → Said
-saidBy name (Took p) = some (say (p .says), drop (p .next) name)
+saidBy name (Took says next) = some (say says, drop next name)
 saidBy name Nothing = none
+
+-- a word that may be missing
+abbrev pub taken : Taken → ℕ → Piece
+taken (Took says next) at = record { says = says; next = next }
+taken Nothing at = record { says = record { at = 0; len = 0 }; next = at }
+
+-- what a whole sentence says
+abbrev pub sentence : Sentence → List ℕ
+sentence s = say (s .sign) ++ (say (s .kind) ++ (say (s .verb) ++ (say (s .memory) ++ say (s .into))))
+
+abbrev pub sentenceIn : Parsed → Option (List ℕ)
+sentenceIn (Whole s) = some (sentence s)
+sentenceIn NoSentence = none
+
+-- a text stored from a place on, and where it ends
+pub record Put (before : List ℕ) (at : ℕ) (t after : List ℕ) (end : ℕ) : Type 0 where
+  pub ends : end ≡ at + length t
+  pub stored : after ≡ sets before at t
+
+-- the answer, and the lent memory: the text, and what stood behind it; too little memory is left as it was, and so it is where there is no description
+abbrev pub fitted : List ℕ → List ℕ → Described × List ℕ
+fitted t out = if leb (length t) (length out) then (Written (length t), t ++ drop (length t) out) else (NoRoom, out)
+
+abbrev pub answered : Option (List ℕ) → List ℕ → Described × List ℕ
+answered none out = (NoDescription, out)
+answered (some t) out = fitted t out
+
+abbrev pub described : List ℕ → List ℕ → Described × List ℕ
+described name out = answered (describe name) out

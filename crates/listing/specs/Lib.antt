@@ -5,3 +5,4 @@ pub mod Describe
 pub mod Print
 pub mod Described
 pub mod WordLaws
+pub mod DescribedLaws

@@ -1,4 +1,5 @@
 // The list: graded names by address; descriptions of names.
+pub mod describe;
 mod words;
 
 use lent::part::Part;

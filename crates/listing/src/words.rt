@@ -12,14 +12,9 @@ pub struct Saying {
     pub len: u16,
 }
 
-// A word that was taken: what it says, and where the rest of the name starts.
-pub struct Piece {
-    pub says: Saying,
-    pub next: usize,
-}
-
+// A word taken off a name: what it says, and where the rest of the name starts.
 pub enum Taken {
-    Took(Piece),
+    Took { says: Saying, next: usize },
     Nothing,
 }
 
@@ -133,7 +128,7 @@ fn try_word(name: &[u8], at: usize, word: [u8; 5], len: usize, says: Saying) -> 
     let mut j = 0;
     while j < 5 {
         if j == len {
-            return Taken::Took(Piece { says, next });
+            return Taken::Took { says, next };
         }
         if name.len() <= next {
             return Taken::Nothing;
@@ -144,7 +139,7 @@ fn try_word(name: &[u8], at: usize, word: [u8; 5], len: usize, says: Saying) -> 
         next += 1;
         j += 1;
     }
-    Taken::Took(Piece { says, next })
+    Taken::Took { says, next }
 }
 
 // The first of some words that stands at a place of the name.
@@ -154,14 +149,16 @@ fn one_of(name: &[u8], at: usize, words: &[[u8; 5]], lengths: &[usize], says: &[
 {
     let mut k = 0;
     while k < words.len() {
-        let s = says[k];
+        let row = says[k];
+        let first = row[0];
+        let count = row[1];
         let saying = Saying {
-            at: s[0],
-            len: s[1],
+            at: first,
+            len: count,
         };
         match try_word(name, at, words[k], lengths[k], saying) {
-            Taken::Took(piece) => {
-                return Taken::Took(piece);
+            Taken::Took { says, next } => {
+                return Taken::Took { says, next };
             }
             Taken::Nothing => {
                 k += 1;

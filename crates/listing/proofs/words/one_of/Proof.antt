@@ -25,20 +25,20 @@ loop-holds : tie.Need-loop-holds Inv-loop μ-loop
 loop-holds c = (omega arith, refl)
 
 -- src/words.rt:95:17
-mul-s : tie.Need-mul-s Inv-loop μ-loop
-mul-s c = omega arith
+mul-row : tie.Need-mul-row Inv-loop μ-loop
+mul-row c = omega arith
 
 -- src/words.rt:95:17
-shared-slice-copy-out-s : tie.Need-shared-slice-copy-out-s Inv-loop μ-loop
-shared-slice-copy-out-s c = omega arith
+shared-slice-copy-out-row : tie.Need-shared-slice-copy-out-row Inv-loop μ-loop
+shared-slice-copy-out-row c = omega arith
 
 -- src/words.rt:96:35
-array-read-t16 : tie.Need-array-read-t16 Inv-loop μ-loop
-array-read-t16 c = search needs
+array-read-first : tie.Need-array-read-first Inv-loop μ-loop
+array-read-first c = search needs
 
 -- src/words.rt:96:46
-array-read-t19 : tie.Need-array-read-t19 Inv-loop μ-loop
-array-read-t19 c = search needs
+array-read-count : tie.Need-array-read-count Inv-loop μ-loop
+array-read-count c = search needs
 
 -- src/words.rt:97:34
 mul-try-word : tie.Need-mul-try-word Inv-loop μ-loop
@@ -61,8 +61,8 @@ try-word-requires : tie.Need-try-word-requires Inv-loop μ-loop
 try-word-requires c κs = search needs
 
 -- src/words.rt:98:25
-enum-known-piece : tie.Need-enum-known-piece Inv-loop μ-loop
-enum-known-piece c = search needs
+enum-known-says : tie.Need-enum-known-says Inv-loop μ-loop
+enum-known-says c = search needs
 
 -- src/words.rt:99:17
 returns : tie.Need-returns Inv-loop μ-loop
@@ -70,7 +70,7 @@ returns c =
     let s = c .before .before .before .before .before .before .before .before .before .before .before .args in
     let l = c .before .before .before .before .before .before .before .before .loop in
     table-turn (now (s .words)) (now (s .lengths)) (now (s .says)) (l .k) (omega arith) (now (s .name)) (s .at)
-    (c .before .before .before .try-word .ensures) (c .before .piece .given .1)
+    (c .before .before .before .try-word .ensures) (c .before .says .given .1)
     ∙ l .inv .1
 
 -- src/words.rt:102:17
@@ -110,16 +110,16 @@ one-of-spec =
     Inv-loop
     μ-loop
     loop-holds
-    mul-s
-    shared-slice-copy-out-s
-    array-read-t16
-    array-read-t19
+    mul-row
+    shared-slice-copy-out-row
+    array-read-first
+    array-read-count
     mul-try-word
     shared-slice-copy-out-try-word
     mul-try-word-2
     shared-slice-read-try-word
     try-word-requires
-    enum-known-piece
+    enum-known-says
     returns
     enum-told
     add-k
