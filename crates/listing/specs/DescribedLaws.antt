@@ -3,7 +3,7 @@ use Prim.Native.Nat.{ℕ, zero, suc, _+_, _-_, _≤_, _<_}
 use mathlib.Core.Path.{_≡_, refl, sym, ap, _∙_}
 use mathlib.Core.Bool.{Bool, true, false}
 use mathlib.Core.List.{List, [], _∷_, _++_, append-nil}
-use mathlib.Core.Option.{Option, none, some}
+use mathlib.Core.Option.{none, some}
 use native.Mathlib.Nat.{add-zero, zero-add, add-suc, suc-add, sub-zero}
 use native.Mathlib.Omega.{arith}
 use lib.ListN.{length, drop, getElem?, set, getD, length-append}
@@ -11,7 +11,6 @@ use lib.Seq.{sets, sets-eq}
 use borrow.Author.Tests.{le-leb, lt-leb}
 use Rattle.lent.specs.Choice.{if_then_else_}
 use Rattle.lent.specs.Lists.{placeOf}
-use Rattle.listing.specs.declared.words.Saying.{Saying}
 use Rattle.listing.specs.declared.words.Taken.{Taken}
 use Rattle.listing.specs.declared.words.Taken.the-variants.{Took, Nothing}
 use Rattle.listing.specs.declared.describe.Piece.{Piece}

@@ -9,7 +9,7 @@ ghost use Rattle.listing.specs.Describe.{describe as definition, saidIn,
 ghost use Rattle.listing.specs.Described.{say, sentence, sentenceIn, taken, Put, described};
 
 // What the words of a name say, in the order in which it is written; a word that is missing says nothing.
-pub struct Sentence {
+struct Sentence {
     pub sign: Saying,
     pub kind: Saying,
     pub verb: Saying,
@@ -17,7 +17,7 @@ pub struct Sentence {
     pub into: Saying,
 }
 
-pub enum Parsed {
+enum Parsed {
     Whole(Sentence),
     Nothing,
 }
@@ -29,7 +29,7 @@ pub enum Described {
 }
 
 // A word that may be missing: where it is, it says nothing, and the name goes on at the same place.
-pub struct Piece {
+struct Piece {
     pub says: Saying,
     pub next: usize,
 }
@@ -38,7 +38,7 @@ fn perhaps(word: Taken, at: usize) -> Piece
     ensures { λ r. ⌜ r ≡ taken word at ⌝ }
 {
     match word {
-        Taken::Took { says, next } => Piece { says, next },
+        Taken::Took(says, next) => Piece { says, next },
         Taken::Nothing => {
             let says = Saying { at: 0, len: 0 };
             Piece { says, next: at }
@@ -50,18 +50,10 @@ fn perhaps(word: Taken, at: usize) -> Piece
 fn parse_moving(name: &[u8], at: usize, sign: Saying, kind: Saying) -> Parsed
     ensures { λ r. ⌜ sentenceIn r ≡ saidIn (more (say sign) (more (say kind) (moving (drop at (now (name .entry)))))) ⌝ }
 {
-    let Taken::Took {
-        says: verb,
-        next: from,
-    } = words::movement(name, at)
-    else {
+    let Taken::Took(verb, from) = words::movement(name, at) else {
         return Parsed::Nothing;
     };
-    let Taken::Took {
-        says: memory,
-        next: end,
-    } = words::memory(name, from)
-    else {
+    let Taken::Took(memory, end) = words::memory(name, from) else {
         return Parsed::Nothing;
     };
     let last = perhaps(words::zero(name, end), end);
@@ -78,27 +70,15 @@ fn parse_moving(name: &[u8], at: usize, sign: Saying, kind: Saying) -> Parsed
 fn parse(name: &[u8]) -> Parsed
     ensures { λ r. ⌜ sentenceIn r ≡ definition (now (name .entry)) ⌝ }
 {
-    let Taken::Took {
-        says: _,
-        next: from,
-    } = words::front(name, 0)
-    else {
+    let Taken::Took(_, from) = words::front(name, 0) else {
         return Parsed::Nothing;
     };
     let first = perhaps(words::sign(name, from), from);
     let sign = first.says;
-    let Taken::Took {
-        says: kind,
-        next: at,
-    } = words::kind(name, first.next)
-    else {
+    let Taken::Took(kind, at) = words::kind(name, first.next) else {
         return Parsed::Nothing;
     };
-    let Taken::Took {
-        says: verb,
-        next: _,
-    } = words::operation(name, at)
-    else {
+    let Taken::Took(verb, _) = words::operation(name, at) else {
         return parse_moving(name, at, sign, kind);
     };
     let memory = Saying { at: 0, len: 0 };

@@ -14,7 +14,7 @@ pub struct Saying {
 
 // A word taken off a name: what it says, and where the rest of the name starts.
 pub enum Taken {
-    Took { says: Saying, next: usize },
+    Took(Saying, usize),
     Nothing,
 }
 
@@ -128,7 +128,7 @@ fn try_word(name: &[u8], at: usize, word: [u8; 5], len: usize, says: Saying) -> 
     let mut j = 0;
     while j < 5 {
         if j == len {
-            return Taken::Took { says, next };
+            return Taken::Took(says, next);
         }
         if name.len() <= next {
             return Taken::Nothing;
@@ -139,7 +139,7 @@ fn try_word(name: &[u8], at: usize, word: [u8; 5], len: usize, says: Saying) -> 
         next += 1;
         j += 1;
     }
-    Taken::Took { says, next }
+    Taken::Took(says, next)
 }
 
 // The first of some words that stands at a place of the name.
@@ -157,8 +157,8 @@ fn one_of(name: &[u8], at: usize, words: &[[u8; 5]], lengths: &[usize], says: &[
             len: count,
         };
         match try_word(name, at, words[k], lengths[k], saying) {
-            Taken::Took { says, next } => {
-                return Taken::Took { says, next };
+            Taken::Took(says, next) => {
+                return Taken::Took(says, next);
             }
             Taken::Nothing => {
                 k += 1;

@@ -1,3 +1,5 @@
+-- `listing::describe::parse` meets its contract: one law for each way out.
+-- Assumes nothing.
 use denote.Ref.{now}
 use mathlib.Core.Path.{_∙_}
 use Rattle.listing.specs.Describe.{signs}
@@ -5,53 +7,35 @@ use Rattle.listing.specs.DescribedLaws.{known, perhaps-said, no-front, n
 use borrow.Author.Needs.{needs}
 use Rattle.listing.proofs.describe.parse.Statement.{statement}
 use Rattle.listing.proofs.describe.parse.Tie as tie
-use Rattle.listing.proofs.describe.parse.Reads as reads
-use Rattle.listing.proofs.describe.parse.Lts as lts
-use Rattle.listing.proofs.describe.parse_moving.Reads as parse-moving-reads
-use Rattle.listing.proofs.describe.perhaps.Reads as perhaps-reads
-use Rattle.listing.proofs.words.front.Reads as front-reads
-use Rattle.listing.proofs.words.kind.Reads as kind-reads
-use Rattle.listing.proofs.words.operation.Reads as operation-reads
-use Rattle.listing.proofs.words.sign.Reads as sign-reads
 
--- src/describe.rt:86:9
 front-requires : tie.Need-front-requires
 front-requires c κs = search needs
 
--- src/describe.rt:85:15
 enum-known-from : tie.Need-enum-known-from
 enum-known-from c = search needs
 
--- src/describe.rt:88:9
 enum-told : tie.Need-enum-told
 enum-told c = search needs
 
--- src/describe.rt:88:9
 returns : tie.Need-returns
 returns c = let name = now (c .before .before .before .before .args .name) in
     no-front name (known name (c .before .before .front .ensures) (c .enum-told .given .1))
 
--- src/describe.rt:90:25
 sign-requires : tie.Need-sign-requires
 sign-requires c κs = search needs
 
--- src/describe.rt:90:9
 perhaps-requires : tie.Need-perhaps-requires
 perhaps-requires c κs = search needs
 
--- src/describe.rt:95:9
 kind-requires : tie.Need-kind-requires
 kind-requires c κs = search needs
 
--- src/describe.rt:93:15
 enum-known-kind : tie.Need-enum-known-kind
 enum-known-kind c = search needs
 
--- src/describe.rt:97:9
 enum-told-2 : tie.Need-enum-told-2
 enum-told-2 c = search needs
 
--- src/describe.rt:97:9
 returns-2 : tie.Need-returns-2
 returns-2 c = let p = c .before .before .before .before in
     let q = p .before .before .before in
@@ -61,23 +45,18 @@ returns-2 c = let p = c .before .before .before .before in
     (perhaps-said signs name (q .from .given .0 .1 .0) (p .before .sign .result) (p .before .sign .ensures) (p .perhaps .ensures))
     (known name (c .before .before .kind .ensures) (c .enum-told2 .given .1))
 
--- src/describe.rt:102:9
 operation-requires : tie.Need-operation-requires
 operation-requires c κs = search needs
 
--- src/describe.rt:100:15
 enum-known-verb : tie.Need-enum-known-verb
 enum-known-verb c = search needs
 
--- src/describe.rt:104:9
 enum-told-3 : tie.Need-enum-told-3
 enum-told-3 c = search needs
 
--- src/describe.rt:104:9
 parse-moving-requires : tie.Need-parse-moving-requires
 parse-moving-requires c κs = search needs
 
--- src/describe.rt:104:9
 returns-3 : tie.Need-returns-3
 returns-3 c = let k = c .before .before .before .before .before in
     let p = k .before .before .before .before in
@@ -90,7 +69,6 @@ returns-3 c = let k = c .before .before .before .before .before in
     (known name (k .before .before .kind .ensures) (k .kind2 .given .1))
     (known name (c .before .before .before .operation .ensures) (c .before .enum-told3 .given .1))
 
--- src/describe.rt:80:1
 returns-4 : tie.Need-returns-4
 returns-4 c = let k = c .before .before .before .before .before in
     let p = k .before .before .before .before in

@@ -1,3 +1,5 @@
+-- `listing::describe::parse_moving` meets its contract: one law for each way out.
+-- Assumes nothing.
 use denote.Ref.{now}
 use lib.ListN.{drop}
 use Rattle.listing.specs.Describe.{into}
@@ -6,58 +8,41 @@ use Rattle.listing.specs.DescribedLaws.{known, perhaps-said, no-move, no
 use borrow.Author.Needs.{needs}
 use Rattle.listing.proofs.describe.parse_moving.Statement.{statement}
 use Rattle.listing.proofs.describe.parse_moving.Tie as tie
-use Rattle.listing.proofs.describe.parse_moving.Reads as reads
-use Rattle.listing.proofs.describe.parse_moving.Lts as lts
-use Rattle.listing.proofs.describe.perhaps.Reads as perhaps-reads
-use Rattle.listing.proofs.words.memory.Reads as memory-reads
-use Rattle.listing.proofs.words.movement.Reads as movement-reads
-use Rattle.listing.proofs.words.zero.Reads as zero-reads
 
--- src/describe.rt:58:9
 movement-requires : tie.Need-movement-requires
 movement-requires c κs = search needs
 
--- src/describe.rt:56:15
 enum-known-verb : tie.Need-enum-known-verb
 enum-known-verb c = search needs
 
--- src/describe.rt:60:9
 enum-told : tie.Need-enum-told
 enum-told c = search needs
 
--- src/describe.rt:60:9
 returns : tie.Need-returns
 returns c = let s = c .before .before .before .before .args in
     no-move (say (s .sign)) (say (s .kind)) (drop (s .at) (now (s .name))) (known (now (s .name)) (c .before .before .movement .ensures) (c .enum-told .given .1))
 
--- src/describe.rt:65:9
 memory-requires : tie.Need-memory-requires
 memory-requires c κs = search needs
 
--- src/describe.rt:63:15
 enum-known-memory : tie.Need-enum-known-memory
 enum-known-memory c = search needs
 
--- src/describe.rt:67:9
 enum-told-2 : tie.Need-enum-told-2
 enum-told-2 c = search needs
 
--- src/describe.rt:67:9
 returns-2 : tie.Need-returns-2
 returns-2 c = let s = c .before .before .before .before .before .before .before .before .args in
     no-memory (say (s .sign)) (say (s .kind)) (drop (s .at) (now (s .name)))
     (known (now (s .name)) (c .before .before .before .before .before .before .movement .ensures) (c .before .before .before .before .verb .given .1))
     (known (now (s .name)) (c .before .before .memory .ensures) (c .enum-told2 .given .1))
 
--- src/describe.rt:69:24
 zero-requires : tie.Need-zero-requires
 zero-requires c κs = search needs
 
--- src/describe.rt:69:9
 perhaps-requires : tie.Need-perhaps-requires
 perhaps-requires c κs = search needs
 
--- src/describe.rt:52:1
 returns-3 : tie.Need-returns-3
 returns-3 c = let s = c .before .before .before .before .before .before .before .before .before .before .before .before .args in
     all-moved (say (s .sign)) (say (s .kind)) (drop (s .at) (now (s .name)))

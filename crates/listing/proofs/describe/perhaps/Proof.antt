@@ -1,24 +1,20 @@
+-- `listing::describe::perhaps` meets its contract, case by case.
+-- Assumes nothing.
 use mathlib.Core.Path.{sym, ap}
 use Rattle.listing.specs.Described.{taken}
 use borrow.Author.Needs.{needs}
 use Rattle.listing.proofs.describe.perhaps.Statement.{statement}
 use Rattle.listing.proofs.describe.perhaps.Tie as tie
-use Rattle.listing.proofs.describe.perhaps.Reads as reads
-use Rattle.listing.proofs.describe.perhaps.Lts as lts
 
--- src/describe.rt:43:23
 enum-known-word : tie.Need-enum-known-word
 enum-known-word c = search needs
 
--- src/describe.rt:45:17
 enum-told : tie.Need-enum-told
 enum-told c = search needs
 
--- src/describe.rt:39:1
 returns : tie.Need-returns
 returns c = sym (ap (λ w. taken w (c .before .before .before .args .at)) (c .before .word .given .1))
 
--- src/describe.rt:39:1
 returns-2 : tie.Need-returns-2
 returns-2 c = sym (ap (λ w. taken w (c .before .before .args .at)) (c .enum-told .given .1))
 

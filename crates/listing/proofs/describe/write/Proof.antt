@@ -1,37 +1,29 @@
+-- `listing::describe::write` meets its contract: the pieces, one after another.
+-- Assumes nothing.
 use native.Mathlib.Omega.{arith}
 use Rattle.listing.specs.DescribedLaws.{length-pieces, _then-put_}
 use borrow.Author.Needs.{needs}
 use Rattle.listing.proofs.describe.write.Statement.{statement}
 use Rattle.listing.proofs.describe.write.Tie as tie
-use Rattle.listing.proofs.describe.write.Reads as reads
-use Rattle.listing.proofs.describe.write.Lts as lts
-use Rattle.listing.proofs.describe.put.Reads as put-reads
 
--- src/describe.rt:153:9
 put-requires : tie.Need-put-requires
 put-requires c κs = omega (arith, length-pieces (c .before .before .before .before .before .before .before .args .s))
 
--- src/describe.rt:154:9
 put-requires-2 : tie.Need-put-requires-2
 put-requires-2 c κs = omega (arith, length-pieces (c .before .before .before .before .before .before .before .before .before .before .before .args .s))
 
--- src/describe.rt:155:9
 put-requires-3 : tie.Need-put-requires-3
 put-requires-3 c κs = omega (arith, length-pieces (c .before .before .before .before .before .before .before .before .before .before .before .before .before .before .before .args .s))
 
--- src/describe.rt:156:9
 put-requires-4 : tie.Need-put-requires-4
 put-requires-4 c κs = omega (arith, length-pieces (c .before .before .before .before .before .before .before .before .before .before .before .before .before .before .before .before .before .before .before .args .s))
 
--- src/describe.rt:157:5
 put-requires-5 : tie.Need-put-requires-5
 put-requires-5 c κs = omega (arith, length-pieces (c .before .before .before .before .before .before .before .before .before .before .before .before .before .before .before .before .before .before .before .before .before .before .before .args .s))
 
--- src/describe.rt:144:1
 same-length : tie.Need-same-length
 same-length c = search needs
 
--- src/describe.rt:144:1
 returns : tie.Need-returns
 returns c = c .before .before .before .before .before .before .before .before .before .before .before .before .before .before .before .before .before .before .put .ensures then-put c .before .before .before .before .before .before .before .before .before .before .before .before .before .before .put2 .ensures then-put c .before .before .before .before .before .before .before .before .before .before .put3 .ensures then-put c .before .before .before .before .before .before .put4 .ensures then-put c .before .before .put5 .ensures
 

@@ -1,3 +1,5 @@
+-- `listing::words::one_of` meets its contract: the words from the k-th on decide, since none before them stands there.
+-- Assumes nothing.
 use Prim.Native.Nat.{_-_, _≤_}
 use mathlib.Core.Path.{_≡_, refl, _∙_}
 use native.Mathlib.Omega.{arith}
@@ -9,9 +11,6 @@ use Rattle.listing.specs.Described.{tableOf}
 use Rattle.listing.specs.WordLaws.{tableFrom, table-turn, table-end}
 use Rattle.listing.proofs.words.one_of.Statement.{statement}
 use Rattle.listing.proofs.words.one_of.Tie as tie
-use Rattle.listing.proofs.words.one_of.Reads as reads
-use Rattle.listing.proofs.words.one_of.Lts as lts
-use Rattle.listing.proofs.words.try_word.Reads as try-word-reads
 
 abbrev Inv-loop : tie.InvT-loop
 Inv-loop name at words lengths says k₀ k =
@@ -20,51 +19,39 @@ Inv-loop name at words lengths says k₀ k =
 abbrev μ-loop : tie.MeasureT-loop
 μ-loop name at words lengths says k₀ k = length words - k
 
--- src/words.rt:94:5
 loop-holds : tie.Need-loop-holds Inv-loop μ-loop
 loop-holds c = (omega arith, refl)
 
--- src/words.rt:95:17
 mul-row : tie.Need-mul-row Inv-loop μ-loop
 mul-row c = omega arith
 
--- src/words.rt:95:17
 shared-slice-copy-out-row : tie.Need-shared-slice-copy-out-row Inv-loop μ-loop
 shared-slice-copy-out-row c = omega arith
 
--- src/words.rt:96:35
 array-read-first : tie.Need-array-read-first Inv-loop μ-loop
 array-read-first c = search needs
 
--- src/words.rt:96:46
 array-read-count : tie.Need-array-read-count Inv-loop μ-loop
 array-read-count c = search needs
 
--- src/words.rt:97:34
 mul-try-word : tie.Need-mul-try-word Inv-loop μ-loop
 mul-try-word c = omega arith
 
--- src/words.rt:97:34
 shared-slice-copy-out-try-word : tie.Need-shared-slice-copy-out-try-word Inv-loop μ-loop
 shared-slice-copy-out-try-word c = omega arith
 
--- src/words.rt:97:44
 mul-try-word-2 : tie.Need-mul-try-word-2 Inv-loop μ-loop
 mul-try-word-2 c = omega arith
 
--- src/words.rt:97:44
 shared-slice-read-try-word : tie.Need-shared-slice-read-try-word Inv-loop μ-loop
 shared-slice-read-try-word c = omega arith
 
--- src/words.rt:97:15
 try-word-requires : tie.Need-try-word-requires Inv-loop μ-loop
 try-word-requires c κs = search needs
 
--- src/words.rt:98:25
 enum-known-says : tie.Need-enum-known-says Inv-loop μ-loop
 enum-known-says c = search needs
 
--- src/words.rt:99:17
 returns : tie.Need-returns Inv-loop μ-loop
 returns c =
     let s = c .before .before .before .before .before .before .before .before .before .before .before .args in
@@ -73,19 +60,15 @@ returns c =
     (c .before .before .before .try-word .ensures) (c .before .says .given .1)
     ∙ l .inv .1
 
--- src/words.rt:102:17
 enum-told : tie.Need-enum-told Inv-loop μ-loop
 enum-told c = search needs
 
--- src/words.rt:102:17
 add-k : tie.Need-add-k Inv-loop μ-loop
 add-k c = omega arith
 
--- src/words.rt:94:5
 loop-less : tie.Need-loop-less Inv-loop μ-loop
 loop-less c = omega arith
 
--- src/words.rt:94:5
 loop-again : tie.Need-loop-again Inv-loop μ-loop
 loop-again c =
     let s = c .before .before .before .before .before .before .before .before .before .before .args in
@@ -96,7 +79,6 @@ loop-again c =
           ∙ l .inv .1,
     )
 
--- src/words.rt:89:1
 returns-2 : tie.Need-returns-2 Inv-loop μ-loop
 returns-2 c =
     let s = c .before .before .before .before .args in

@@ -1,17 +1,13 @@
 -- `listing::words::try_word` meets its contract: j letters agree, and what is left of the name and of the word decides.
 -- Assumes nothing.
-use Prim.Native.Nat.{ℕ, _-_, _≤_, _<_}
+use Prim.Native.Nat.{_-_, _≤_}
 use mathlib.Core.Path.{_≡_, sym, _∙_}
-use mathlib.Core.List.{List}
 use native.Mathlib.Omega.{arith}
-use lib.ListN.{length, take, getD, length-take}
+use lib.ListN.{length, take, length-take}
 use lib.Seq.{getD-take}
-use denote.Ref.{now}
 use Rattle.listing.specs.WordLaws.{Reading, reading-starts, reading-more, reading-ends, reading-past, reading-other}
 use Rattle.listing.proofs.words.try_word.Statement.{statement}
 use Rattle.listing.proofs.words.try_word.Tie as tie
-use Rattle.listing.proofs.words.try_word.Reads as reads
-use Rattle.listing.proofs.words.try_word.Lts as lts
 
 abbrev Inv-loop : tie.InvT-loop
 Inv-loop name at len says word next₀ j₀ next j = Reading name at (take len word) next j × (j ≤ len) × (j ≤ 5) × (length word ≡ 5)
