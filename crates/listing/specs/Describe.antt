@@ -3,7 +3,7 @@ use Prim.Native.Nat.{ℕ}
 use Prim.Native.String.{String, [] as end, _∷_ as _then_}
 use Prim.Native.Char.{code}
 use mathlib.Core.Bool.{Bool}
-use mathlib.Core.List.{List, [], _∷_, _++_}
+use mathlib.Core.List.{List, [], _∷_, _++_, map}
 use mathlib.Core.Option.{Option, none, some}
 use lib.ListN.{length, take, drop}
 use Rattle.lent.specs.Lists.{one, first}
@@ -23,18 +23,21 @@ Step = List ℕ → Said
 
 -- words, each with what it says
 abbrev pub Words : Type 0
-Words = List (String × String)
+Words = List (List ℕ × List ℕ)
+
+abbrev pub spelled : List (String × String) → Words
+spelled words = map (λ w. (text (w .0), text (w .1))) words
 
 abbrev pub startsWith : List ℕ → List ℕ → Bool
 startsWith name word = same (take (length word) name) word
 
-abbrev pub wordOff : List ℕ → Option (String × String) → Said
+abbrev pub wordOff : List ℕ → Option (List ℕ × List ℕ) → Said
 wordOff name none = none
-wordOff name (some (word, says)) = some (text says, drop (length (text word)) name)
+wordOff name (some (word, says)) = some (says, drop (length word) name)
 
 -- the first of the words that the name starts with
 unfoldable pub oneOf : Words → Step
-oneOf words name = wordOff name (first (λ w. startsWith name (text (w .0))) words)
+oneOf words name = wordOff name (first (λ w. startsWith name (w .0)) words)
 
 -- one step and then another
 abbrev pub more : List ℕ → Said → Said
@@ -61,36 +64,48 @@ _or_ p q = λ name. otherwise q name (p name)
 abbrev pub perhaps : Step → Step
 perhaps p = p or λ name. some ([], name)
 
+abbrev pub front : Words
+front = spelled (one ("?C?", ""))
+
 abbrev pub signs : Words
-signs = ("S", "signed ") ∷ ("U", "unsigned ") ∷ []
+signs = spelled (("S", "signed ") ∷ ("U", "unsigned ") ∷ [])
 
 abbrev pub types : Words
 types =
-    ("C", "char (8-bit) ") ∷ ("I", "int (16-bit) ") ∷ ("P", "general pointer ")
-    ∷ ("L0", "long (r3-r0) ") ∷ ("L", "long (32-bit) ") ∷ ("FP", "float ") ∷ []
+    spelled
+    (("C", "char (8-bit) ") ∷ ("I", "int (16-bit) ") ∷ ("P", "general pointer ")
+    ∷ ("L0", "long (r3-r0) ") ∷ ("L", "long (32-bit) ") ∷ ("FP", "float ") ∷ [])
 
 -- the twelve operation words
 abbrev pub operations : Words
 operations =
-    ("ADD", "addition") ∷ ("SUB", "subtraction") ∷ ("MUL", "multiply") ∷ ("DIV", "division") ∷ ("CMP", "compare")
+    spelled
+    (("ADD", "addition") ∷ ("SUB", "subtraction") ∷ ("MUL", "multiply") ∷ ("DIV", "division") ∷ ("CMP", "compare")
     ∷ ("AND", "bitwise and") ∷ ("OR", "bitwise or") ∷ ("XOR", "bitwise xor") ∷ ("NEG", "negation") ∷ ("NOT", "logical not")
-    ∷ ("SHL", "shift left") ∷ ("SHR", "shift right") ∷ []
+    ∷ ("SHL", "shift left") ∷ ("SHR", "shift right") ∷ [])
 
 abbrev pub moves : Words
 moves =
-    ("LD", "load from ") ∷ ("LDI", "post-increment load from ") ∷ ("ILD", "pre-increment load from ")
-    ∷ ("STK", "constant store to ") ∷ ("ST", "store to ") ∷ []
+    spelled
+    (("LD", "load from ") ∷ ("LDI", "post-increment load from ") ∷ ("ILD", "pre-increment load from ")
+    ∷ ("STK", "constant store to ") ∷ ("ST", "store to ") ∷ [])
 
 abbrev pub memories : Words
 memories =
-    ("XDATA", "xdata") ∷ ("PDATA", "pdata (external ram)") ∷ ("IDATA", "idata (indirect ram access)")
-    ∷ ("CODE", "code space") ∷ ("OPTR", "general pointer with offset") ∷ ("PTR", "general pointer") ∷ []
+    spelled
+    (("XDATA", "xdata") ∷ ("PDATA", "pdata (external ram)") ∷ ("IDATA", "idata (indirect ram access)")
+    ∷ ("CODE", "code space") ∷ ("OPTR", "general pointer with offset") ∷ ("PTR", "general pointer") ∷ [])
+
+abbrev pub into : Words
+into = spelled (one ("0", " into r3-r0"))
+
+abbrev pub moving : Step
+moving = oneOf moves and oneOf memories and perhaps (oneOf into)
 
 -- the rest of the name is ignored
 unfoldable pub description : Step
 description =
-    oneOf (one ("?C?", "")) and perhaps (oneOf signs) and oneOf types
-    and (oneOf operations or oneOf moves and oneOf memories and perhaps (oneOf (one ("0", " into r3-r0"))))
+    oneOf front and perhaps (oneOf signs) and oneOf types and (oneOf operations or moving)
 
 abbrev pub saidIn : Said → Option (List ℕ)
 saidIn none = none

@@ -3,3 +3,6 @@ pub mod Listing
 pub mod ListingLaws
 pub mod Describe
 pub mod Print
+pub mod Described
+pub mod WordLaws
+pub mod DescribedLaws

@@ -1,4 +1,7 @@
-// The list: graded names by address.
+// The list: graded names by address; descriptions of names.
+pub mod describe;
+mod words;
+
 use lent::part::Part;
 
 // A position with more names than this is left out.
