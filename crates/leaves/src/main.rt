@@ -4,6 +4,7 @@ use fixup::Rules;
 use fixup::Target;
 use lent::part::Part;
 use libc::STDOUT_FILENO;
+use listing::describe::Described;
 use omf51::Fixup;
 use omf51::ModuleId;
 use pattern::Found;
@@ -199,6 +200,51 @@ fn names() {
     say(b"]\n");
 }
 
+// A description in the room of a buffer, between brackets.
+fn described(name: &[u8], out: &mut [u8]) {
+    match listing::describe::describe(name, out) {
+        Described::Written(n) => {
+            say(b" [");
+            say(lent::names::name(out, part(0, n)));
+            say(b"]");
+        }
+        Described::NoRoom => {
+            say(b" no room");
+        }
+        Described::Nothing => {
+            say(b" no description");
+        }
+    }
+}
+
+fn show(text: &[u8], name: &[u8]) {
+    let mut out = [0u8; 80];
+    say(text);
+    described(name, &mut out);
+    say(b"\n");
+}
+
+// P13, words tried in order, and a buffer that is exactly full, one byte short, and left as it was.
+fn descriptions() {
+    show(b"P13", b"?C?CLDIDATA");
+    show(b"P13", b"?C?CLDIXDATA");
+    show(b"printed case", b"?C?LADD");
+    show(b"sign and register", b"?C?ULLDXDATA0");
+    show(b"L0 before L", b"?C?L0CMP");
+    show(b"rest ignored", b"?C?SIDIVX");
+    show(b"too early an end", b"?C?L");
+    show(b"another name", b"MAIN");
+    let mut full = [46u8; 22];
+    say(b"exactly full");
+    described(b"?C?LADD", &mut full);
+    let mut short = [46u8; 21];
+    say(b"\none short");
+    described(b"?C?LADD", &mut short);
+    say(b" ");
+    say(&short);
+    say(b"\n");
+}
+
 // Windows beside the stretch, masks that are missing, and numbers at the end of 64 bits.
 fn limits() {
     let image = b"\x01\x02\x01\x02\x01\x02";
@@ -279,5 +325,6 @@ fn main() {
     manual();
     sizes_and_masks();
     names();
+    descriptions();
     limits();
 }
