@@ -1,3 +1,4 @@
 // What every stage shares: parts of the library, refusals, and rows of numbers in lent memory.
 pub mod part;
 pub mod refusal;
+pub mod rows;
