@@ -3,6 +3,8 @@ use fixup::Kind;
 use lent::part::Part;
 use pattern::Seat;
 
+pub mod rows;
+
 // A segment's number in the whole file.
 pub struct SegmentNumber(pub usize);
 

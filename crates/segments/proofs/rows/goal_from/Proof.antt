@@ -1,0 +1,16 @@
+use borrow.Author.Tests.{eq-eqb, ne-eqb}
+use Rattle.segments.proofs.rows.goal_from.Statement.{statement}
+use Rattle.segments.proofs.rows.goal_from.Tie as tie
+use Rattle.segments.proofs.rows.goal_from.Reads as reads
+use Rattle.segments.proofs.rows.goal_from.Lts as lts
+
+-- src/rows.rt:68:1
+returns : tie.Need-returns
+returns c = simp (eq-eqb _ _ (c .if1 .taken))
+
+-- src/rows.rt:68:1
+returns-2 : tie.Need-returns-2
+returns-2 c = simp (ne-eqb _ _ (c .if1 .left))
+
+pub goal-from-spec : {M : Type 1} → statement M
+goal-from-spec = tie.close (tie.spec returns returns-2)
