@@ -1,17 +1,19 @@
 -- Laws of lent memory. Assumes nothing.
 use Prim.Native.Nat.{ℕ, suc, _+_, _-_, _*_, _/_, _≤_, _<_}
 use mathlib.Core.Path.{_≡_, refl, sym, ap, fun-ext, _∙_}
+use mathlib.Core.Bool.{Bool, true, false}
 use mathlib.Core.List.{List, [], _∷_, _++_, append-assoc, append-nil}
 use native.Mathlib.Decide.{decLt}
 use native.Mathlib.Nat.{sub-zero, suc-mul, mul-le-mul-right, le-div-iff-mul-le}
 use native.Mathlib.Omega.{arith}
 use borrow.Author.Tests.{lt-ltb, le-ltb, le-leb, lt-leb}
 use native.Mathlib.Numerals.{add-one}
+use lib.Dec.{eqb}
 use lib.ListN.{length, getD, take, drop, set, length-append, length-replicate, List·getD-append, List·getD-eq-default}
 use lib.Seq.{set-at, sets, length-sets, sets-eq, paste, paste-suc, take-length}
 use Rattle.lent.specs.Lists.{one, joined}
 use Rattle.lent.specs.ListLaws.{rows-length, joined-snoc, joined-at, sets-before, sets-in, sets-after}
-use Rattle.lent.specs.Rows.{zeros, padded, cellOf, putRow, Layout, rowAt}
+use Rattle.lent.specs.Rows.{zeros, padded, flag, cellOf, putRow, Layout, rowAt}
 
 -- what fits leaves the memory as long as it was
 pub padded-length : (room : ℕ) (xs : List ℕ) → length xs ≤ room → length (padded room xs) ≡ room
@@ -144,6 +146,11 @@ cell-other width m i k cells j w ne = go (decLt (length m) (i * width + width))
     go : Dec (length m < i * width + width) → cellOf width (putRow width m i cells) k j ≡ cellOf width m k j
     go (yes h) = ap (λ xs. cellOf width xs k j) (put-lacks width m i cells h)
     go (no h) = within (omega arith) (decLt (length m) (k * width + width)) (decLt j width)
+
+-- a flag says what it was made of
+pub flag-back : (b : Bool) → eqb (flag b) 1 ≡ b
+flag-back true = refl
+flag-back false = refl
 
 -- a kind of row: each of its rows is as many numbers as its width says
 abbrev pub Wide : {R : Type 0} → Layout R → Type 0

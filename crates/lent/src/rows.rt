@@ -1,7 +1,7 @@
 // Rows of numbers in lent memory: row i of a width has the numbers from i * width on.
 ghost use mathlib.Core.Path.{_≡_};
 ghost use lib.ListN.{length};
-ghost use Rattle.lent.specs.Rows.{zeros, cellOf, putRow};
+ghost use Rattle.lent.specs.Rows.{zeros, flag, cellOf, putRow};
 
 // All zeros.
 pub fn clear(rows: &mut [u64])
@@ -52,4 +52,11 @@ pub fn put(m: &mut [u64], i: usize, cells: &[u64])
             j += 1;
         }
     }
+}
+
+// Yes and no as numbers in a row.
+pub fn flag(b: bool) -> u64
+    ensures { λ r. ⌜ r ≡ flag b ⌝ }
+{
+    if b { 1 } else { 0 }
 }

@@ -1,6 +1,8 @@
 // The list: graded names by address.
 use lent::part::Part;
 
+pub mod rows;
+
 // A position with more names than this is left out.
 pub enum Skip {
     Never,

@@ -3,6 +3,8 @@ use fixup::Rules;
 use lent::part::Part;
 use segments::SegmentNumber;
 
+pub mod rows;
+
 // What is asked of a search: the rule set, whether references are checked, and how many nonzero masks make a match valid.
 pub struct Asked {
     pub rules: Rules,
