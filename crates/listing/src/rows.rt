@@ -7,15 +7,18 @@ use crate::Line;
 use lent::part::Part;
 use lent::rows;
 
+// How many numbers a row has.
+const LINE: usize = 4;
+
 pub fn line_at(m: &[u64], i: usize) -> Line
     ensures { λ r. ⌜ r ≡ lineAt (now (m .entry)) i ⌝ }
 {
     Line {
-        address: rows::cell(m, 4, i, 0),
-        grade: (rows::cell(m, 4, i, 1) % 256) as u8,
+        address: rows::cell(m, LINE, i, 0),
+        grade: (rows::cell(m, LINE, i, 1) % 256) as u8,
         name: Part {
-            at: rows::cell(m, 4, i, 2) as usize,
-            len: rows::cell(m, 4, i, 3) as usize,
+            at: rows::cell(m, LINE, i, 2) as usize,
+            len: rows::cell(m, LINE, i, 3) as usize,
         },
     }
 }
@@ -23,6 +26,11 @@ pub fn line_at(m: &[u64], i: usize) -> Line
 pub fn put_line(m: &mut [u64], i: usize, row: Line)
     ensures { λ _. ⌜ now (m .exit) ≡ putRow lineWidth (now (m .entry)) i (lineCells row) ⌝ }
 {
-    let cells = [row.address, row.grade as u64, row.name.at as u64, row.name.len as u64];
+    let cells = [
+        row.address,
+        row.grade as u64,
+        row.name.at as u64,
+        row.name.len as u64,
+    ];
     rows::put(m, i, &cells);
 }

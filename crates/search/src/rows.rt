@@ -9,19 +9,24 @@ use lent::part::Part;
 use lent::rows;
 use segments::SegmentNumber;
 
+// How many numbers a row has.
+const PLACED: usize = 7;
+
+const NOTED: usize = 5;
+
 pub fn placed_at(m: &[u64], i: usize) -> Placed
     ensures { λ r. ⌜ r ≡ placedAt (now (m .entry)) i ⌝ }
 {
     Placed {
-        position: rows::cell(m, 7, i, 0) as usize,
+        position: rows::cell(m, PLACED, i, 0) as usize,
         name: Part {
-            at: rows::cell(m, 7, i, 1) as usize,
-            len: rows::cell(m, 7, i, 2) as usize,
+            at: rows::cell(m, PLACED, i, 1) as usize,
+            len: rows::cell(m, PLACED, i, 2) as usize,
         },
-        valid: rows::cell(m, 7, i, 3) == 1,
-        segment: SegmentNumber(rows::cell(m, 7, i, 4) as usize),
-        found: rows::cell(m, 7, i, 5) as usize,
-        link: rows::cell(m, 7, i, 6) as usize,
+        valid: rows::cell(m, PLACED, i, 3) == 1,
+        segment: SegmentNumber(rows::cell(m, PLACED, i, 4) as usize),
+        found: rows::cell(m, PLACED, i, 5) as usize,
+        link: rows::cell(m, PLACED, i, 6) as usize,
     }
 }
 
@@ -44,13 +49,13 @@ pub fn noted_at(m: &[u64], i: usize) -> Noted
     ensures { λ r. ⌜ r ≡ notedAt (now (m .entry)) i ⌝ }
 {
     Noted {
-        target: rows::cell(m, 5, i, 0),
+        target: rows::cell(m, NOTED, i, 0),
         name: Part {
-            at: rows::cell(m, 5, i, 1) as usize,
-            len: rows::cell(m, 5, i, 2) as usize,
+            at: rows::cell(m, NOTED, i, 1) as usize,
+            len: rows::cell(m, NOTED, i, 2) as usize,
         },
-        valid: rows::cell(m, 5, i, 3) == 1,
-        link: rows::cell(m, 5, i, 4) as usize,
+        valid: rows::cell(m, NOTED, i, 3) == 1,
+        link: rows::cell(m, NOTED, i, 4) as usize,
     }
 }
 

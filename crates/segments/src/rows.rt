@@ -14,6 +14,13 @@ use lent::part::Part;
 use lent::rows;
 use pattern::Seat;
 
+// How many numbers a row has.
+const SEGMENT: usize = 8;
+
+const REFERENCE: usize = 6;
+
+const SYMBOL: usize = 3;
+
 // A case as numbers: its tag, and what it holds.
 struct Pair {
     tag: u64,
@@ -104,18 +111,18 @@ pub fn segment_at(m: &[u64], i: usize) -> SegmentRow
     ensures { λ r. ⌜ r ≡ segmentRowAt (now (m .entry)) i ⌝ }
 {
     SegmentRow {
-        seat: seat_from(rows::cell(m, 8, i, 0), rows::cell(m, 8, i, 1)),
+        seat: seat_from(rows::cell(m, SEGMENT, i, 0), rows::cell(m, SEGMENT, i, 1)),
         pattern: Part {
-            at: rows::cell(m, 8, i, 2) as usize,
-            len: rows::cell(m, 8, i, 3) as usize,
+            at: rows::cell(m, SEGMENT, i, 2) as usize,
+            len: rows::cell(m, SEGMENT, i, 3) as usize,
         },
         references: Part {
-            at: rows::cell(m, 8, i, 4) as usize,
-            len: rows::cell(m, 8, i, 5) as usize,
+            at: rows::cell(m, SEGMENT, i, 4) as usize,
+            len: rows::cell(m, SEGMENT, i, 5) as usize,
         },
         symbols: Part {
-            at: rows::cell(m, 8, i, 6) as usize,
-            len: rows::cell(m, 8, i, 7) as usize,
+            at: rows::cell(m, SEGMENT, i, 6) as usize,
+            len: rows::cell(m, SEGMENT, i, 7) as usize,
         },
     }
 }
@@ -142,10 +149,14 @@ pub fn reference_at(m: &[u64], i: usize) -> Reference
     ensures { λ r. ⌜ r ≡ referenceAt (now (m .entry)) i ⌝ }
 {
     Reference {
-        place: rows::cell(m, 6, i, 0) as usize,
-        kind: kind_from(rows::cell(m, 6, i, 1)),
-        offset: rows::cell(m, 6, i, 2) as usize,
-        goal: goal_from(rows::cell(m, 6, i, 3), rows::cell(m, 6, i, 4), rows::cell(m, 6, i, 5)),
+        place: rows::cell(m, REFERENCE, i, 0) as usize,
+        kind: kind_from(rows::cell(m, REFERENCE, i, 1)),
+        offset: rows::cell(m, REFERENCE, i, 2) as usize,
+        goal: goal_from(
+            rows::cell(m, REFERENCE, i, 3),
+            rows::cell(m, REFERENCE, i, 4),
+            rows::cell(m, REFERENCE, i, 5),
+        ),
     }
 }
 
@@ -172,10 +183,10 @@ pub fn symbol_at(m: &[u64], i: usize) -> Symbol
 {
     Symbol {
         name: Part {
-            at: rows::cell(m, 3, i, 0) as usize,
-            len: rows::cell(m, 3, i, 1) as usize,
+            at: rows::cell(m, SYMBOL, i, 0) as usize,
+            len: rows::cell(m, SYMBOL, i, 1) as usize,
         },
-        offset: rows::cell(m, 3, i, 2) as usize,
+        offset: rows::cell(m, SYMBOL, i, 2) as usize,
     }
 }
 

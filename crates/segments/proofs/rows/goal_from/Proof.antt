@@ -1,14 +1,11 @@
+-- `goal_from` meets its contract: each return is the case that its tests choose. Assumes nothing.
 use borrow.Author.Tests.{eq-eqb, ne-eqb}
 use Rattle.segments.proofs.rows.goal_from.Statement.{statement}
 use Rattle.segments.proofs.rows.goal_from.Tie as tie
-use Rattle.segments.proofs.rows.goal_from.Reads as reads
-use Rattle.segments.proofs.rows.goal_from.Lts as lts
 
--- src/rows.rt:68:1
 returns : tie.Need-returns
 returns c = simp (eq-eqb _ _ (c .if1 .taken))
 
--- src/rows.rt:68:1
 returns-2 : tie.Need-returns-2
 returns-2 c = simp (ne-eqb _ _ (c .if1 .left))
 

@@ -1,14 +1,11 @@
+-- `seat_from` meets its contract: each return is the case that its tests choose. Assumes nothing.
 use borrow.Author.Tests.{eq-eqb, ne-eqb}
 use Rattle.segments.proofs.rows.seat_from.Statement.{statement}
 use Rattle.segments.proofs.rows.seat_from.Tie as tie
-use Rattle.segments.proofs.rows.seat_from.Reads as reads
-use Rattle.segments.proofs.rows.seat_from.Lts as lts
 
--- src/rows.rt:41:1
 returns : tie.Need-returns
 returns c = simp (eq-eqb _ _ (c .if1 .taken))
 
--- src/rows.rt:41:1
 returns-2 : tie.Need-returns-2
 returns-2 c = simp (ne-eqb _ _ (c .if1 .left))
 
