@@ -5,20 +5,8 @@ use borrow.Author.Needs.{needs}
 use Rattle.segments.proofs.rows.put_segment.Statement.{statement}
 use Rattle.segments.proofs.rows.put_segment.Tie as tie
 
-seat-pair-requires : tie.Need-seat-pair-requires
-seat-pair-requires c κs = search needs
-
-slice-aggregate-put : tie.Need-slice-aggregate-put
-slice-aggregate-put c = search needs
-
-put-requires : tie.Need-put-requires
-put-requires c κs = search needs
-
-same-length : tie.Need-same-length
-same-length c = search needs
-
 returns : tie.Need-returns
 returns c = let r = c .before .before .before .before .before .before .before .args .row in cc (seat-cells (r .seat) (partCells r))
 
 pub put-segment-spec : {M : Type 1} → statement M
-put-segment-spec = tie.close (tie.spec seat-pair-requires slice-aggregate-put put-requires same-length returns)
+put-segment-spec = tie.close (tie.spec (λ c κs. tt) (λ c. search needs) (λ c κs. tt) (λ c. search needs) returns)
