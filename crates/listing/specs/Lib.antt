@@ -5,3 +5,4 @@ pub mod LineLayout
 pub mod LineLayoutLaws
 pub mod Describe
 pub mod Print
+pub mod OneOutcome

@@ -5,3 +5,4 @@ pub mod SearchRows
 pub mod SearchRowLaws
 pub mod SearchLayouts
 pub mod SearchLayoutLaws
+pub mod OneOutcome

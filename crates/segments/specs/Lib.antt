@@ -10,3 +10,4 @@ pub mod SegmentRows
 pub mod SegmentRowLaws
 pub mod SegmentLayouts
 pub mod SegmentLayoutLaws
+pub mod OneOutcome

@@ -8,9 +8,6 @@ use Rattle.lent.specs.RowLaws.{row-fits, row-lacks, cell-there, cell-pas
 use Rattle.lent.proofs.rows.cell.Statement.{statement}
 use Rattle.lent.proofs.rows.cell.Tie as tie
 
-div-if2 : tie.Need-div-if2
-div-if2 c = search needs
-
 within : (c : tie.Then2) → let a = c .before .before .args in a .i * a .width + a .width ≤ length (a .m .now)
 within c = let a = c .before .before .args in row-fits (length (a .m .now)) (a .width) (a .i) (omega arith) (c .if2 .taken)
 
@@ -37,4 +34,4 @@ returns-3 : tie.Need-returns-3
 returns-3 c = let a = c .before .args in sym (cell-past (a .width) (a .m .now) (a .i) (a .j) (c .if1 .left))
 
 pub cell-spec : {M : Type 1} → statement M
-cell-spec = tie.close (tie.spec div-if2 mul-result add-result mul-result-2 shared-slice-read-result returns returns-2 returns-3)
+cell-spec = tie.close (tie.spec (λ c. search needs) mul-result add-result mul-result-2 shared-slice-read-result returns returns-2 returns-3)

@@ -15,28 +15,10 @@ Inv-loop m₀ i₀ m i = (i ≤ length m₀) × (length m ≡ length m₀) × (m
 abbrev μ-loop : tie.MeasureT-loop
 μ-loop m₀ i₀ m i = length m₀ - i
 
-loop-holds : tie.Need-loop-holds Inv-loop μ-loop
-loop-holds c = search needs
-
-mul-rows : tie.Need-mul-rows Inv-loop μ-loop
-mul-rows c = omega arith
-
-slice-write-rows : tie.Need-slice-write-rows Inv-loop μ-loop
-slice-write-rows c = omega arith
-
-add-i : tie.Need-add-i Inv-loop μ-loop
-add-i c = omega arith
-
-loop-less : tie.Need-loop-less Inv-loop μ-loop
-loop-less c = omega arith
-
 loop-again : tie.Need-loop-again Inv-loop μ-loop
 loop-again c = let l = c .before .loop in
     let m = c .before .before .args .rows .now in
     (omega arith, simp length-set (l .inv .1), rw (l .inv .2) (fill-more (l .i) 0 m (omega arith)))
-
-same-length : tie.Need-same-length Inv-loop μ-loop
-same-length c = search needs
 
 returns : tie.Need-returns Inv-loop μ-loop
 returns c = let l = c .before .loop in
@@ -45,4 +27,4 @@ returns c = let l = c .before .loop in
     rw (l .inv .2, drop-of-length-le m {i = l .i} (omega arith), append-nil, e)
 
 pub clear-spec : {M : Type 1} → statement M
-clear-spec = tie.close (tie.spec Inv-loop μ-loop loop-holds mul-rows slice-write-rows add-i loop-less loop-again same-length returns)
+clear-spec = tie.close (tie.spec Inv-loop μ-loop (λ c. search needs) (λ c. omega arith) (λ c. omega arith) (λ c. omega arith) (λ c. omega arith) loop-again (λ c. search needs) returns)

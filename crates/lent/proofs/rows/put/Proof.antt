@@ -25,9 +25,6 @@ abbrev μ-loop : tie.MeasureT-loop
 returns : tie.Need-returns Inv-loop μ-loop
 returns c = let a = c .before .args in put-none (a .m .now) (a .i) (a .cells .now) (c .if1 .taken)
 
-div-if2 : tie.Need-div-if2 Inv-loop μ-loop
-div-if2 c = search needs
-
 whole : (c : tie.Then2 Inv-loop μ-loop) → let a = c .before .before .args in a .i * length (a .cells .now) + length (a .cells .now) ≤ length (a .m .now)
 whole c = let a = c .before .before .args in row-fits (length (a .m .now)) (length (a .cells .now)) (a .i) (omega arith) (c .if2 .taken)
 
@@ -37,27 +34,6 @@ mul-at c = omega (arith, whole c)
 loop-holds : tie.Need-loop-holds Inv-loop μ-loop
 loop-holds c = let a = c .before .before .args in
     record { fits = whole c; within = omega arith; long = refl; copied = paste-zero (a .m .now) (a .i * length (a .cells .now)) (a .cells .now) }
-
-mul-m : tie.Need-mul-m Inv-loop μ-loop
-mul-m c = omega arith
-
-shared-slice-read-m : tie.Need-shared-slice-read-m Inv-loop μ-loop
-shared-slice-read-m c = omega arith
-
-add-m : tie.Need-add-m Inv-loop μ-loop
-add-m c = omega arith
-
-mul-m-2 : tie.Need-mul-m-2 Inv-loop μ-loop
-mul-m-2 c = omega arith
-
-slice-write-m : tie.Need-slice-write-m Inv-loop μ-loop
-slice-write-m c = omega arith
-
-add-j : tie.Need-add-j Inv-loop μ-loop
-add-j c = omega arith
-
-loop-less : tie.Need-loop-less Inv-loop μ-loop
-loop-less c = omega arith
 
 loop-again : tie.Need-loop-again Inv-loop μ-loop
 loop-again c = let a = c .before .before .before .before .before .args in
@@ -84,22 +60,4 @@ returns-3 c = let a = c .before .before .args in
 
 pub put-spec : {M : Type 1} → statement M
 put-spec =
-    tie.close
-    (tie.spec
-    Inv-loop
-    μ-loop
-    returns
-    div-if2
-    mul-at
-    loop-holds
-    mul-m
-    shared-slice-read-m
-    add-m
-    mul-m-2
-    slice-write-m
-    add-j
-    loop-less
-    loop-again
-    same-length
-    returns-2
-    returns-3)
+    tie.close (tie.spec Inv-loop μ-loop returns (λ c. search needs) mul-at loop-holds (λ c. omega arith) (λ c. omega arith) (λ c. omega arith) (λ c. omega arith) (λ c. omega arith) (λ c. omega arith) (λ c. omega arith) loop-again same-length returns-2 returns-3)
