@@ -1,7 +1,7 @@
 // Rows of numbers in lent memory: row i of a width has the numbers from i * width on.
 ghost use mathlib.Core.Path.{_≡_};
 ghost use lib.ListN.{length};
-ghost use Rattle.lent.specs.Rows.{zeros, flag, cellOf, putRow};
+ghost use Rattle.lent.specs.Rows.{zeros, flag, cellOf, numbersOf, putRow};
 
 // All zeros.
 pub fn clear(rows: &mut [u64])
@@ -34,6 +34,22 @@ pub fn cell(m: &[u64], width: usize, i: usize, j: usize) -> u64
         }
     }
     0
+}
+
+// The numbers of row i, of which there are at most eight; those that it does not have are 0.
+pub fn numbers(m: &[u64], width: usize, i: usize) -> [u64; 8]
+    ensures { λ r. ⌜ r ≡ numbersOf width (now (m .entry)) i ⌝ }
+{
+    [
+        cell(m, width, i, 0),
+        cell(m, width, i, 1),
+        cell(m, width, i, 2),
+        cell(m, width, i, 3),
+        cell(m, width, i, 4),
+        cell(m, width, i, 5),
+        cell(m, width, i, 6),
+        cell(m, width, i, 7),
+    ]
 }
 
 // Puts a row's numbers into row i; where memory ends before it, nothing.

@@ -13,12 +13,13 @@ const LINE: usize = 4;
 pub fn line_at(m: &[u64], i: usize) -> Line
     ensures { λ r. ⌜ r ≡ lineAt (now (m .entry)) i ⌝ }
 {
+    let n = rows::numbers(m, LINE, i);
     Line {
-        address: rows::cell(m, LINE, i, 0),
-        grade: (rows::cell(m, LINE, i, 1) % 256) as u8,
+        address: n[0],
+        grade: (n[1] % 256) as u8,
         name: Part {
-            at: rows::cell(m, LINE, i, 2) as usize,
-            len: rows::cell(m, LINE, i, 3) as usize,
+            at: n[2] as usize,
+            len: n[3] as usize,
         },
     }
 }

@@ -17,16 +17,17 @@ const NOTED: usize = 5;
 pub fn placed_at(m: &[u64], i: usize) -> Placed
     ensures { λ r. ⌜ r ≡ placedAt (now (m .entry)) i ⌝ }
 {
+    let n = rows::numbers(m, PLACED, i);
     Placed {
-        position: rows::cell(m, PLACED, i, 0) as usize,
+        position: n[0] as usize,
         name: Part {
-            at: rows::cell(m, PLACED, i, 1) as usize,
-            len: rows::cell(m, PLACED, i, 2) as usize,
+            at: n[1] as usize,
+            len: n[2] as usize,
         },
-        valid: rows::cell(m, PLACED, i, 3) == 1,
-        segment: SegmentNumber(rows::cell(m, PLACED, i, 4) as usize),
-        found: rows::cell(m, PLACED, i, 5) as usize,
-        link: rows::cell(m, PLACED, i, 6) as usize,
+        valid: n[3] == 1,
+        segment: SegmentNumber(n[4] as usize),
+        found: n[5] as usize,
+        link: n[6] as usize,
     }
 }
 
@@ -48,14 +49,15 @@ pub fn put_placed(m: &mut [u64], i: usize, row: Placed)
 pub fn noted_at(m: &[u64], i: usize) -> Noted
     ensures { λ r. ⌜ r ≡ notedAt (now (m .entry)) i ⌝ }
 {
+    let n = rows::numbers(m, NOTED, i);
     Noted {
-        target: rows::cell(m, NOTED, i, 0),
+        target: n[0],
         name: Part {
-            at: rows::cell(m, NOTED, i, 1) as usize,
-            len: rows::cell(m, NOTED, i, 2) as usize,
+            at: n[1] as usize,
+            len: n[2] as usize,
         },
-        valid: rows::cell(m, NOTED, i, 3) == 1,
-        link: rows::cell(m, NOTED, i, 4) as usize,
+        valid: n[3] == 1,
+        link: n[4] as usize,
     }
 }
 

@@ -110,19 +110,20 @@ fn kind_from(n: u64) -> Kind
 pub fn segment_at(m: &[u64], i: usize) -> SegmentRow
     ensures { λ r. ⌜ r ≡ segmentRowAt (now (m .entry)) i ⌝ }
 {
+    let n = rows::numbers(m, SEGMENT, i);
     SegmentRow {
-        seat: seat_from(rows::cell(m, SEGMENT, i, 0), rows::cell(m, SEGMENT, i, 1)),
+        seat: seat_from(n[0], n[1]),
         pattern: Part {
-            at: rows::cell(m, SEGMENT, i, 2) as usize,
-            len: rows::cell(m, SEGMENT, i, 3) as usize,
+            at: n[2] as usize,
+            len: n[3] as usize,
         },
         references: Part {
-            at: rows::cell(m, SEGMENT, i, 4) as usize,
-            len: rows::cell(m, SEGMENT, i, 5) as usize,
+            at: n[4] as usize,
+            len: n[5] as usize,
         },
         symbols: Part {
-            at: rows::cell(m, SEGMENT, i, 6) as usize,
-            len: rows::cell(m, SEGMENT, i, 7) as usize,
+            at: n[6] as usize,
+            len: n[7] as usize,
         },
     }
 }
@@ -148,15 +149,12 @@ pub fn put_segment(m: &mut [u64], i: usize, row: SegmentRow)
 pub fn reference_at(m: &[u64], i: usize) -> Reference
     ensures { λ r. ⌜ r ≡ referenceAt (now (m .entry)) i ⌝ }
 {
+    let n = rows::numbers(m, REFERENCE, i);
     Reference {
-        place: rows::cell(m, REFERENCE, i, 0) as usize,
-        kind: kind_from(rows::cell(m, REFERENCE, i, 1)),
-        offset: rows::cell(m, REFERENCE, i, 2) as usize,
-        goal: goal_from(
-            rows::cell(m, REFERENCE, i, 3),
-            rows::cell(m, REFERENCE, i, 4),
-            rows::cell(m, REFERENCE, i, 5),
-        ),
+        place: n[0] as usize,
+        kind: kind_from(n[1]),
+        offset: n[2] as usize,
+        goal: goal_from(n[3], n[4], n[5]),
     }
 }
 
@@ -181,12 +179,13 @@ pub fn put_reference(m: &mut [u64], i: usize, row: Reference)
 pub fn symbol_at(m: &[u64], i: usize) -> Symbol
     ensures { λ r. ⌜ r ≡ symbolAt (now (m .entry)) i ⌝ }
 {
+    let n = rows::numbers(m, SYMBOL, i);
     Symbol {
         name: Part {
-            at: rows::cell(m, SYMBOL, i, 0) as usize,
-            len: rows::cell(m, SYMBOL, i, 1) as usize,
+            at: n[0] as usize,
+            len: n[1] as usize,
         },
-        offset: rows::cell(m, SYMBOL, i, 2) as usize,
+        offset: n[2] as usize,
     }
 }
 
