@@ -1,6 +1,6 @@
 -- A line has its width, and is read back as it was written, whatever grade a byte holds. Assumes nothing.
 use Prim.Native.Nat.{_<_}
-use mathlib.Core.Path.{_≡_, refl, ap}
+use mathlib.Core.Path.{refl}
 use native.Mathlib.Nat.{mod-eq-of-lt}
 use Rattle.lent.specs.RowLaws.{Wide, Back}
 use Rattle.listing.specs.declared.Line.{Line}

@@ -1,8 +1,5 @@
 -- The search's rows have their widths, and are read back as they were written. Assumes nothing.
-use mathlib.Core.Path.{_≡_, refl, ap}
-use mathlib.Core.Bool.{Bool, true, false}
-use lib.Dec.{eqb}
-use Rattle.lent.specs.Rows.{flag}
+use mathlib.Core.Path.{refl}
 use Rattle.lent.specs.RowLaws.{Wide, Back, flag-back}
 use Rattle.search.specs.declared.Placed.{Placed}
 use Rattle.search.specs.declared.Noted.{Noted}

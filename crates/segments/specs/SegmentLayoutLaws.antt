@@ -1,6 +1,6 @@
 -- The collection's rows have their widths, and are read back as they were written. Assumes nothing.
 use Prim.Native.Nat.{ℕ}
-use mathlib.Core.Path.{_≡_, refl, ap}
+use mathlib.Core.Path.{_≡_, refl}
 use mathlib.Core.List.{List, [], _∷_}
 use Rattle.lent.specs.RowLaws.{Wide, Back}
 use Rattle.pattern.specs.declared.Seat.{Seat}
