@@ -11,3 +11,5 @@ pub mod Refusals
 pub mod RefusalLaws
 pub mod Rows
 pub mod RowLaws
+pub mod OneOutcome
+pub mod RowOutcomes

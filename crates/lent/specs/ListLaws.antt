@@ -3,12 +3,13 @@ use Prim.Native.Nat.{ℕ, zero, suc, _+_, _-_, _*_, _≤_, _<_}
 use mathlib.Core.Path.{_≡_, refl, sym, ap, _∙_}
 use mathlib.Core.Logic.{_↔_}
 use mathlib.Core.Bool.{Bool, true, and-eq-true-iff}
-use mathlib.Core.List.{List, [], _∷_}
+use mathlib.Core.List.{List, [], _∷_, _++_, append-assoc, append-nil}
 use native.Mathlib.Decide.{decLt}
 use native.Mathlib.Nat.{suc-mul}
 use native.Mathlib.Omega.{arith}
-use lib.ListN.{length, length-append}
-use Rattle.lent.specs.Lists.{joined, all, from, numbered, total}
+use lib.ListN.{length, getD, set, length-append, length-set, List·getD-append}
+use lib.Seq.{sets, getD-append-add, getD-set-same, getD-set-other}
+use Rattle.lent.specs.Lists.{one, joined, all, from, numbered, total}
 
 -- a loop over the numbers up to n: keep, joined, fold, any and all compute at the result
 pub from-turn : (i n : ℕ) → i < n → from i (n - i) ≡ i ∷ from (i + 1) (n - (i + 1))
@@ -66,3 +67,38 @@ total-width k (x ∷ xs) = rw (total-width k xs) (omega (arith, suc-mul (length 
 
 pub rows-length : {A B : Type 0} (k : ℕ) (f : A → List B) → ((x : A) → length (f x) ≡ k) → (xs : List A) → length (joined f xs) ≡ length xs * k
 rows-length k f w xs = joined-length f xs ∙ total-same (λ x. length (f x)) (λ x. k) w xs ∙ total-width k xs
+
+pub joined-snoc : {A B : Type 0} (f : A → List B) (xs : List A) (x : A) → joined f (xs ++ one x) ≡ joined f xs ++ f x
+unfolding joined
+joined-snoc f [] x = append-nil (f x)
+joined-snoc f (y ∷ xs) x = ap (λ ys. f y ++ ys) (joined-snoc f xs x) ∙ sym (append-assoc (f y) (joined f xs) (f x))
+
+-- what stands in lists of one width, put together
+pub joined-at : {A : Type 0} (k : ℕ) (f : A → List ℕ) → ((x : A) → length (f x) ≡ k) → (d : A) (xs : List A) (i j : ℕ) → i < length xs → j < k
+    → getD (joined f xs) (i * k + j) 0 ≡ getD (f (getD xs i d)) j 0
+unfolding joined
+joined-at k f w d [] i j h l = absurd (omega arith)
+joined-at k f w d (x ∷ xs) zero j h l =
+    let e : 0 * k + j ≡ j = omega arith in
+    rw e (List·getD-append (f x) (joined f xs) 0 j (omega (arith, w x)))
+joined-at k f w d (x ∷ xs) (suc i) j h l =
+    let e : suc i * k + j ≡ length (f x) + (i * k + j) = omega (arith, w x, suc-mul i k) in
+    rw e (getD-append-add (f x) (joined f xs) (i * k + j) 0 ∙ joined-at k f w d xs i j (omega arith) l)
+
+-- what stands in a list after a run of stores: before it, in it and after it
+pub sets-before : (vs xs : List ℕ) (i k : ℕ) → k < i → getD (sets xs i vs) k 0 ≡ getD xs k 0
+sets-before [] xs i k h = refl
+sets-before (v ∷ vs) xs i k h = sets-before vs (set xs i v) (suc i) k (omega arith) ∙ getD-set-other xs i k v 0 (λ e. omega arith)
+
+pub sets-in : (vs xs : List ℕ) (i j : ℕ) → i + length vs ≤ length xs → j < length vs → getD (sets xs i vs) (i + j) 0 ≡ getD vs j 0
+sets-in [] xs i j h l = absurd (omega arith)
+sets-in (v ∷ vs) xs i zero h l =
+    let e : i + 0 ≡ i = omega arith in
+    rw e (sets-before vs (set xs i v) (suc i) i (omega arith) ∙ getD-set-same xs i v 0 (omega arith))
+sets-in (v ∷ vs) xs i (suc j) h l =
+    let e : i + suc j ≡ suc i + j = omega arith in
+    rw e (sets-in vs (set xs i v) (suc i) j (omega (arith, length-set xs i v)) (omega arith))
+
+pub sets-after : (vs xs : List ℕ) (i k : ℕ) → i + length vs ≤ k → getD (sets xs i vs) k 0 ≡ getD xs k 0
+sets-after [] xs i k h = refl
+sets-after (v ∷ vs) xs i k h = sets-after vs (set xs i v) (suc i) k (omega arith) ∙ getD-set-other xs i k v 0 (λ e. omega arith)

@@ -2,3 +2,4 @@
 pub mod names;
 pub mod part;
 pub mod refusal;
+pub mod rows;

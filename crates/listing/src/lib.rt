@@ -1,5 +1,6 @@
 // The list: graded names by address; descriptions of names.
 pub mod describe;
+pub mod rows;
 mod words;
 
 use lent::part::Part;

@@ -3,3 +3,6 @@ pub mod Search
 pub mod SearchLaws
 pub mod SearchRows
 pub mod SearchRowLaws
+pub mod SearchLayouts
+pub mod SearchLayoutLaws
+pub mod OneOutcome

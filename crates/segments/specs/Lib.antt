@@ -8,3 +8,6 @@ pub mod Collect
 pub mod CollectLaws
 pub mod SegmentRows
 pub mod SegmentRowLaws
+pub mod SegmentLayouts
+pub mod SegmentLayoutLaws
+pub mod OneOutcome

@@ -20,14 +20,14 @@ use Rattle.segments.specs.CollectLaws.{source, same-length}
 use Rattle.segments.specs.SegmentRows.{segmentWidth, referenceWidth, symbolWidth, seatCells, segmentCells, goalCells, referenceCells, symbolCells, segmentRowsFrom, segmentRows, noRow, segmentNumbers, referenceNumbers, symbolNumbers, patternBytes, patternMasks}
 
 -- each row has its width
-segment-wide : (r : SegmentRow) → length (segmentCells r) ≡ segmentWidth
+pub segment-wide : (r : SegmentRow) → length (segmentCells r) ≡ segmentWidth
 segment-wide r = go (r .seat) _
   where
     go : (seat : Seat) (rest : List ℕ) → length (seatCells seat rest) ≡ suc (suc (length rest))
     go Anywhere rest = refl
     go (Only address) rest = refl
 
-reference-wide : (r : Reference) → length (referenceCells r) ≡ referenceWidth
+pub reference-wide : (r : Reference) → length (referenceCells r) ≡ referenceWidth
 reference-wide r = ap (λ n. suc (suc (suc n))) (go (r .goal))
   where
     go : (g : Goal) → length (goalCells g) ≡ 3

@@ -29,10 +29,11 @@ abbrev pub seatCells : Seat → List ℕ → List ℕ
 seatCells Anywhere rest = 0 ∷ 0 ∷ rest
 seatCells (Only address) rest = 1 ∷ address ∷ rest
 
+abbrev pub partCells : SegmentRow → List ℕ
+partCells r = r .pattern .at ∷ r .pattern .len ∷ r .references .at ∷ r .references .len ∷ r .symbols .at ∷ r .symbols .len ∷ []
+
 abbrev pub segmentCells : SegmentRow → List ℕ
-segmentCells r =
-    seatCells (r .seat)
-    (r .pattern .at ∷ r .pattern .len ∷ r .references .at ∷ r .references .len ∷ r .symbols .at ∷ r .symbols .len ∷ [])
+segmentCells r = seatCells (r .seat) (partCells r)
 
 -- a reference: place, kind, offset; then 0 and a segment's number, or 1 and place and length of a name
 abbrev pub goalCells : Goal → List ℕ

@@ -1,5 +1,6 @@
 // Segments to be searched for, as they are collected from the modules.
 pub mod masks;
+pub mod rows;
 
 use fixup::Kind;
 use lent::part::Part;
