@@ -2,3 +2,4 @@
 pub mod Target
 pub mod TargetLaws
 pub mod AddressLaws
+pub mod OneOutcome

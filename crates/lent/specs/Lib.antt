@@ -13,3 +13,4 @@ pub mod Rows
 pub mod RowLaws
 pub mod OneOutcome
 pub mod RowOutcomes
+pub mod NameOutcomes

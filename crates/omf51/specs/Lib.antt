@@ -6,3 +6,4 @@ pub mod Entry
 pub mod Module
 pub mod File
 pub mod FileLaws
+pub mod OneOutcome

@@ -7,3 +7,4 @@ pub mod Window
 pub mod WindowLaws
 pub mod Next
 pub mod NextLaws
+pub mod OneOutcome
