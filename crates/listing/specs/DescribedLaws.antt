@@ -15,7 +15,6 @@ use Rattle.listing.specs.declared.words.Taken.{Taken}
 use Rattle.listing.specs.declared.words.Taken.the-variants.{Took, Nothing}
 use Rattle.listing.specs.declared.describe.Piece.{Piece}
 use Rattle.listing.specs.declared.describe.Sentence.{Sentence}
-use Rattle.listing.specs.declared.describe.Described.{Described}
 use Rattle.listing.specs.declared.describe.Described.the-variants.{Written, NoRoom, Nothing as NoDescription}
 use Rattle.listing.specs.Describe.{Words, Said, front, signs, types, operations, moves, memories, into, startsWith, oneOf, wordOff, text, more, _or_, perhaps, moving, saidIn, description, describe}
 use Rattle.listing.specs.Described.{said, sayAt, say, saidBy, taken, sentence, Put, answered, described}
@@ -141,7 +140,3 @@ module _ (name out : List ℕ) where
 
   pub fits : {t after : List ℕ} {end : ℕ} → some t ≡ describe name → length t ≤ length out → Put out 0 t after end → (Written end, after) ≡ described name out
   fits {t} e h p = rw (p .ends, p .stored, sym e, le-leb (length t) (length out) h, sets-front out t h, zero-add)
-
--- two outcomes that the contract allows are equal: the answer and every byte
-pub described-one : (name out : List ℕ) {a b : Described × List ℕ} → a ≡ described name out → b ≡ described name out → a ≡ b
-described-one name out p q = p ∙ sym q

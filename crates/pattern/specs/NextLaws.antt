@@ -1,15 +1,13 @@
 -- Steps through the matches. Assumes nothing.
 use Prim.Native.Nat.{ℕ, zero, suc, _+_, _-_, _≤_, _<_}
-use mathlib.Core.Path.{_≡_, refl, sym, ap, _∙_}
-use mathlib.Core.Bool.{Bool, true, false}
+use mathlib.Core.Path.{_≡_, refl}
+use mathlib.Core.Bool.{true, false}
 use mathlib.Core.List.{List, [], _∷_}
 use native.Mathlib.Omega.{arith}
 use native.Mathlib.Nat.{sub-zero}
 use lib.ListN.{length}
-use Rattle.lent.specs.Choice.{if_then_else_}
 use Rattle.lent.specs.Lists.{keep, from}
-use Rattle.lent.specs.ListLaws.{from-turn, from-end}
-use Rattle.pattern.specs.declared.Found.{Found}
+use Rattle.lent.specs.ListLaws.{from-turn}
 use Rattle.pattern.specs.declared.Found.the-variants.{At, Nothing}
 use Rattle.pattern.specs.declared.Seat.the-variants.{Anywhere}
 use Rattle.pattern.specs.Match.{matchesAt, matches}

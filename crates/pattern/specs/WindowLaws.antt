@@ -1,5 +1,5 @@
 -- When a window is apart from the stretch, in numbers. Assumes nothing.
-use Prim.Native.Nat.{ℕ, _+_, _-_, _≤_, _<_}
+use Prim.Native.Nat.{ℕ, _-_, _≤_, _<_}
 use mathlib.Core.Path.{_≡_, refl, sym, _∙_}
 use mathlib.Core.Logic.{_↔_}
 use mathlib.Core.Bool.{Bool, true, false, not, false≢true}
@@ -14,7 +14,7 @@ use Rattle.lent.specs.Lists.{all, from}
 use Rattle.lent.specs.ListLaws.{every, if-every}
 use Rattle.pattern.specs.declared.Stretch.{Stretch}
 use Rattle.pattern.specs.View.{within, view}
-use Rattle.pattern.specs.ViewLaws.{Inside, within-inside}
+use Rattle.pattern.specs.ViewLaws.{within-inside}
 use Rattle.pattern.specs.MatchLaws.{Apart, matches-seen, seen-apart}
 use Rattle.pattern.specs.Match.{matchesAt}
 use Rattle.pattern.specs.Window.{isApart}
