@@ -28,7 +28,7 @@ pub enum Described {
     Nothing,
 }
 
-// A word that may be missing: where it is, it says nothing, and the name goes on at the same place.
+// A word that may be missing. A missing one says nothing, and the name goes on at the same place.
 struct Piece {
     pub says: Saying,
     pub next: usize,
