@@ -28,7 +28,7 @@ pub enum Described {
     Nothing,
 }
 
-// A word that may be missing: where it is, it says nothing, and the name goes on at the same place.
+// A word that may be missing. A missing one says nothing, and the name goes on at the same place.
 struct Piece {
     pub says: Saying,
     pub next: usize,
@@ -56,7 +56,8 @@ fn parse_moving(name: &[u8], at: usize, sign: Saying, kind: Saying) -> Parsed
     let Taken::Took(memory, end) = words::memory(name, from) else {
         return Parsed::Nothing;
     };
-    let last = perhaps(words::zero(name, end), end);
+    let zero = words::try_word(name, end, *b"0    ", 1, Saying { at: 395, len: 11 });
+    let last = perhaps(zero, end);
     let into = last.says;
     Parsed::Whole(Sentence {
         sign,
@@ -70,7 +71,8 @@ fn parse_moving(name: &[u8], at: usize, sign: Saying, kind: Saying) -> Parsed
 fn parse(name: &[u8]) -> Parsed
     ensures { λ r. ⌜ sentenceIn r ≡ definition (now (name .entry)) ⌝ }
 {
-    let Taken::Took(_, from) = words::front(name, 0) else {
+    let Taken::Took(_, from) = words::try_word(name, 0, *b"?C?  ", 3, Saying { at: 0, len: 0 })
+    else {
         return Parsed::Nothing;
     };
     let first = perhaps(words::sign(name, from), from);

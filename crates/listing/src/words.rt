@@ -3,7 +3,7 @@ ghost use mathlib.Core.Path.{_≡_};
 ghost use Prim.Native.Nat.{_≤_};
 ghost use lib.ListN.{length, take, drop, getD};
 ghost use Rattle.lent.specs.Lists.{one};
-ghost use Rattle.listing.specs.Describe.{oneOf, front as fronts, signs, types, operations, moves, memories, into};
+ghost use Rattle.listing.specs.Describe.{oneOf, signs, types, operations, moves, memories};
 ghost use Rattle.listing.specs.Described.{said, say, saidBy, tableOf};
 
 // A stretch of what the words say.
@@ -17,12 +17,6 @@ pub enum Taken {
     Took(Saying, usize),
     Nothing,
 }
-
-const FRONT_WORDS: [[u8; 5]; 1] = [*b"?C?  "];
-
-const FRONT_LENGTHS: [usize; 1] = [3];
-
-const FRONT_SAYS: [[u16; 2]; 1] = [[0, 0]];
 
 const SIGN_WORDS: [[u8; 5]; 2] = [*b"S    ", *b"U    "];
 
@@ -101,12 +95,6 @@ const MEMORY_SAYS: [[u16; 2]; 6] = [
     [380, 15],
 ];
 
-const ZERO_WORDS: [[u8; 5]; 1] = [*b"0    "];
-
-const ZERO_LENGTHS: [usize; 1] = [1];
-
-const ZERO_SAYS: [[u16; 2]; 1] = [[395, 11]];
-
 // What all words say, list by list.
 const SAID: [u8; 406] =
     *b"signed unsigned char (8-bit) int (16-bit) general pointer long (r3-r0) long (32-bit) float \
@@ -121,7 +109,7 @@ pub fn said_at(at: usize) -> u8
 }
 
 // One word, at a place of the name.
-fn try_word(name: &[u8], at: usize, word: [u8; 5], len: usize, says: Saying) -> Taken
+pub fn try_word(name: &[u8], at: usize, word: [u8; 5], len: usize, says: Saying) -> Taken
     ensures { λ r. ⌜ saidBy (now (name .entry)) r ≡ oneOf (one (take len word, say says)) (drop at (now (name .entry))) ⌝ }
 {
     let mut next = at;
@@ -168,12 +156,6 @@ fn one_of(name: &[u8], at: usize, words: &[[u8; 5]], lengths: &[usize], says: &[
     Taken::Nothing
 }
 
-pub fn front(name: &[u8], at: usize) -> Taken
-    ensures { λ r. ⌜ saidBy (now (name .entry)) r ≡ oneOf fronts (drop at (now (name .entry))) ⌝ }
-{
-    one_of(name, at, &FRONT_WORDS, &FRONT_LENGTHS, &FRONT_SAYS)
-}
-
 pub fn sign(name: &[u8], at: usize) -> Taken
     ensures { λ r. ⌜ saidBy (now (name .entry)) r ≡ oneOf signs (drop at (now (name .entry))) ⌝ }
 {
@@ -208,10 +190,4 @@ pub fn memory(name: &[u8], at: usize) -> Taken
     ensures { λ r. ⌜ saidBy (now (name .entry)) r ≡ oneOf memories (drop at (now (name .entry))) ⌝ }
 {
     one_of(name, at, &MEMORY_WORDS, &MEMORY_LENGTHS, &MEMORY_SAYS)
-}
-
-pub fn zero(name: &[u8], at: usize) -> Taken
-    ensures { λ r. ⌜ saidBy (now (name .entry)) r ≡ oneOf into (drop at (now (name .entry))) ⌝ }
-{
-    one_of(name, at, &ZERO_WORDS, &ZERO_LENGTHS, &ZERO_SAYS)
 }

@@ -8,8 +8,8 @@ use borrow.Author.Needs.{needs}
 use Rattle.listing.proofs.describe.parse.Statement.{statement}
 use Rattle.listing.proofs.describe.parse.Tie as tie
 
-front-requires : tie.Need-front-requires
-front-requires c κs = search needs
+try-word-requires : tie.Need-try-word-requires
+try-word-requires c κs = search needs
 
 enum-known-from : tie.Need-enum-known-from
 enum-known-from c = search needs
@@ -18,8 +18,8 @@ enum-told : tie.Need-enum-told
 enum-told c = search needs
 
 returns : tie.Need-returns
-returns c = let name = now (c .before .before .before .before .args .name) in
-    no-front name (known name (c .before .before .front .ensures) (c .enum-told .given .1))
+returns c = let name = now (c .before .before .before .before .before .before .args .name) in
+    no-front name (known name (c .before .before .try-word .ensures) (c .enum-told .given .1))
 
 sign-requires : tie.Need-sign-requires
 sign-requires c κs = search needs
@@ -39,9 +39,9 @@ enum-told-2 c = search needs
 returns-2 : tie.Need-returns-2
 returns-2 c = let p = c .before .before .before .before in
     let q = p .before .before .before in
-    let name = now (q .before .before .before .before .args .name) in
+    let name = now (q .before .before .before .before .before .before .args .name) in
     no-kind name
-    (known name (q .before .before .front .ensures) (q .from .given .1))
+    (known name (q .before .before .try-word .ensures) (q .from .given .1))
     (perhaps-said signs name (q .from .given .0 .1 .0) (p .before .sign .result) (p .before .sign .ensures) (p .perhaps .ensures))
     (known name (c .before .before .kind .ensures) (c .enum-told2 .given .1))
 
@@ -61,10 +61,10 @@ returns-3 : tie.Need-returns-3
 returns-3 c = let k = c .before .before .before .before .before in
     let p = k .before .before .before .before in
     let q = p .before .before .before in
-    let name = now (q .before .before .before .before .args .name) in
+    let name = now (q .before .before .before .before .before .before .args .name) in
     c .parse-moving .ensures
     ∙ moves-on name
-    (known name (q .before .before .front .ensures) (q .from .given .1))
+    (known name (q .before .before .try-word .ensures) (q .from .given .1))
     (perhaps-said signs name (q .from .given .0 .1 .0) (p .before .sign .result) (p .before .sign .ensures) (p .perhaps .ensures))
     (known name (k .before .before .kind .ensures) (k .kind2 .given .1))
     (known name (c .before .before .before .operation .ensures) (c .before .enum-told3 .given .1))
@@ -73,9 +73,9 @@ returns-4 : tie.Need-returns-4
 returns-4 c = let k = c .before .before .before .before .before in
     let p = k .before .before .before .before in
     let q = p .before .before .before in
-    let name = now (q .before .before .before .before .args .name) in
+    let name = now (q .before .before .before .before .before .before .args .name) in
     operates name
-    (known name (q .before .before .front .ensures) (q .from .given .1))
+    (known name (q .before .before .try-word .ensures) (q .from .given .1))
     (perhaps-said signs name (q .from .given .0 .1 .0) (p .before .sign .result) (p .before .sign .ensures) (p .perhaps .ensures))
     (known name (k .before .before .kind .ensures) (k .kind2 .given .1))
     (known name (c .before .before .before .operation .ensures) (c .before .verb .given .1))
@@ -84,7 +84,7 @@ pub parse-spec : {M : Type 1} → statement M
 parse-spec =
     tie.close
     (tie.spec
-    front-requires
+    try-word-requires
     enum-known-from
     enum-told
     returns

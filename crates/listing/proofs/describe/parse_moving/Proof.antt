@@ -37,18 +37,21 @@ returns-2 c = let s = c .before .before .before .before .before .before .before 
     (known (now (s .name)) (c .before .before .before .before .before .before .movement .ensures) (c .before .before .before .before .verb .given .1))
     (known (now (s .name)) (c .before .before .memory .ensures) (c .enum-told2 .given .1))
 
-zero-requires : tie.Need-zero-requires
-zero-requires c κs = search needs
+try-word-requires : tie.Need-try-word-requires
+try-word-requires c κs = search needs
 
 perhaps-requires : tie.Need-perhaps-requires
 perhaps-requires c κs = search needs
 
 returns-3 : tie.Need-returns-3
-returns-3 c = let s = c .before .before .before .before .before .before .before .before .before .before .before .before .args in
+returns-3 c =
+    let m = c .before .before .before .before .before .before in
+    let v = m .before .before .before .before in
+    let s = v .before .before .before .before .args in
     all-moved (say (s .sign)) (say (s .kind)) (drop (s .at) (now (s .name)))
-    (known (now (s .name)) (c .before .before .before .before .before .before .before .before .before .before .movement .ensures) (c .before .before .before .before .before .before .before .before .verb .given .1))
-    (known (now (s .name)) (c .before .before .before .before .before .before .memory .ensures) (c .before .before .before .before .memory2 .given .1))
-    (perhaps-said into (now (s .name)) (c .before .before .before .before .memory2 .given .0 .1 .0) (c .before .before .zero .result) (c .before .before .zero .ensures) (c .before .perhaps .ensures))
+    (known (now (s .name)) (v .before .before .movement .ensures) (v .verb .given .1))
+    (known (now (s .name)) (m .before .before .memory .ensures) (m .memory2 .given .1))
+    (perhaps-said into (now (s .name)) (m .memory2 .given .0 .1 .0) (c .before .before .try-word .result) (c .before .before .try-word .ensures) (c .before .perhaps .ensures))
 
 pub parse-moving-spec : {M : Type 1} → statement M
 parse-moving-spec =
@@ -62,6 +65,6 @@ parse-moving-spec =
     enum-known-memory
     enum-told-2
     returns-2
-    zero-requires
+    try-word-requires
     perhaps-requires
     returns-3)
