@@ -1,8 +1,10 @@
 -- The collection's rows have their widths, and are read back as they were written. Assumes nothing.
-use Prim.Native.Nat.{ℕ}
+use Prim.Native.Nat.{ℕ, _+_, _*_, _≤_}
 use mathlib.Core.Path.{_≡_, refl}
 use mathlib.Core.List.{List, [], _∷_}
-use Rattle.lent.specs.RowLaws.{Wide, Back}
+use lib.ListN.{length}
+use Rattle.lent.specs.Rows.{putRow}
+use Rattle.lent.specs.RowLaws.{Wide, Back, get-put}
 use Rattle.pattern.specs.declared.Seat.{Seat}
 use Rattle.pattern.specs.declared.Seat.the-variants.{Anywhere, Only}
 use Rattle.fixup.specs.declared.Kind.{Kind}
@@ -13,9 +15,9 @@ use Rattle.segments.specs.declared.Goal.the-variants as Goal
 use Rattle.segments.specs.declared.Reference.{Reference}
 use Rattle.segments.specs.declared.Symbol.{Symbol}
 use Rattle.segments.specs.declared.SegmentRow.{SegmentRow}
-use Rattle.segments.specs.SegmentRows.{seatCells, goalCells}
+use Rattle.segments.specs.SegmentRows.{segmentWidth, referenceWidth, symbolWidth, seatCells, goalCells, segmentCells, referenceCells, symbolCells}
 use Rattle.segments.specs.SegmentRowLaws.{segment-wide, reference-wide}
-use Rattle.segments.specs.SegmentLayouts.{seatFrom, kindFrom, goalFrom, seatPair, goalTriple, segmentLayout, referenceLayout, symbolLayout}
+use Rattle.segments.specs.SegmentLayouts.{seatFrom, kindFrom, goalFrom, seatPair, goalTriple, segmentLayout, referenceLayout, symbolLayout, segmentRowAt, referenceAt, symbolAt}
 
 -- a case's numbers, one by one
 pub seat-cells : (seat : Seat) (rest : List ℕ) → seatCells seat rest ≡ seatPair seat .tag ∷ seatPair seat .held ∷ rest
@@ -57,3 +59,13 @@ reference-back r = rw (goal-cells, goal-back, kind-back)
 
 pub symbol-back : (y : Symbol) → Back symbolLayout y
 symbol-back y = refl
+
+-- what is put is got
+pub segment-kept : (m : List ℕ) (i : ℕ) (r : SegmentRow) → i * segmentWidth + segmentWidth ≤ length m → segmentRowAt (putRow segmentWidth m i (segmentCells r)) i ≡ r
+segment-kept m i r h = get-put segmentLayout segment-width m i r h (segment-back r)
+
+pub reference-kept : (m : List ℕ) (i : ℕ) (r : Reference) → i * referenceWidth + referenceWidth ≤ length m → referenceAt (putRow referenceWidth m i (referenceCells r)) i ≡ r
+reference-kept m i r h = get-put referenceLayout reference-width m i r h (reference-back r)
+
+pub symbol-kept : (m : List ℕ) (i : ℕ) (r : Symbol) → i * symbolWidth + symbolWidth ≤ length m → symbolAt (putRow symbolWidth m i (symbolCells r)) i ≡ r
+symbol-kept m i r h = get-put symbolLayout symbol-width m i r h (symbol-back r)
