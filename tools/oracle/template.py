@@ -3,7 +3,7 @@ import re
 from pathlib import Path
 
 # The crates whose specs/ hold the definition, each before those that use it.
-CRATES = ("lent", "pattern", "fixup", "omf51", "segments", "search", "listing", "libfind")
+CRATES = ("lent", "pattern", "fixup", "omf51", "segments", "search", "describe", "listing", "libfind")
 
 IMPORTS = """use Prim.Native.Nat.{ℕ, zero, suc}
 use mathlib.Core.Path.{_≡_, refl}

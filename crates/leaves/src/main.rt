@@ -1,10 +1,10 @@
 // Small examples of the leaves, run and compared: document 01's P1 to P14, jumps and calls of the MCS-51 manual, and limits.
+use describe::Described;
 use fixup::Kind;
 use fixup::Rules;
 use fixup::Target;
 use lent::part::Part;
 use libc::STDOUT_FILENO;
-use listing::describe::Described;
 use omf51::Fixup;
 use omf51::ModuleId;
 use pattern::Found;
@@ -202,7 +202,7 @@ fn names() {
 
 // A description in the room of a buffer, between brackets.
 fn described(name: &[u8], out: &mut [u8]) {
-    match listing::describe::describe(name, out) {
+    match describe::describe(name, out) {
         Described::Written(n) => {
             say(b" [");
             say(lent::names::name(out, part(0, n)));

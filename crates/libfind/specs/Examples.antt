@@ -32,7 +32,7 @@ use Rattle.search.specs.Search.{positionsOf, allMatches, isValid, holds, notes,
 use Rattle.search.specs.SearchRows.{newest, linkedFrom, placedNumbers, notedNumbers}
 use Rattle.listing.specs.declared.Skip.the-variants.{Never}
 use Rattle.listing.specs.Listing.{bestGrade, best, grade, gradedAt, linesAt, leftovers, listing, lineNumbers}
-use Rattle.listing.specs.Describe.{text, oneOf, description, describe}
+use Rattle.describe.specs.Describe.{text, oneOf, description, describe}
 use Rattle.listing.specs.Print.{digits, moreDigits, printedLine, printed}
 use Rattle.libfind.specs.declared.Settings.{Settings}
 use Rattle.libfind.specs.declared.Answer.the-variants.{Done}

@@ -7,14 +7,9 @@ use Rattle.lent.specs.Rows.{putRow}
 use Rattle.listing.specs.declared.Line.{Line}
 use Rattle.listing.specs.Listing.{lineWidth, lineCells}
 use Rattle.listing.specs.LineLayout.{lineAt}
-use Rattle.listing.specs.Described.{described}
 
 pub line-at-one : (m : List ℕ) (i : ℕ) → Determines (λ r. r ≡ lineAt m i)
 line-at-one m i = by-equation (lineAt m i)
 
 pub put-line-one : (m : List ℕ) (i : ℕ) (row : Line) → Determines (λ exit. exit ≡ putRow lineWidth m i (lineCells row))
 put-line-one m i row = by-equation (putRow lineWidth m i (lineCells row))
-
--- `describe`: the answer, and the buffer afterwards
-pub describe-one : (name out : List ℕ) → Determines (λ o. o ≡ described name out)
-describe-one name out = by-equation (described name out)

@@ -8,7 +8,7 @@ use Rattle.lent.specs.Choice.{if_then_else_}
 use Rattle.lent.specs.Lists.{one, joined}
 use Rattle.lent.specs.Parts.{bytesOf}
 use Rattle.listing.specs.declared.Line.{Line}
-use Rattle.listing.specs.Describe.{text, describe}
+use Rattle.describe.specs.Describe.{text, describe}
 
 -- blanks after a text, up to a width; a longer text is not cut
 abbrev pub column : ℕ → List ℕ → List ℕ

@@ -1,7 +1,5 @@
-// The list: graded names by address; descriptions of names.
-pub mod describe;
+// The list: graded names by address.
 pub mod rows;
-mod words;
 
 use lent::part::Part;
 
