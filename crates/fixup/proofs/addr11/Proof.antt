@@ -1,3 +1,4 @@
+-- `addr11` joins bits that do not overlap. Assumes nothing.
 use native.Mathlib.Omega.{arith}
 use Rattle.fixup.specs.Target.{topBits}
 use Rattle.fixup.specs.AddressLaws.{top-small, joined11}

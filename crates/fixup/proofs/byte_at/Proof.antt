@@ -1,3 +1,4 @@
+-- `byte_at` is 0 past the end. Assumes nothing.
 use mathlib.Core.Path.{sym}
 use lib.ListN.{List·getD-eq-default}
 use borrow.Author.Needs.{needs}

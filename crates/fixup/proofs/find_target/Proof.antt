@@ -1,3 +1,4 @@
+-- `find_target`: bytes that can be read are the image's, and without them there is no target. Assumes nothing.
 use mathlib.Core.Path.{_≡_, sym, ap, _∙_}
 use mathlib.Core.Bool.{true, false}
 use native.Mathlib.Omega.{arith}

@@ -1,3 +1,4 @@
+-- `leads_to` by the kind. Assumes nothing.
 use mathlib.Core.Path.{ap}
 use native.Mathlib.Omega.{arith}
 use Rattle.fixup.specs.Target.{reads}

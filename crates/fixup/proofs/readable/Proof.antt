@@ -1,3 +1,4 @@
+-- `readable` tests the end, and then the window. Assumes nothing.
 use mathlib.Core.Path.{sym, _∙_}
 use native.Mathlib.Omega.{arith}
 use Rattle.pattern.specs.View.{view}

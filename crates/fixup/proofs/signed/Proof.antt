@@ -1,3 +1,4 @@
+-- `signed` by its two cases. Assumes nothing.
 use mathlib.Core.Path.{sym, ap, _∙_}
 use Prim.Native.Nat.{_+_}
 use Rattle.fixup.specs.AddressLaws.{signed-low, signed-high}

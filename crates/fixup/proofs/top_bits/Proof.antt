@@ -1,3 +1,4 @@
+-- `top_bits` by the rule set. Assumes nothing.
 use mathlib.Core.Path.{sym, ap, _∙_}
 use Rattle.fixup.specs.Target.{topBits}
 use borrow.Author.Needs.{needs}

@@ -1,3 +1,4 @@
+-- `matches` ends after sixteen turns. Assumes nothing.
 use Prim.Native.Nat.{_-_, _≤_}
 use borrow.Author.Needs.{needs}
 use Rattle.leaves.proofs.matches.Statement.{statement}

@@ -1,3 +1,4 @@
+-- `segment_size` by its two tests. Assumes nothing.
 use borrow.Author.Tests.{eq-eqb, ne-eqb}
 use lib.Bits.{bitAnd}
 use Rattle.omf51.proofs.segment_size.Statement.{statement}

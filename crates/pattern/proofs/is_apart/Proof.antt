@@ -1,3 +1,4 @@
+-- `is_apart` gives one of four answers, each by a law of windows. Assumes nothing.
 use mathlib.Core.Path.{sym}
 use Rattle.pattern.specs.WindowLaws.{no-window, no-stretch, window-before, window-after}
 use borrow.Author.Needs.{needs}

@@ -1,3 +1,4 @@
+-- `match_at` asks the image where the window is apart from the stretch, and says no elsewhere. Assumes nothing.
 use mathlib.Core.Path.{sym, _∙_}
 use Rattle.pattern.specs.WindowLaws.{apart-match, shared-match}
 use borrow.Author.Needs.{needs}

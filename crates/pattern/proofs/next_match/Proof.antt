@@ -1,3 +1,4 @@
+-- `next_match` goes from place to place. The invariant: the next match from here is the next from the start. Assumes nothing.
 use Prim.Native.Nat.{ℕ, _+_, _-_}
 use mathlib.Core.Path.{_≡_, refl, sym, _∙_}
 use mathlib.Core.List.{List}

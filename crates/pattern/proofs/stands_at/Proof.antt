@@ -1,3 +1,4 @@
+-- `stands_at` goes along the pattern. The invariant: what is left of it decides as the whole did. Assumes nothing.
 use Prim.Native.Nat.{ℕ, _+_, _-_, _≤_, min}
 use mathlib.Core.Path.{_≡_, sym, _∙_}
 use mathlib.Core.List.{List}

@@ -1,3 +1,4 @@
+-- `before` goes along both strings. The invariant: what is left of them is ordered as the whole was. Assumes nothing.
 use Prim.Native.Nat.{ℕ, _-_, _≤_}
 use mathlib.Core.Path.{_≡_, refl, sym, _∙_}
 use mathlib.Core.List.{List}

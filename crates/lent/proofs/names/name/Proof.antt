@@ -1,3 +1,4 @@
+-- `name` hands back that very part, and nothing where it does not fit. Assumes nothing.
 use mathlib.Core.Path.{sym}
 use native.Mathlib.Omega.{arith}
 use Rattle.lent.specs.PartLaws.{part-past, part-fits}

@@ -1,3 +1,4 @@
+-- `name_before` orders the bytes of two parts. Assumes nothing.
 use mathlib.Core.Path.{ap₂, _∙_}
 use Rattle.lent.specs.Parts.{before}
 use borrow.Author.Needs.{needs}

@@ -1,3 +1,4 @@
+-- `same` goes along both strings. The invariant: what is left of them decides as the whole did. Assumes nothing.
 use Prim.Native.Nat.{ℕ, _-_, _≤_}
 use mathlib.Core.Path.{_≡_, refl, sym, _∙_}
 use mathlib.Core.List.{List}

@@ -1,3 +1,4 @@
+-- `same_name` compares the bytes of two parts. Assumes nothing.
 use mathlib.Core.Path.{ap₂, _∙_}
 use Rattle.lent.specs.Parts.{same}
 use borrow.Author.Needs.{needs}

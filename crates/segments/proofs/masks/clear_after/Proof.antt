@@ -1,3 +1,4 @@
+-- `clear_after` passes over places past the end. Assumes nothing.
 use Prim.Native.Nat.{_+_}
 use mathlib.Core.Path.{sym}
 use native.Mathlib.Omega.{arith}

@@ -1,3 +1,4 @@
+-- `mask` by block and kind. Assumes nothing.
 use Prim.Native.Nat.{_+_}
 use mathlib.Core.Path.{ap, _∙_}
 use lib.ListN.{set}

@@ -1,3 +1,4 @@
+-- `put` passes over places past the end. Assumes nothing.
 use mathlib.Core.Path.{sym}
 use lib.Seq.{set-out}
 use borrow.Author.Needs.{needs}
