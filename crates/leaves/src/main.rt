@@ -179,24 +179,41 @@ fn part(at: usize, len: usize) -> Part {
     Part { at, len }
 }
 
-// Two names of a library: the same, in order, and parts that do not fit.
+const LIBRARY: [u8; 19] = *b"\x04MAIN\x03MAI\x04MAIN\x04MAIZ";
+
+fn same(a: Part, b: Part) {
+    answer(lent::names::same_name(&LIBRARY, a, b));
+}
+
+fn before(a: Part, b: Part) {
+    answer(lent::names::name_before(&LIBRARY, a, b));
+}
+
+fn name(p: Part) {
+    say(lent::names::name(&LIBRARY, p));
+}
+
+// Names of a library: the same, in order, and parts that do not fit.
 fn names() {
-    let library = b"\x04MAIN\x03MAI\x04MAIN\x04MAIZ";
     say(b"same");
-    answer(lent::names::same_name(library, part(1, 4), part(10, 4)));
-    answer(lent::names::same_name(library, part(1, 4), part(6, 3)));
-    answer(lent::names::same_name(library, part(6, 3), part(1, 4)));
+    same(part(1, 4), part(10, 4));
+    same(part(1, 4), part(6, 3));
+    same(part(6, 3), part(1, 4));
     say(b"\nbefore");
-    answer(lent::names::name_before(library, part(6, 3), part(1, 4)));
-    answer(lent::names::name_before(library, part(1, 4), part(6, 3)));
-    answer(lent::names::name_before(library, part(1, 4), part(15, 4)));
-    answer(lent::names::name_before(library, part(1, 4), part(10, 4)));
-    say(b"\nname ");
-    say(lent::names::name(library, part(15, 4)));
+    before(part(6, 3), part(1, 4));
+    before(part(1, 4), part(6, 3));
+    before(part(1, 4), part(15, 4));
+    before(part(1, 4), part(10, 4));
+    say(b"\n");
+}
+
+fn parts() {
+    say(b"name ");
+    name(part(15, 4));
     say(b" [");
-    say(lent::names::name(library, part(15, 5)));
-    say(lent::names::name(library, part(usize::MAX, 1)));
-    say(lent::names::name(library, part(1, usize::MAX)));
+    name(part(15, 5));
+    name(part(usize::MAX, 1));
+    name(part(1, usize::MAX));
     say(b"]\n");
 }
 
@@ -224,7 +241,7 @@ fn show(text: &[u8], name: &[u8]) {
     say(b"\n");
 }
 
-// P13, words tried in order, and a buffer that is exactly full, one byte short, and left as it was.
+// P13, and words tried in order.
 fn descriptions() {
     show(b"P13", b"?C?CLDIDATA");
     show(b"P13", b"?C?CLDIXDATA");
@@ -234,6 +251,10 @@ fn descriptions() {
     show(b"rest ignored", b"?C?SIDIVX");
     show(b"too early an end", b"?C?L");
     show(b"another name", b"MAIN");
+}
+
+// A buffer that is exactly full, and one that is one byte short and left as it was.
+fn rooms() {
     let mut full = [46u8; 22];
     say(b"exactly full");
     described(b"?C?LADD", &mut full);
@@ -245,23 +266,24 @@ fn descriptions() {
     say(b"\n");
 }
 
-// Windows beside the stretch, masks that are missing, and numbers at the end of 64 bits.
-fn limits() {
-    let image = b"\x01\x02\x01\x02\x01\x02";
+const IMAGE: [u8; 6] = *b"\x01\x02\x01\x02\x01\x02";
+
+// Windows beside the stretch, masks that are missing, and a stretch past everything.
+fn windows() {
     say(b"window before, touching, after");
     matches(
-        image,
+        &IMAGE,
         Stretch { start: 2, len: 1 },
         b"\x01\x02",
         b"\xff\xff",
     );
     say(b"window of one");
-    matches(image, Stretch { start: 1, len: 4 }, b"\x01", b"\xff");
+    matches(&IMAGE, Stretch { start: 1, len: 4 }, b"\x01", b"\xff");
     say(b"no masks");
-    matches(image, plain(), b"\x00\x00\x00\x00\x00", b"");
+    matches(&IMAGE, plain(), b"\x00\x00\x00\x00\x00", b"");
     say(b"stretch past everything");
     matches(
-        image,
+        &IMAGE,
         Stretch {
             start: usize::MAX,
             len: usize::MAX,
@@ -269,53 +291,56 @@ fn limits() {
         b"\x02",
         b"\xff",
     );
+}
+
+fn stands(bytes: &[u8], masks: &[u8], at: usize) {
+    answer(pattern::match_at(&IMAGE, plain(), bytes, masks, at));
+}
+
+fn places() {
     say(b"place past everything");
-    answer(pattern::match_at(image, plain(), b"\x01", b"\xff", usize::MAX));
-    answer(pattern::match_at(image, plain(), b"", b"", usize::MAX));
-    answer(pattern::match_at(image, plain(), b"", b"", 6));
-    answer(pattern::match_at(image, plain(), b"\x02", b"\xff", 5));
-    answer(pattern::match_at(image, plain(), b"\x02\x02", b"\xff", 5));
-    say(b"\nreference at the end");
+    stands(b"\x01", b"\xff", usize::MAX);
+    stands(b"", b"", usize::MAX);
+    stands(b"", b"", 6);
+    stands(b"\x02", b"\xff", 5);
+    stands(b"\x02\x02", b"\xff", 5);
+    say(b"\n");
+}
+
+fn leads(pos: usize, kind: Kind) {
+    target(&IMAGE, plain(), Rules::Documented, pos, kind, 0);
+}
+
+fn leads_beside(pos: usize, kind: Kind) {
     target(
-        image,
-        plain(),
+        &IMAGE,
+        Stretch { start: 4, len: 1 },
         Rules::Documented,
-        usize::MAX,
-        Kind::Relative,
+        pos,
+        kind,
         0,
     );
-    target(image, plain(), Rules::Documented, 5, Kind::Relative, 0);
-    target(image, plain(), Rules::Documented, 5, Kind::Word, 0);
-    target(image, plain(), Rules::Documented, 4, Kind::Word, 0);
+}
+
+fn less(offset: u64) {
+    target(&IMAGE, plain(), Rules::Found, 0, Kind::Word, offset);
+}
+
+// References at the end, in the stretch, and with offsets up to the end of 64 bits.
+fn references() {
+    say(b"reference at the end");
+    leads(usize::MAX, Kind::Relative);
+    leads(5, Kind::Relative);
+    leads(5, Kind::Word);
+    leads(4, Kind::Word);
     say(b"\nreference in the stretch");
-    target(
-        image,
-        Stretch { start: 4, len: 1 },
-        Rules::Documented,
-        3,
-        Kind::Relative,
-        0,
-    );
-    target(
-        image,
-        Stretch { start: 4, len: 1 },
-        Rules::Documented,
-        3,
-        Kind::Word,
-        0,
-    );
-    target(
-        image,
-        Stretch { start: 4, len: 1 },
-        Rules::Documented,
-        5,
-        Kind::Relative,
-        0,
-    );
+    leads_beside(3, Kind::Relative);
+    leads_beside(3, Kind::Word);
+    leads_beside(5, Kind::Relative);
     say(b"\noffset");
-    target(image, plain(), Rules::Found, 0, Kind::Word, 0x0102);
-    target(image, plain(), Rules::Found, 0, Kind::Word, 0x0103);
-    target(image, plain(), Rules::Found, 0, Kind::Word, u64::MAX);
+    less(0x0102);
+    less(0x0103);
+    less(u64::MAX);
     say(b"\n");
 }
 
@@ -325,6 +350,10 @@ fn main() {
     manual();
     sizes_and_masks();
     names();
+    parts();
     descriptions();
-    limits();
+    rooms();
+    windows();
+    places();
+    references();
 }
