@@ -1,71 +1,22 @@
 // Small examples of the leaves, run and compared: document 01's P1 to P14, jumps and calls of the MCS-51 manual, and limits.
+mod limits;
+mod show;
+
 use describe::Described;
 use fixup::Kind;
 use fixup::Rules;
-use fixup::Target;
 use lent::part::Part;
-use libc::STDOUT_FILENO;
 use omf51::Fixup;
 use omf51::ModuleId;
-use pattern::Found;
 use pattern::Stretch;
-
-fn say(text: &[u8]) {
-    io::write_all(STDOUT_FILENO, text);
-}
-
-fn number(n: usize) {
-    say(b" ");
-    io::print_decimal(STDOUT_FILENO, n as u64);
-}
-
-fn byte(x: u8) {
-    number(x as usize);
-}
-
-fn answer(yes: bool) {
-    if yes {
-        say(b" yes");
-    } else {
-        say(b" no");
-    }
-}
-
-// All matches, ascending; more than 16 are not shown.
-fn matches(image: &[u8], s: Stretch, bytes: &[u8], masks: &[u8]) {
-    let mut at: usize = 0;
-    let mut turns: usize = 0;
-    while turns < 16 {
-        turns += 1;
-        match pattern::next_match(image, s, bytes, masks, at) {
-            Found::At(p) => {
-                number(p);
-                at = std::num::wrapping_add_usize(p, 1);
-            }
-            Found::Nothing => {
-                say(b"\n");
-                return;
-            }
-        }
-    }
-    say(b" and more\n");
-}
-
-fn target(image: &[u8], s: Stretch, rules: Rules, pos: usize, kind: Kind, offset: u64) {
-    match fixup::find_target(image, s, rules, pos, kind, offset) {
-        Target::At(t) => {
-            say(b" 0x");
-            io::print_hex(STDOUT_FILENO, t, 4);
-        }
-        Target::Nowhere => {
-            say(b" no target");
-        }
-    }
-}
-
-fn plain() -> Stretch {
-    Stretch { start: 0, len: 0 }
-}
+use show::answer;
+use show::byte;
+use show::matches;
+use show::number;
+use show::part;
+use show::plain;
+use show::say;
+use show::target;
 
 // P1 to P5 and P14.
 fn patterns() {
@@ -175,10 +126,6 @@ fn sizes_and_masks() {
     masks(b"past the end", fixup_at(usize::MAX, 4, 1));
 }
 
-fn part(at: usize, len: usize) -> Part {
-    Part { at, len }
-}
-
 const LIBRARY: [u8; 19] = *b"\x04MAIN\x03MAI\x04MAIN\x04MAIZ";
 
 fn same(a: Part, b: Part) {
@@ -234,7 +181,7 @@ fn described(name: &[u8], out: &mut [u8]) {
     }
 }
 
-fn show(text: &[u8], name: &[u8]) {
+fn example(text: &[u8], name: &[u8]) {
     let mut out = [0u8; 80];
     say(text);
     described(name, &mut out);
@@ -243,14 +190,14 @@ fn show(text: &[u8], name: &[u8]) {
 
 // P13, and words tried in order.
 fn descriptions() {
-    show(b"P13", b"?C?CLDIDATA");
-    show(b"P13", b"?C?CLDIXDATA");
-    show(b"printed case", b"?C?LADD");
-    show(b"sign and register", b"?C?ULLDXDATA0");
-    show(b"L0 before L", b"?C?L0CMP");
-    show(b"rest ignored", b"?C?SIDIVX");
-    show(b"too early an end", b"?C?L");
-    show(b"another name", b"MAIN");
+    example(b"P13", b"?C?CLDIDATA");
+    example(b"P13", b"?C?CLDIXDATA");
+    example(b"printed case", b"?C?LADD");
+    example(b"sign and register", b"?C?ULLDXDATA0");
+    example(b"L0 before L", b"?C?L0CMP");
+    example(b"rest ignored", b"?C?SIDIVX");
+    example(b"too early an end", b"?C?L");
+    example(b"another name", b"MAIN");
 }
 
 // A buffer that is exactly full, and one that is one byte short and left as it was.
@@ -266,84 +213,6 @@ fn rooms() {
     say(b"\n");
 }
 
-const IMAGE: [u8; 6] = *b"\x01\x02\x01\x02\x01\x02";
-
-// Windows beside the stretch, masks that are missing, and a stretch past everything.
-fn windows() {
-    say(b"window before, touching, after");
-    matches(
-        &IMAGE,
-        Stretch { start: 2, len: 1 },
-        b"\x01\x02",
-        b"\xff\xff",
-    );
-    say(b"window of one");
-    matches(&IMAGE, Stretch { start: 1, len: 4 }, b"\x01", b"\xff");
-    say(b"no masks");
-    matches(&IMAGE, plain(), b"\x00\x00\x00\x00\x00", b"");
-    say(b"stretch past everything");
-    matches(
-        &IMAGE,
-        Stretch {
-            start: usize::MAX,
-            len: usize::MAX,
-        },
-        b"\x02",
-        b"\xff",
-    );
-}
-
-fn stands(bytes: &[u8], masks: &[u8], at: usize) {
-    answer(pattern::match_at(&IMAGE, plain(), bytes, masks, at));
-}
-
-fn places() {
-    say(b"place past everything");
-    stands(b"\x01", b"\xff", usize::MAX);
-    stands(b"", b"", usize::MAX);
-    stands(b"", b"", 6);
-    stands(b"\x02", b"\xff", 5);
-    stands(b"\x02\x02", b"\xff", 5);
-    say(b"\n");
-}
-
-fn leads(pos: usize, kind: Kind) {
-    target(&IMAGE, plain(), Rules::Documented, pos, kind, 0);
-}
-
-fn leads_beside(pos: usize, kind: Kind) {
-    target(
-        &IMAGE,
-        Stretch { start: 4, len: 1 },
-        Rules::Documented,
-        pos,
-        kind,
-        0,
-    );
-}
-
-fn less(offset: u64) {
-    target(&IMAGE, plain(), Rules::Found, 0, Kind::Word, offset);
-}
-
-// References at the end, in the stretch, and with offsets up to the end of 64 bits.
-fn references() {
-    say(b"reference at the end");
-    leads(usize::MAX, Kind::Relative);
-    leads(5, Kind::Relative);
-    leads(5, Kind::Word);
-    leads(4, Kind::Word);
-    say(b"\nreference in the stretch");
-    leads_beside(3, Kind::Relative);
-    leads_beside(3, Kind::Word);
-    leads_beside(5, Kind::Relative);
-    say(b"\noffset");
-    less(0x0102);
-    less(0x0103);
-    less(u64::MAX);
-    say(b"\n");
-}
-
 fn main() {
     patterns();
     targets();
@@ -353,7 +222,7 @@ fn main() {
     parts();
     descriptions();
     rooms();
-    windows();
-    places();
-    references();
+    limits::windows();
+    limits::places();
+    limits::references();
 }

@@ -1,8 +1,8 @@
 -- `matches` ends after sixteen turns. Assumes nothing.
 use Prim.Native.Nat.{_-_, _≤_}
 use borrow.Author.Needs.{needs}
-use Rattle.leaves.proofs.matches.Statement.{statement}
-use Rattle.leaves.proofs.matches.Tie as tie
+use Rattle.leaves.proofs.show.matches.Statement.{statement}
+use Rattle.leaves.proofs.show.matches.Tie as tie
 
 abbrev Inv-loop : tie.InvT-loop
 Inv-loop image s bytes masks at₀ turns₀ t8 t9 at turns = turns ≤ 16
