@@ -20,9 +20,17 @@ use Rattle.pattern.specs.MatchLaws.{Apart}
 use Rattle.pattern.specs.Window.{isApart}
 use Rattle.pattern.specs.WindowLaws.{is-apart}
 use Rattle.fixup.specs.declared.Rules.{Rules}
+use Rattle.fixup.specs.declared.Rules.the-variants.{Found, Documented}
 use Rattle.fixup.specs.declared.Kind.{Kind}
 use Rattle.fixup.specs.declared.Target.the-variants.{At, Nowhere}
-use Rattle.fixup.specs.Target.{minus, leadsTo, reads, readable, target}
+use Rattle.fixup.specs.Target.{rulesOf, minus, leadsTo, reads, readable, target}
+
+-- rule set 0 is as found, 1 as documented
+pub rules-0 : rulesOf 0 ≡ Found
+rules-0 = refl
+
+pub rules-1 : rulesOf 1 ≡ Documented
+rules-1 = refl
 
 -- an image of bytes
 abbrev pub Bytes : List ℕ → Type 0

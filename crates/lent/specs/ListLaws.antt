@@ -16,10 +16,6 @@ pub from-turn : (i n : ℕ) → i < n → from i (n - i) ≡ i ∷ from (i + 1) 
 unfolding from
 from-turn i n h = let e : n - i ≡ suc (n - (i + 1)) = omega arith in rw e
 
-pub from-end : (i n : ℕ) → n ≤ i → from i (n - i) ≡ []
-unfolding from
-from-end i n h = let e : n - i ≡ 0 = omega arith in rw e
-
 -- all the numbers from a on pass a test exactly if each does
 pub every : (p : ℕ → Bool) (a n : ℕ) → all p (from a n) ≡ true → (k : ℕ) → a ≤ k → k < a + n → p k ≡ true
 unfolding all from

@@ -5,11 +5,22 @@ use mathlib.Core.Logic.{_⊎_, inl, inr}
 use mathlib.Core.Bool.{Bool, true, false}
 use mathlib.Core.List.{List, [], _∷_, List·Memᴰ, List·Memᴰ·head, List·Memᴰ·tail, List·Memᴰ·not-nil, List·Memᴰ·cases-cons, List·Memᴰ·append-cases, Memᴰ·cast}
 use Rattle.lent.specs.Choice.{if_then_else_}
-use Rattle.lent.specs.Lists.{keep, joined, fold, numbered, insert, sorted}
+use Rattle.lent.specs.ChoiceLaws.{both}
+use Rattle.lent.specs.Lists.{keep, joined, fold, all, numbered, insert, sorted}
 
 infix 15 _among_
 abbrev pub _among_ : {A : Type 0} → A → List A → Type 0
 x among xs = List·Memᴰ x xs
+
+-- of a list that all pass a test: it passes
+pub of-all : {A : Type 0} (p : A → Bool) {x : A} (xs : List A) → all p xs ≡ true → x among xs → p x ≡ true
+unfolding all
+of-all p [] e m = absurd (List·Memᴰ·not-nil m)
+of-all p {x} (y ∷ ys) e m = let b = both (p y) (all p ys) e in go (List·Memᴰ·cases-cons m) (b .0) (of-all p ys (b .1))
+  where
+    go : (x ≡ y) ⊎ x among ys → p y ≡ true → (x among ys → p x ≡ true) → p x ≡ true
+    go (inl q) h rest = ap p q ∙ h
+    go (inr n) h rest = rest n
 
 -- of those kept by a test: it passes
 pub of-keep : {A : Type 0} (p : A → Bool) {x : A} (xs : List A) → x among keep p xs → (x among xs) × (p x ≡ true)

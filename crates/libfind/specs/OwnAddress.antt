@@ -7,6 +7,7 @@ use mathlib.Core.List.{List}
 use native.Mathlib.Nat.{sub-zero}
 use native.Mathlib.Omega.{arith}
 use Rattle.lent.specs.declared.part.Part.{Part}
+use Rattle.lent.specs.Lists.{numbered}
 use Rattle.lent.specs.Members.{_among_}
 use Rattle.pattern.specs.View.{view}
 use Rattle.pattern.specs.Match.{matchesAt}
@@ -30,14 +31,14 @@ use Rattle.listing.specs.ListingLaws.{listed-of}
 use Rattle.libfind.specs.declared.Settings.{Settings}
 use Rattle.libfind.specs.Run.{stages}
 
--- a public definition of that very name, of a kept segment whose pattern matches at address - offset
+-- a public definition of that very name, of a kept segment (d, at its place among the kept ones) whose pattern matches at address - offset
 pub record OfKept (library cells : List ℕ) (modules : List Module) (name : Part) (address : ℕ) : Type 0 where
   pub m : Module
   pub is-read : m among modules
   pub number : ℕ
   pub place : ℕ
   pub d : Definition
-  pub is-kept : d among kept m
+  pub is-kept : (place, d) among numbered 0 (kept m)
   pub offset : ℕ
   pub defined : Defined m (idOf d) name offset
   pub after : offset ≤ address
@@ -58,7 +59,7 @@ abbrev pub Own : List ℕ → List ℕ → List Module → Part → ℕ → Type
 Own library cells modules name address = OfKept library cells modules name address ⊎ OfAbsolute library cells modules name address
 
 module _ (library cells : List ℕ) (modules : List Module) (m : Module) (i : m among modules) (number : ℕ) where
-  own-kept : (place : ℕ) (d : Definition) → d among kept m → (y : Symbol) (found : ℕ) → y among keptSegment library m number (place, d) .symbols
+  own-kept : (place : ℕ) (d : Definition) → (place, d) among numbered 0 (kept m) → (y : Symbol) (found : ℕ) → y among keptSegment library m number (place, d) .symbols
       → matchesAt cells (keptSegment library m number (place, d) .bytes) (keptSegment library m number (place, d) .masks) found ≡ true
       → OfKept library cells modules (y .name) (found + y .offset)
   unfolding keptSegment

@@ -1,11 +1,11 @@
 -- What a line of the list comes from. Assumes nothing.
-use Prim.Native.Nat.{ℕ, _≤_, max}
+use Prim.Native.Nat.{ℕ, _≤_, _<_, max}
 use mathlib.Core.Path.{_≡_, sym, ap}
-use mathlib.Core.Logic.{_⊎_, inl, inr}
+use mathlib.Core.Logic.{_⊎_, inl, inr, _↔_}
 use mathlib.Core.Bool.{Bool, true, false, _&&_}
 use mathlib.Core.List.{List, [], _∷_, map, List·Memᴰ·not-nil, List·Memᴰ·cases-cons, List·Memᴰ·append-cases, Memᴰ·of-map}
 use native.Mathlib.Omega.{arith}
-use borrow.Author.Tests.{eqb-true}
+use borrow.Author.Tests.{eqb-true, ltb-true, lt-ltb}
 use lib.Dec.{eqb, ltb}
 use lib.ListN.{length}
 use Rattle.lent.specs.Choice.{if_then_else_}
@@ -14,10 +14,11 @@ use Rattle.lent.specs.Members.{_among_, of-keep, of-joined, of-sorted}
 use Rattle.lent.specs.Parts.{nameBefore}
 use Rattle.segments.specs.Collect.{Collected}
 use Rattle.search.specs.declared.Asked.{Asked}
-use Rattle.search.specs.Search.{Placing, Noting}
+use Rattle.search.specs.Search.{Placing, Noting, isNoted}
 use Rattle.listing.specs.declared.Skip.{Skip}
+use Rattle.listing.specs.declared.Skip.the-variants.{Above}
 use Rattle.listing.specs.declared.Line.{Line}
-use Rattle.listing.specs.Listing.{notedLine, bestGrade, best, crowded, grade, stays, placedLine, gradedAt, linesAt, isLeftover, leftovers, listing}
+use Rattle.listing.specs.Listing.{notedLine, bestGrade, best, crowded, borneOut, grade, stays, placedLine, gradedAt, linesAt, isLeftover, leftovers, listing}
 
 -- only the best grade is listed: no line at the position has a better one
 best-from : (lines : List Line) (g : ℕ) → (g ≤ fold (λ b l. max b (l .grade)) g lines)
@@ -40,6 +41,24 @@ unfolding best bestGrade
 best-only lines {l} {k} i j =
     let e = eqb-true (l .grade) (bestGrade lines) (of-keep (λ x. eqb (x .grade) (bestGrade lines)) lines i .1) in
     omega (arith, e, best-from lines 0 .1 k j)
+
+-- more names than the amount, and no fewer
+pub crowded-above : (amount n : ℕ) → (crowded (Above amount) n ≡ true) ↔ (amount < n)
+crowded-above amount n = (ltb-true amount n, lt-ltb amount n)
+
+-- the grades: 1 exactly if some public reference is not borne out, else 3 exactly if the name is noted there
+module _ (library cells : List ℕ) (a : Asked) (segments : List Collected) (placed : List Placing) (noted : List Noting) (p : Placing) where
+  pub grade-1 : borneOut library cells a segments placed noted p ≡ false → grade library cells a segments placed noted p ≡ 1
+  unfolding grade
+  grade-1 e = rw e
+
+  pub grade-2 : borneOut library cells a segments placed noted p ≡ true → isNoted library noted (p .position) (p .name) ≡ false → grade library cells a segments placed noted p ≡ 2
+  unfolding grade
+  grade-2 e n = rw (e, n)
+
+  pub grade-3 : borneOut library cells a segments placed noted p ≡ true → isNoted library noted (p .position) (p .name) ≡ true → grade library cells a segments placed noted p ≡ 3
+  unfolding grade
+  grade-3 e n = rw (e, n)
 
 -- a line that is graded 1 to 3 is a placed symbol's, with its position and name
 pub record OfPlaced (library cells : List ℕ) (a : Asked) (segments : List Collected) (placed : List Placing) (noted : List Noting) (l : Line) : Type 0 where

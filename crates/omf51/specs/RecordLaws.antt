@@ -1,4 +1,4 @@
--- When a record is refused, and that nothing but 6, 7 and 8 is refused in reading. Assumes nothing.
+-- When a record is read, stops the repetition, or is refused. Assumes nothing.
 use Prim.Native.Nat.{ℕ, _+_, _≤_, _<_}
 use mathlib.Core.Path.{_≡_}
 use mathlib.Core.Bool.{Bool, false}

@@ -2,22 +2,27 @@
 use Prim.Native.Nat.{ℕ, _+_, _≤_, _<_}
 use mathlib.Core.Path.{_≡_, refl, sym, ap, _∙_}
 use mathlib.Core.Logic.{_⊎_, inl, inr}
-use mathlib.Core.Bool.{Bool, true, false, not, _&&_, _||_, or-true}
+use mathlib.Core.Bool.{Bool, true, false, not, _&&_, _||_, or-true, false≢true}
 use mathlib.Core.List.{List, [], _++_, map, List·Memᴰ·not-nil, List·Memᴰ·append-cases, List·Memᴰ·eq-of-singleton, Memᴰ·of-map}
 use borrow.Author.Tests.{leb-false, le-leb, lt-leb}
 use lib.Dec.{leb}
 use lib.ListN.{length}
 use Rattle.lent.specs.Choice.{if_then_else_}
-use Rattle.lent.specs.Lists.{one, joined, numbered}
-use Rattle.lent.specs.Members.{_among_, of-keep, of-joined, of-fold, of-numbered}
+use Rattle.lent.specs.Lists.{one, joined, isIn, numbered}
+use Rattle.lent.specs.Members.{_among_, of-all, of-keep, of-joined, of-fold, of-numbered}
 use Rattle.pattern.specs.declared.Seat.{Seat}
 use Rattle.pattern.specs.declared.Seat.the-variants.{Anywhere, Only}
 use Rattle.pattern.specs.Match.{matchesAt, tried, matches}
 use Rattle.fixup.specs.declared.Rules.{Rules}
+use Rattle.fixup.specs.declared.Target.{Target}
+use Rattle.fixup.specs.declared.Target.the-variants.{At, Nowhere}
+use Rattle.segments.specs.declared.Goal.{Goal}
+use Rattle.segments.specs.declared.Goal.the-variants as Goal
+use Rattle.segments.specs.declared.Reference.{Reference}
 use Rattle.segments.specs.declared.Symbol.{Symbol}
 use Rattle.segments.specs.Collect.{Collected}
 use Rattle.search.specs.declared.Asked.{Asked}
-use Rattle.search.specs.Search.{Match, Placing, positions, matchesOf, allMatches, isValid, holds, notes, noted, symbolAt, symbolsAt, isPlaced, place, placed}
+use Rattle.search.specs.Search.{Match, Placing, positions, matchesOf, positionsOf, allMatches, isValid, targetOf, holdsAt, holds, notes, noted, symbolAt, symbolsAt, isPlaced, place, placed}
 
 -- an absolute segment is found at its address
 abbrev pub Seated : Seat → ℕ → Type 0
@@ -57,10 +62,27 @@ matched cells segments m i = rw (sym (q .2)) (record {
     k : (q .0 among tried cells (g .seat)) × (matchesAt cells (g .bytes) (g .masks) (q .0) ≡ true)
     k = of-keep (matchesAt cells (g .bytes) (g .masks)) (tried cells (g .seat)) (q .1)
 
--- a placed symbol is a symbol of a match, at match position + offset, before the image's end
-pub record PlacedBy (cells : List ℕ) (segments : List Collected) (p : Placing) : Type 0 where
+-- a reference that holds has a target, and a segment reference leads to a match of that segment
+abbrev pub Held : List ℕ → List Collected → Goal → Target → Type 0
+Held cells segments goal Nowhere = ⊥
+Held cells segments (Goal.Segment number) (At t) = isIn (positionsOf cells segments number) t ≡ true
+Held cells segments (Goal.Name name) (At t) = Unit
+
+pub holds-each : (cells : List ℕ) (a : Asked) (segments : List Collected) (m : Match) → holds cells a segments m ≡ true
+    → (r : Reference) → r among m .segment .references → Held cells segments (r .goal) (targetOf cells a (m .position) r)
+unfolding holds
+holds-each cells a segments m e r i = held (r .goal) (targetOf cells a (m .position) r) (of-all _ (m .segment .references) e i)
+  where
+    held : (goal : Goal) (t : Target) → holdsAt cells segments goal t ≡ true → Held cells segments goal t
+    held goal Nowhere h = false≢true h
+    held (Goal.Segment number) (At t) h = h
+    held (Goal.Name name) (At t) h = tt
+
+-- a placed symbol is a symbol of a match, which holds where checking is on, at match position + offset, before the image's end
+pub record PlacedBy (cells : List ℕ) (a : Asked) (segments : List Collected) (p : Placing) : Type 0 where
   pub m : Match
   pub matched-at : Matched cells segments m
+  pub checked : a .check ≡ true → holds cells a segments m ≡ true
   pub symbol : Symbol
   pub carried : symbol among m .segment .symbols
   pub named : p .name ≡ symbol .name
@@ -98,20 +120,26 @@ of-place library end rows new {p} i = go (leb end (new .position)) refl (isPlace
     go false e false j = new-one (leb-false end (new .position) e) (List·Memᴰ·append-cases rows j)
 
 pub placed-by : (library cells : List ℕ) (a : Asked) (segments : List Collected) (p : Placing) → p among placed library cells a segments
-    → PlacedBy cells segments p
+    → PlacedBy cells a segments p
 unfolding placed symbolsAt
 placed-by library cells a segments p i =
     start (of-fold (place library (length cells)) (λ new q. (q ≡ new) × (new .position < length cells)) (λ rows new. of-place library (length cells) rows new)
     (joined (symbolsAt cells a segments) (allMatches cells segments)) [] i)
   where
+    passed : (check held : Bool) → (check && not held) ≡ false → check ≡ true → held ≡ true
+    passed true true e h = refl
+    passed true false e h = absurd (false≢true (sym e))
+    passed false held e h = absurd (false≢true h)
+
     symbol : (m : Match) → m among allMatches cells segments → (new : Placing) → p ≡ new → new .position < length cells
-        → (t : Bool) → new among (if t then [] else map (symbolAt a m) (m .segment .symbols)) → PlacedBy cells segments p
-    symbol m j new e l true k = absurd (List·Memᴰ·not-nil k)
-    symbol m j new e l false k =
+        → (t : Bool) → (a .check && not (holds cells a segments m)) ≡ t → new among (if t then [] else map (symbolAt a m) (m .segment .symbols)) → PlacedBy cells a segments p
+    symbol m j new e l true f k = absurd (List·Memᴰ·not-nil k)
+    symbol m j new e l false f k =
         let y = Memᴰ·of-map (symbolAt a m) (m .segment .symbols) k in
         record {
           m = m;
           matched-at = matched cells segments m j;
+          checked = passed (a .check) (holds cells a segments m) f;
           symbol = y .0;
           carried = y .1;
           named = ap (λ q. q .name) (e ∙ sym (y .2));
@@ -120,11 +148,11 @@ placed-by library cells a segments p i =
         }
 
     start : p among [] ⊎ ((new : Placing) × (new among joined (symbolsAt cells a segments) (allMatches cells segments)) × ((p ≡ new) × (new .position < length cells)))
-        → PlacedBy cells segments p
+        → PlacedBy cells a segments p
     start (inl j) = absurd (List·Memᴰ·not-nil j)
     start (inr q) =
         let from = of-joined (symbolsAt cells a segments) (allMatches cells segments) (q .1) in
-        symbol (from .0) (from .1) (q .0) (q .2 .0) (q .2 .1) (a .check && not (holds cells a segments (from .0))) (from .2)
+        symbol (from .0) (from .1) (q .0) (q .2 .0) (q .2 .1) (a .check && not (holds cells a segments (from .0))) refl (from .2)
 
 -- the notings are the same with checking on and off: a match that fails its check keeps its own
 pub noted-unchecked : (library cells : List ℕ) (rules : Rules) (minimum : ℕ) (segments : List Collected)

@@ -12,7 +12,7 @@ use Rattle.lent.specs.declared.part.Part.{Part}
 use Rattle.lent.specs.Choice.{if_then_else_}
 use Rattle.lent.specs.ChoiceLaws.{both}
 use Rattle.lent.specs.Lists.{one, numbered}
-use Rattle.lent.specs.Members.{_among_, of-keep, of-joined, of-fold, of-numbered}
+use Rattle.lent.specs.Members.{_among_, of-keep, of-joined, of-fold}
 use Rattle.fixup.specs.declared.Rules.{Rules}
 use Rattle.fixup.specs.declared.Rules.the-variants.{Documented}
 use Rattle.omf51.specs.declared.ModuleId.{ModuleId}
@@ -25,9 +25,9 @@ use Rattle.segments.specs.Ids.{sameId, kept, sizeOf}
 use Rattle.segments.specs.MaskLaws.{masks-length, filled-length}
 use Rattle.segments.specs.Collect.{Collected, symbolOf, symbolsOf, dataOf, dataMasks, sectionsOf, keptSegment, absoluteId, insideOf, symbolBase, absoluteSegment, moduleSegments, collect}
 
--- a collected segment is a kept segment of some module, or an absolute content of it; `number` is that of the module's first segment
+-- a collected segment is a kept segment of some module, with its own place among the kept ones, or an absolute content of it; `number` is that of the module's first segment
 pub data Source (rules : Rules) (library : List ℕ) (m : Module) (number : ℕ) (g : Collected) : Type 0 where
-  keptOf : (place : ℕ) (d : Definition) → d among kept m → g ≡ keptSegment library m number (place, d) → Source rules library m number g
+  keptOf : (place : ℕ) (d : Definition) → (place, d) among numbered 0 (kept m) → g ≡ keptSegment library m number (place, d) → Source rules library m number g
   absoluteOf : (s : Section) → s among m .sections → s .content .id .0 ≡ 0 → g ≡ absoluteSegment rules library m number s
       → Source rules library m number g
 
@@ -41,7 +41,7 @@ module-source rules library number m g i =
         → Source rules library m number g
     go (inl k) =
         let p = Memᴰ·of-map (keptSegment library m number) (numbered 0 (kept m)) k in
-        keptOf (p .0 .0) (p .0 .1) (of-numbered 0 (kept m) (p .1)) (sym (p .2))
+        keptOf (p .0 .0) (p .0 .1) (p .1) (sym (p .2))
     go (inr a) =
         let p = Memᴰ·of-map (absoluteSegment rules library m number) (sectionsOf m absoluteId) a in
         let q = of-keep (λ s. sameId (s .content .id) absoluteId) (m .sections) (p .1) in
