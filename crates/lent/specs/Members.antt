@@ -1,12 +1,14 @@
 -- Where the members of a list come from. Assumes nothing.
-use Prim.Native.Nat.{ℕ, _+_}
-use mathlib.Core.Path.{_≡_, refl, ap, _∙_}
+use Prim.Native.Nat.{ℕ, zero, suc, _+_, _≤_, _<_}
+use mathlib.Core.Path.{_≡_, refl, sym, ap, _∙_}
 use mathlib.Core.Logic.{_⊎_, inl, inr}
-use mathlib.Core.Bool.{Bool, true, false}
-use mathlib.Core.List.{List, [], _∷_, List·Memᴰ, List·Memᴰ·head, List·Memᴰ·tail, List·Memᴰ·not-nil, List·Memᴰ·cases-cons, List·Memᴰ·append-cases, Memᴰ·cast}
+use mathlib.Core.Bool.{Bool, true, false, false≢true}
+use mathlib.Core.List.{List, [], _∷_, _++_, List·Memᴰ, List·Memᴰ·head, List·Memᴰ·tail, List·Memᴰ·not-nil, List·Memᴰ·cases-cons, List·Memᴰ·append-cases, Memᴰ·cast, Memᴰ·append-left, Memᴰ·append-right}
+use native.Mathlib.Decide.{decLt}
+use native.Mathlib.Omega.{arith}
 use Rattle.lent.specs.Choice.{if_then_else_}
 use Rattle.lent.specs.ChoiceLaws.{both}
-use Rattle.lent.specs.Lists.{keep, joined, fold, all, numbered, insert, sorted}
+use Rattle.lent.specs.Lists.{keep, joined, fold, all, from, numbered, insert, sorted}
 
 infix 15 _among_
 abbrev pub _among_ : {A : Type 0} → A → List A → Type 0
@@ -111,3 +113,33 @@ of-numbered {A} {p} n (x ∷ xs) m = go (List·Memᴰ·cases-cons m) (of-numbere
     go : (p ≡ (n, x)) ⊎ p among numbered (n + 1) xs → (p among numbered (n + 1) xs → p .1 among xs) → p .1 among (x ∷ xs)
     go (inl e) rest = List·Memᴰ·head (ap (λ q. q .1) e)
     go (inr k) rest = List·Memᴰ·tail (rest k)
+
+-- and the other way: what passes a test is kept, what one of the lists has is in all together, and numbers stand between their ends
+pub to-keep : {A : Type 0} (p : A → Bool) {x : A} (xs : List A) → x among xs → p x ≡ true → x among keep p xs
+unfolding keep
+to-keep p [] m e = absurd (List·Memᴰ·not-nil m)
+to-keep p {x} (y ∷ ys) m e = go (List·Memᴰ·cases-cons m) (p y) refl (to-keep p ys)
+  where
+    go : (x ≡ y) ⊎ x among ys → (t : Bool) → p y ≡ t → (x among ys → p x ≡ true → x among keep p ys) → x among (if t then y ∷ keep p ys else keep p ys)
+    go (inl q) true h rest = List·Memᴰ·head q
+    go (inl q) false h rest = absurd (false≢true (sym h ∙ ap p (sym q) ∙ e))
+    go (inr n) true h rest = List·Memᴰ·tail (rest n e)
+    go (inr n) false h rest = rest n e
+
+pub to-joined : {A B : Type 0} (f : A → List B) {x : A} {y : B} (xs : List A) → x among xs → y among f x → y among joined f xs
+unfolding joined
+to-joined f [] m n = absurd (List·Memᴰ·not-nil m)
+to-joined {A} {B} f {x} {y} (z ∷ zs) m n = go (List·Memᴰ·cases-cons m) (to-joined f zs)
+  where
+    go : (x ≡ z) ⊎ x among zs → (x among zs → y among f x → y among joined f zs) → y among (f z ++ joined f zs)
+    go (inl q) rest = Memᴰ·append-left (joined f zs) (rw (ap f q) at n)
+    go (inr k) rest = Memᴰ·append-right (f z) (rest k n)
+
+pub to-from : (k at n : ℕ) → at ≤ k → k < at + n → k among from at n
+unfolding from
+to-from k at zero l m = absurd (omega arith)
+to-from k at (suc n) l m = go (decLt at k) (to-from k (at + 1) n)
+  where
+    go : Dec (at < k) → (at + 1 ≤ k → k < at + 1 + n → k among from (at + 1) n) → k among (at ∷ from (at + 1) n)
+    go (yes h) rest = List·Memᴰ·tail (rest (omega arith) (omega arith))
+    go (no h) rest = let same : k ≡ at = omega arith in List·Memᴰ·head same

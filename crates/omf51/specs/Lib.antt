@@ -6,4 +6,5 @@ pub mod Entry
 pub mod Module
 pub mod File
 pub mod FileLaws
+pub mod BareLaws
 pub mod OneOutcome

@@ -2,16 +2,17 @@
 use Prim.Native.Nat.{ℕ, zero, suc, _+_, _-_, _≤_, _<_}
 use mathlib.Core.Path.{_≡_, refl}
 use mathlib.Core.Bool.{true, false}
-use mathlib.Core.List.{List, [], _∷_}
+use mathlib.Core.List.{List, [], _∷_, List·Memᴰ·head}
 use native.Mathlib.Omega.{arith}
 use native.Mathlib.Nat.{sub-zero}
 use lib.ListN.{length}
-use Rattle.lent.specs.Lists.{keep, from}
+use Rattle.lent.specs.Lists.{one, keep, from}
 use Rattle.lent.specs.ListLaws.{from-turn}
+use Rattle.lent.specs.Members.{_among_, to-keep, to-from}
 use Rattle.pattern.specs.declared.Found.the-variants.{At, Nothing}
-use Rattle.pattern.specs.declared.Seat.the-variants.{Anywhere}
+use Rattle.pattern.specs.declared.Seat.the-variants.{Anywhere, Only}
 use Rattle.pattern.specs.Match.{matchesAt, matches}
-use Rattle.pattern.specs.MatchLaws.{match-past}
+use Rattle.pattern.specs.MatchLaws.{match-past, matches-at}
 use Rattle.pattern.specs.Next.{matchesFrom, nextMatch}
 
 module _ (cells bytes masks : List ℕ) where
@@ -49,3 +50,13 @@ module _ (cells bytes masks : List ℕ) where
   pub next-past : (at : ℕ) → length cells < at + length bytes → nextMatch cells bytes masks at ≡ Nothing
   unfolding nextMatch
   next-past at h = rw (from-past at h)
+
+  -- every place where the pattern matches is among them, and an absolute one's address
+  pub all-places : (at : ℕ) → matchesAt cells bytes masks at ≡ true → at among matches cells Anywhere bytes masks
+  unfolding matches
+  all-places at e =
+      to-keep (matchesAt cells bytes masks) (from 0 (length cells + 1)) (to-from at 0 (length cells + 1) (omega arith) (omega (arith, matches-at cells bytes masks at .0 e .fits))) e
+
+  pub its-address : (at : ℕ) → matchesAt cells bytes masks at ≡ true → at among matches cells (Only at) bytes masks
+  unfolding matches
+  its-address at e = to-keep (matchesAt cells bytes masks) (one at) (List·Memᴰ·head refl) e

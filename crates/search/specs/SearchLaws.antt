@@ -3,13 +3,13 @@ use Prim.Native.Nat.{ℕ, _+_, _≤_, _<_}
 use mathlib.Core.Path.{_≡_, refl, sym, ap, _∙_}
 use mathlib.Core.Logic.{_⊎_, inl, inr}
 use mathlib.Core.Bool.{Bool, true, false, not, _&&_, _||_, or-true, false≢true}
-use mathlib.Core.List.{List, [], _++_, map, List·Memᴰ·not-nil, List·Memᴰ·append-cases, List·Memᴰ·eq-of-singleton, Memᴰ·of-map}
+use mathlib.Core.List.{List, [], _++_, map, List·Memᴰ·not-nil, List·Memᴰ·append-cases, List·Memᴰ·eq-of-singleton, Memᴰ·map, Memᴰ·of-map}
 use borrow.Author.Tests.{leb-false, le-leb, lt-leb}
 use lib.Dec.{leb}
 use lib.ListN.{length}
 use Rattle.lent.specs.Choice.{if_then_else_}
 use Rattle.lent.specs.Lists.{one, joined, isIn, numbered}
-use Rattle.lent.specs.Members.{_among_, of-all, of-keep, of-joined, of-fold, of-numbered}
+use Rattle.lent.specs.Members.{_among_, of-all, of-keep, of-joined, of-fold, of-numbered, to-joined}
 use Rattle.pattern.specs.declared.Seat.{Seat}
 use Rattle.pattern.specs.declared.Seat.the-variants.{Anywhere, Only}
 use Rattle.pattern.specs.Match.{matchesAt, tried, matches}
@@ -61,6 +61,13 @@ matched cells segments m i = rw (sym (q .2)) (record {
 
     k : (q .0 among tried cells (g .seat)) × (matchesAt cells (g .bytes) (g .masks) (q .0) ≡ true)
     k = of-keep (matchesAt cells (g .bytes) (g .masks)) (tried cells (g .seat)) (q .1)
+
+-- and every position of every segment gives a match: none is left out
+pub all-searched : (cells : List ℕ) (segments : List Collected) (number : ℕ) (g : Collected) (at : ℕ) → (number, g) among numbered 0 segments → at among positions cells g
+    → record { number = number; segment = g; position = at } among allMatches cells segments
+unfolding allMatches
+all-searched cells segments number g at i j =
+    to-joined (matchesOf cells) (numbered 0 segments) i (Memᴰ·map (λ k. record { number = number; segment = g; position = k }) j)
 
 -- a reference that holds has a target, and a segment reference leads to a match of that segment
 abbrev pub Held : List ℕ → List Collected → Goal → Target → Type 0
