@@ -18,7 +18,7 @@ use Rattle.fixup.specs.declared.Kind.{Kind}
 use Rattle.fixup.specs.declared.Kind.the-variants.{Relative, Word, Inblock}
 use Rattle.fixup.specs.Target.{addressIn, kindNumber, readable, target}
 use Rattle.omf51.specs.Reader.{repeat}
-use Rattle.omf51.specs.Record.{frameAt, recordOf}
+use Rattle.omf51.specs.Record.{frameAt, expected, recordOf}
 use Rattle.omf51.specs.Entry.{ending, segmentSize, definitionOf, definitionAt, fixupAt}
 use Rattle.omf51.specs.declared.Fixup.{Fixup}
 use Rattle.omf51.specs.Module.{definitionsAt, fixupsAt, sectionAt, sectionsAt, moduleAt}
@@ -144,7 +144,7 @@ pub whole : (run image library settings lent ≡ outcome)
     × (printed library (stages image library settings .lines)
     ≡ text "Address | Name                 | Description\n0x0001    ?C?LADD                long (32-bit) addition\n")
 unfolding leading keep joined fold any all placeOf from numbered insert sorted total same before view matchesAt matches readable target
-    repeat frameAt recordOf ending definitionOf definitionAt fixupAt definitionsAt fixupsAt sectionAt sectionsAt moduleAt libraryAt file
+    repeat frameAt expected recordOf ending definitionOf definitionAt fixupAt definitionsAt fixupsAt sectionAt sectionsAt moduleAt libraryAt file
     kept named fixupRefusal contentRefusal tests collectRefusal masksOf ored merged filled referencesOf symbolsOf keptSegment absoluteSegment
     moduleSegments collect segmentRowsFrom segmentNumbers referenceNumbers symbolNumbers patternBytes patternMasks positionsOf allMatches isValid
     holds notes note noted symbolsAt place placed newest linkedFrom placedNumbers notedNumbers bestGrade best grade gradedAt linesAt leftovers

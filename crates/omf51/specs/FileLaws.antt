@@ -10,7 +10,7 @@ use Rattle.lent.specs.ChoiceLaws.{chosen}
 use Rattle.lent.specs.Parts.{byteAt, sameName}
 use Rattle.omf51.specs.declared.Frame.{Frame}
 use Rattle.omf51.specs.Reader.{Outcome, read, stop, refused, Reader, andThen, give, after, repeat, many, notEmpty, atLeastOne}
-use Rattle.omf51.specs.Record.{frameAt, recordOf}
+use Rattle.omf51.specs.Record.{expected, recordOf}
 use Rattle.omf51.specs.RecordLaws.{Framed, cut, empty, past, unclosed, whole, framed}
 use Rattle.omf51.specs.Entry.{ending, nameAt, nameWith, nameOffset, definitionAt, fixupAt}
 use Rattle.omf51.specs.Module.{definitionsAt, fixupsAt, contentBody, sectionAt, sectionsAt, moduleAt, defines, fills}
@@ -63,13 +63,9 @@ least-reads {A} library each h at = then-reads (many library each at) notEmpty (
     full [] next = tt
     full (x ∷ xs) next = tt
 
-record-reads : {A : Type 0} (library : List ℕ) (allowed : ℕ → Bool) (inner : Frame → Reader A) → ((f : Frame) (at : ℕ) → Reads (inner f at))
-    → (at : ℕ) → Reads (recordOf library allowed inner at)
-unfolding recordOf
-record-reads {A} library allowed inner h at =
-    chosen Reads (allowed (byteAt library at))
-    (λ e. then-reads (frameAt library at) _ (frame (framed library at)) λ f next. then-reads (inner f (f .body)) _ (h f (f .body)) λ a left. tt)
-    (λ e. tt)
+expected-reads : (library : List ℕ) (allowed : ℕ → Bool) (at : ℕ) → Reads (expected library allowed at)
+unfolding expected
+expected-reads library allowed at = chosen Reads (allowed (byteAt library at)) (λ e. frame (framed library at)) (λ e. tt)
   where
     frame : {o : Outcome Frame} → Framed library at o → Reads o
     frame (cut l) = tt
@@ -77,6 +73,13 @@ record-reads {A} library allowed inner h at =
     frame (past b l) = tt
     frame (unclosed b l) = tt
     frame (whole b l) = tt
+
+record-reads : {A : Type 0} (library : List ℕ) (allowed : ℕ → Bool) (inner : Frame → Reader A) → ((f : Frame) (at : ℕ) → Reads (inner f at))
+    → (at : ℕ) → Reads (recordOf library allowed inner at)
+unfolding recordOf
+record-reads library allowed inner h at =
+    then-reads (expected library allowed at) _ (expected-reads library allowed at) λ f next.
+    then-reads (inner f (f .body)) _ (h f (f .body)) λ a left. tt
 
 -- the readers of document 01
 ending-reads : {A : Type 0} (f : Frame) (a : A) (next : ℕ) → Reads (ending f a next)

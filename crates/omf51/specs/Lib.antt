@@ -7,4 +7,8 @@ pub mod Module
 pub mod File
 pub mod FileLaws
 pub mod BareLaws
+pub mod Expected
+pub mod TypeLaws
+pub mod Ends
+pub mod EntryLaws
 pub mod OneOutcome

@@ -20,9 +20,11 @@ frameAt library at =
     else if ltb (length library) (at + 3 + len) then stop
     else read (record { kind = byteAt library at; body = at + 3; end = at + 2 + len }) (at + 3 + len)
 
+-- the same where the record's type is allowed here; the type byte alone decides
+unfoldable pub expected : List ℕ → (ℕ → Bool) → Reader Frame
+expected library allowed at = if allowed (byteAt library at) then frameAt library at else stop
+
 -- a record of a type that is allowed here, its body read by `inner`; what that leaves of the body is passed over
 unfoldable pub recordOf : {A : Type 0} → List ℕ → (ℕ → Bool) → (Frame → Reader A) → Reader A
 recordOf library allowed inner at =
-    if allowed (byteAt library at)
-    then andThen (frameAt library at) (λ f next. andThen (inner f (f .body)) λ a left. read a next)
-    else stop
+    andThen (expected library allowed at) λ f next. andThen (inner f (f .body)) λ a left. read a next

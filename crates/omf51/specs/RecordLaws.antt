@@ -1,24 +1,39 @@
 -- When a record is read, stops the repetition, or is refused. Assumes nothing.
 use Prim.Native.Nat.{ℕ, _+_, _≤_, _<_}
-use mathlib.Core.Path.{_≡_}
-use mathlib.Core.Bool.{Bool, false}
+use mathlib.Core.Path.{_≡_, refl, subst}
+use mathlib.Core.Bool.{Bool, true, false}
 use mathlib.Core.List.{List}
 use native.Mathlib.Omega.{arith}
-use borrow.Author.Tests.{ltb-true, ltb-false, eqb-true, eqb-false}
+use borrow.Author.Tests.{ltb-true, ltb-false, eqb-true, eqb-false, lt-ltb, le-ltb, eq-eqb, ne-eqb}
 use lib.Dec.{eqb, ltb}
 use lib.ListN.{length}
 use Rattle.lent.specs.declared.refusal.Refusal.the-variants.{BodyPastEnd, LengthZero}
 use Rattle.lent.specs.ChoiceLaws.{chosen}
 use Rattle.lent.specs.Parts.{byteAt, wordAt}
 use Rattle.omf51.specs.declared.Frame.{Frame}
-use Rattle.omf51.specs.Reader.{Outcome, read, stop, refused, Reader}
-use Rattle.omf51.specs.Record.{frameAt, recordOf}
+use Rattle.omf51.specs.Reader.{Outcome, read, stop, refused, Reader, andThen}
+use Rattle.omf51.specs.Record.{frameAt, expected, recordOf}
 
 -- a record whose type is not allowed here never gives 6 or 7: the type byte alone decides
 pub not-allowed : {A : Type 0} (library : List ℕ) (allowed : ℕ → Bool) (inner : Frame → Reader A) (at : ℕ)
     → allowed (byteAt library at) ≡ false → recordOf library allowed inner at ≡ stop
-unfolding recordOf
+unfolding recordOf expected
 not-allowed library allowed inner at e = rw e
+
+-- the record that is expected at a place, by the test of its type
+pub expected-there : (library : List ℕ) (allowed : ℕ → Bool) (at : ℕ) → allowed (byteAt library at) ≡ true → expected library allowed at ≡ frameAt library at
+unfolding expected
+expected-there library allowed at e = rw e
+
+pub not-expected : (library : List ℕ) (allowed : ℕ → Bool) (at : ℕ) → allowed (byteAt library at) ≡ false → expected library allowed at ≡ stop
+unfolding expected
+not-expected library allowed at e = rw e
+
+-- a record whose frame is known
+pub record-framed : {A : Type 0} (library : List ℕ) (allowed : ℕ → Bool) (inner : Frame → Reader A) (at : ℕ) {o : Outcome Frame}
+    → expected library allowed at ≡ o → recordOf library allowed inner at ≡ andThen o λ f next. andThen (inner f (f .body)) λ a left. read a next
+unfolding recordOf
+record-framed library allowed inner at e = rw e
 
 -- 7 exactly if both length bytes are there and the length is 0; 6 exactly if it is not and the body passes the file's end
 module _ (library : List ℕ) (at : ℕ) where
@@ -50,3 +65,63 @@ module _ (library : List ℕ) (at : ℕ) where
       chosen Framed (ltb (length library) (at + 3 + len))
       (λ c. unclosed body (omega (arith, fits, ltb-true (length library) (at + 3 + len) c)))
       (λ c. whole body (ltb-false (length library) (at + 3 + len) c))
+
+  -- the same for a reader that tests in this order
+  pub frame-cut : length library < at + 3 → frameAt library at ≡ stop
+  unfolding frameAt
+  frame-cut h = rw (lt-ltb (length library) (at + 3) h)
+
+  pub frame-empty : at + 3 ≤ length library → len ≡ 0 → frameAt library at ≡ refused LengthZero
+  unfolding frameAt
+  frame-empty h z = rw (le-ltb (length library) (at + 3) h, eq-eqb len 0 z)
+
+  module _ (h : at + 3 ≤ length library) {n : ℕ} (e : n ≡ len) (z : n ≡ 0 → ⊥) where
+    pub frame-past : length library < at + 2 + n → frameAt library at ≡ refused BodyPastEnd
+    unfolding frameAt
+    frame-past l = rw (le-ltb (length library) (at + 3) h, ← e, ne-eqb n 0 z, lt-ltb (length library) (at + 2 + n) l)
+
+    pub frame-unclosed : length library ≡ at + 2 + n → frameAt library at ≡ stop
+    unfolding frameAt
+    frame-unclosed l =
+        rw
+        (le-ltb (length library) (at + 3) h, ← e, ne-eqb n 0 z, le-ltb (length library) (at + 2 + n) (omega arith), lt-ltb (length library) (at + 3 + n) (omega arith))
+
+    pub frame-whole : at + 2 + n < length library
+        → frameAt library at ≡ read (record { kind = byteAt library at; body = at + 3; end = at + 2 + n }) (at + 2 + n + 1)
+    unfolding frameAt
+    frame-whole l =
+        let next : at + 3 + n ≡ at + 2 + n + 1 = omega arith in
+        rw
+        (le-ltb (length library) (at + 3) h, ← e, ne-eqb n 0 z, le-ltb (length library) (at + 2 + n) (omega arith), le-ltb (length library) (at + 3 + n) (omega arith), next)
+
+-- a record that is read stands within the library, its checksum byte too
+pub record Fits (library : List ℕ) (at : ℕ) (f : Frame) (next : ℕ) : Type 0 where
+  pub kind-is : f .kind ≡ byteAt library at
+  pub body-is : f .body ≡ at + 3
+  pub forward : f .body ≤ f .end
+  pub next-is : next ≡ f .end + 1
+  pub inside : next ≤ length library
+
+abbrev pub FrameFits : List ℕ → ℕ → Outcome Frame → Type 0
+FrameFits library at (read f next) = Fits library at f next
+FrameFits library at stop = Unit
+FrameFits library at (refused r) = Unit
+
+pub expected-fits : (library : List ℕ) (allowed : ℕ → Bool) (at : ℕ) → FrameFits library at (expected library allowed at)
+unfolding expected
+expected-fits library allowed at = chosen (FrameFits library at) (allowed (byteAt library at)) (λ e. fits (framed library at)) (λ e. tt)
+  where
+    positive : (n : ℕ) → (n ≡ 0 → ⊥) → 0 < n
+    positive n h = omega arith
+
+    fits : {o : Outcome Frame} → Framed library at o → FrameFits library at o
+    fits (cut l) = tt
+    fits (empty l z) = tt
+    fits (past b l) = tt
+    fits (unclosed b l) = tt
+    fits (whole b l) =
+        let p = positive (wordAt library (at + 1)) (b .long) in
+        record { kind-is = refl; body-is = refl; forward = omega arith; next-is = omega arith; inside = l }
+
+pub read-fits : (library : List ℕ) (allowed : ℕ → Bool) (at : ℕ) {f : Frame} {next : ℕ} → expected library allowed at ≡ read f next → Fits library at f next
+read-fits library allowed at e = subst (FrameFits library at) e (expected-fits library allowed at)

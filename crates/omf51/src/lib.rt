@@ -2,6 +2,11 @@
 ghost use mathlib.Core.Path.{_≡_};
 ghost use Rattle.omf51.specs.Entry.{segmentSize};
 use lent::part::Part;
+use lent::refusal::Refusal;
+
+pub mod entry;
+pub mod record;
+pub mod types;
 
 // An id as a module numbers its segments, and its externals. It means nothing outside its module.
 pub struct ModuleId(pub u16);
@@ -11,6 +16,13 @@ pub struct Frame {
     pub kind: u8,
     pub body: usize,
     pub end: usize,
+}
+
+// Where a reading ends: after what was read, before what it stopped at, or with a refusal.
+pub enum End {
+    At(usize),
+    Stop,
+    Refused(Refusal),
 }
 
 // What the entries of definition records say.

@@ -1,0 +1,28 @@
+-- Where a reading ends, whatever it read: what the code says of a repetition, and of an entry that it passes over.
+use Prim.Native.Nat.{ℕ}
+use mathlib.Core.List.{List}
+use Rattle.lent.specs.declared.part.Part.{Part}
+use Rattle.omf51.specs.declared.Frame.{Frame}
+use Rattle.omf51.specs.declared.End.{End}
+use Rattle.omf51.specs.declared.End.the-variants.{At, Stop, Refused}
+use Rattle.omf51.specs.declared.entry.Entries.{Entries}
+use Rattle.omf51.specs.declared.entry.Entries.the-variants.{Definitions, Fixups}
+use Rattle.omf51.specs.declared.entry.Named.{Named}
+use Rattle.omf51.specs.declared.entry.Named.the-variants as Named
+use Rattle.omf51.specs.Reader.{Outcome, read, stop, refused}
+use Rattle.omf51.specs.Entry.{definitionAt, fixupAt}
+
+abbrev pub endOf : {A : Type 0} → Outcome A → End
+endOf (read a next) = At next
+endOf stop = Stop
+endOf (refused r) = Refused r
+
+abbrev pub entryEnd : Entries → List ℕ → Frame → ℕ → End
+entryEnd Definitions library f at = endOf (definitionAt library f at)
+entryEnd Fixups library f at = endOf (fixupAt library f at)
+
+-- the name that was read
+abbrev pub nameRead : Named → Outcome Part
+nameRead (Named.Read name next) = read name next
+nameRead Named.Stop = stop
+nameRead (Named.Refused r) = refused r
