@@ -1,0 +1,8 @@
+-- Repetitions, modules and the file, as the code goes over them.
+pub mod Found
+pub mod RepeatLaws
+pub mod EndLaws
+pub mod Passes
+pub mod PassLaws
+pub mod SectionLaws
+pub mod ModuleLaws
