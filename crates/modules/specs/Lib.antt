@@ -6,3 +6,6 @@ pub mod Passes
 pub mod PassLaws
 pub mod SectionLaws
 pub mod ModuleLaws
+pub mod Reading
+pub mod WholeLaws
+pub mod ReadingLaws

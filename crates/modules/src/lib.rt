@@ -1,6 +1,7 @@
 // Repetitions, modules and the file.
 use lent::refusal::Refusal;
 
+pub mod file;
 pub mod module;
 pub mod passes;
 
@@ -14,5 +15,17 @@ pub struct Places {
 pub enum ModuleAt {
     Whole(Places),
     Stop,
+    Refused(Refusal),
+}
+
+// Modules in a row: how many, and the place after them.
+pub enum Counted {
+    Modules { count: usize, next: usize },
+    Refused(Refusal),
+}
+
+// What reading a file comes to: where its first module stands and how many there are, one after another, or a refusal.
+pub enum Reading {
+    Modules { first: usize, count: usize },
     Refused(Refusal),
 }
