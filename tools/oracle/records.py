@@ -84,24 +84,24 @@ def number(n, wide):
     return word(n) if wide else bytes((n & 0xFF,))
 
 
-def entry(d, wide):
-    """The bytes of one definition or fixup, with ids of one byte or two."""
+def entry(d, wide, idle=b"\0"):
+    """The bytes of one definition or fixup, with ids of one byte or two; `idle` stands where nobody looks."""
     if isinstance(d, Segment):
-        return number(d.id, wide) + bytes((d.info, d.relocation, 0)) + word(0) + word(d.size) + text(d.name)
+        return number(d.id, wide) + bytes((d.info, d.relocation)) + idle * 3 + word(d.size) + text(d.name)
     if isinstance(d, Public):
-        return number(d.id, wide) + bytes((d.info,)) + word(d.offset) + b"\0" + text(d.name)
+        return number(d.id, wide) + bytes((d.info,)) + word(d.offset) + idle + text(d.name)
     if isinstance(d, External):
-        return bytes((d.block,)) + number(d.id, wide) + bytes((d.info, 0)) + text(d.name)
-    last = b"\0" if d.block == 3 else b""
+        return bytes((d.block,)) + number(d.id, wide) + bytes((d.info,)) + idle + text(d.name)
+    last = idle if d.block == 3 else b""
     return word(d.location) + bytes((d.kind, d.block)) + number(d.id, wide) + word(d.offset) + last
 
 
 TYPES = {Segment: 0x0E, Public: 0x16, External: 0x18, Fixup: 0x08}
 
 
-def entries(items, wide=False, left_over=b""):
+def entries(items, wide=False, left_over=b"", idle=b"\0"):
     """One record of definitions or fixups of one sort."""
-    body = b"".join(entry(d, wide) for d in items)
+    body = b"".join(entry(d, wide, idle) for d in items)
     return record(TYPES[type(items[0])] + wide, body + left_over)
 
 
@@ -109,12 +109,12 @@ def content(c, wide=False):
     return record(0x06 + wide, number(c.id, wide) + word(c.offset) + c.data)
 
 
-def header(name, left_over=b""):
-    return record(0x02, text(name) + b"\0\0" + left_over)
+def header(name, left_over=b"", idle=b"\0"):
+    return record(0x02, text(name) + idle * 2 + left_over)
 
 
-def end(name, left_over=b""):
-    return record(0x04, text(name) + b"\0\0\0\0" + left_over)
+def end(name, left_over=b"", idle=b"\0"):
+    return record(0x04, text(name) + idle * 4 + left_over)
 
 
 def runs(items):

@@ -22,18 +22,26 @@ class Expected:
     text: bytes = b""
 
 
+def asking(flags, minimum, skip, image, library):
+    """A case as the driver reads it."""
+    sized = [struct.pack("<I", len(b)) + b for b in (image, library)]
+    return struct.pack("<BQQ", flags, minimum, skip) + b"".join(sized)
+
+
 def packed(case, library):
-    """The case as the driver reads it: checking, skip amount, and the printed table too."""
+    """The whole run: checking, skip amount, and the printed table too."""
     flags = case.check | (case.skip is not None) << 1 | 4
-    settings = struct.pack("<BQQ", flags, case.minimum, case.skip or 0)
-    sized = [struct.pack("<I", len(b)) + b for b in (case.image, library)]
-    return settings + b"".join(sized)
+    return asking(flags, case.minimum, case.skip or 0, case.image, library)
 
 
-def answers(program, cases, libraries):
+def packed_to_read(library):
+    """The reading alone."""
+    return asking(8, 0, 0, b"", library)
+
+
+def answers(program, asked):
     """One answer a case, the printed table beside it under "printed"."""
-    asked = b"".join(packed(c, l) for c, l in zip(cases, libraries))
-    said = subprocess.run([program], input=asked, stdout=subprocess.PIPE, check=True).stdout
+    said = subprocess.run([program], input=b"".join(asked), stdout=subprocess.PIPE, check=True).stdout
     found = []
     while said:
         line, said = said.split(b"\n", 1)
@@ -60,6 +68,18 @@ def refused(number, label="on"):
     return Expected(f"{label} {number}", number, [])
 
 
+def reading(answer, checked):
+    """What reading alone comes to, from the answers of the two builds: 5 to 8, or 0 where it went through; None
+    where the Rust does not tell. Either build stops at the first panic, so `checked` tells 7 from 8 where both are due."""
+    if checked["outcome"] == "panic" and "subtract with overflow" in checked["text"]:
+        return 7
+    if answer["outcome"] == "unread":
+        return 6 if answer["text"] == "incomplete" else 5
+    if answer["outcome"] == "panic" and answer["stage"] == "read":
+        return 8 if "left == right" in answer["text"] else None
+    return 0
+
+
 def expected(case, answer, checked, instead):
     """From the release build's answer, the checked build's, and the one about `asked`; None where the
     Rust does not tell what must come."""
@@ -68,25 +88,27 @@ def expected(case, answer, checked, instead):
         return listed(instead, "off raw names", case.renamed)
     if case.asked is not None:
         return listed(instead, "off omission", None) if outcome == "panic" and stage == "search" else None
-    if checked["outcome"] == "panic" and "subtract with overflow" in checked["text"]:
-        return refused(7, "off")
+    number = reading(answer, checked)
+    if number:
+        return refused(number, "on" if number < 7 else "off")
     if outcome == "ok":
         return listed(answer, "on 0", None)
-    if outcome == "unread":
-        return refused(6 if answer["text"] == "incomplete" else 5)
     if outcome == "convert error":
         return refused(CONVERT_ERRORS[answer["text"]])
-    if stage == "read" and "left == right" in answer["text"]:
-        return refused(8, "off")
     if stage == "convert" and "`None` value" in answer["text"]:
         return refused(13, "off")
     return None
 
 
+def programs(folder):
+    """The two programs, release and checked, under the folder that build.sh was given."""
+    return [f"{folder}/target/{profile}/libfind-oracle" for profile in ("release", "checked")]
+
+
 def ask(folder, cases):
-    """The expectation of each case, from the two programs under the folder that build.sh was given."""
-    release, checked = (f"{folder}/target/{profile}/libfind-oracle" for profile in ("release", "checked"))
-    libraries = [c.library for c in cases]
-    asked = [c.library if c.asked is None else c.asked for c in cases]
-    found = zip(cases, answers(release, cases, libraries), answers(checked, cases, libraries), answers(release, cases, asked))
+    """The expectation of each case."""
+    release, checked = programs(folder)
+    asked = [packed(c, c.library) for c in cases]
+    instead = [packed(c, c.library if c.asked is None else c.asked) for c in cases]
+    found = zip(cases, answers(release, asked), answers(checked, asked), answers(release, instead))
     return [expected(*each) for each in found]

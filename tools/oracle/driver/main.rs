@@ -1,10 +1,11 @@
 //! Batch driver around the unchanged libfind.
 //!
 //! stdin: any number of cases, each
-//!   flags u8 (1 = check, 2 = a skip amount is given, 4 = also print the table)
+//!   flags u8 (1 = check, 2 = a skip amount is given, 4 = also print the table, 8 = only read the library)
 //!   minimum, skip (u64 LE each), image length u32 LE, image, library length u32 LE, library
 //! stdout: per case one JSON line
 //!   {"case":n,"outcome":"ok","ns":..,"rows":[{location,name,goodness,description}..]}
+//!   {"case":n,"outcome":"read","ns":..,"text":".."} with flag 8: the Debug form of all that was read
 //!   {"case":n,"outcome":"unread"|"convert error"|"panic","text":"..","stage":"read|convert|search|list"}
 //!   the text of "unread" is "incomplete" where a record's body passes the file's end, else "error .."
 //! and, if flag 4 is set and the outcome is ok, the very output of print_segrefs between the lines
@@ -22,6 +23,7 @@ use std::time::Instant;
 
 enum Outcome {
     Ok(Vec<Segref>),
+    Read(String),
     Unread(String),
     Convert(&'static str),
 }
@@ -38,6 +40,14 @@ fn unread(e: nom::Err<nom::error::Error<&[u8]>>, library: &[u8]) -> String {
                 format!("error {:?}", e.code)
             }
         }
+    }
+}
+
+/// Only reading: nothing is converted or searched.
+fn read(library: &[u8]) -> Outcome {
+    match Omf51Objects::new(library) {
+        Ok(o) => Outcome::Read(format!("{:?}", o)),
+        Err(e) => Outcome::Unread(unread(e, library)),
     }
 }
 
@@ -96,13 +106,20 @@ fn main() {
         let stage = Cell::new("read");
         let start = Instant::now();
         let outcome = catch_unwind(AssertUnwindSafe(|| {
-            run(image, library, check, minimum, skip, &stage)
+            if flags & 8 != 0 {
+                read(library)
+            } else {
+                run(image, library, check, minimum, skip, &stage)
+            }
         }));
         let ns = start.elapsed().as_nanos() as u64;
         let stage = stage.get();
         let line = match &outcome {
             Ok(Outcome::Ok(rows)) => {
                 serde_json::json!({"case": case, "outcome": "ok", "ns": ns, "rows": rows})
+            }
+            Ok(Outcome::Read(t)) => {
+                serde_json::json!({"case": case, "outcome": "read", "ns": ns, "text": t})
             }
             Ok(Outcome::Unread(t)) => {
                 serde_json::json!({"case": case, "outcome": "unread", "ns": ns, "text": t})
