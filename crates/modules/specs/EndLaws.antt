@@ -38,6 +38,11 @@ Halts (At next) = ⊥
 Halts Stop = Unit
 Halts (Refused r) = Unit
 
+pub moved-end : {A : Type 0} (library : List ℕ) (at : ℕ) (o : Outcome A) → Moved library at o → MovedEnd library at (endOf o)
+moved-end library at (read a next) m = m
+moved-end library at stop m = tt
+moved-end library at (refused r) m = tt
+
 module _ {A : Type 0} (library : List ℕ) (each : Reader (List A)) (moves : Moves library each) (at : ℕ) where
   -- THE TURN of any repetition's end
   pub end-turn : {e : End} → endOf (each at) ≡ e → endOf (many library each at) ≡ afterEnd (λ k. endOf (many library each k)) at e
@@ -54,14 +59,6 @@ module _ {A : Type 0} (library : List ℕ) (each : Reader (List A)) (moves : Mov
       go (read more next) = dropped more (many library each next)
       go stop = refl
       go (refused r) = refl
-
-  pub moved-end : {e : End} → endOf (each at) ≡ e → MovedEnd library at e
-  moved-end e = subst (MovedEnd library at) e (go (each at) (moves at))
-    where
-      go : (o : Outcome (List A)) → Moved library at o → MovedEnd library at (endOf o)
-      go (read a next) p = p
-      go stop p = tt
-      go (refused r) p = tt
 
   -- nothing is found where its reader doesn't pass
   pub found-none : {e : End} → endOf (each at) ≡ e → Halts e → found library each at ≡ []

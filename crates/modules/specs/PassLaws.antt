@@ -1,6 +1,6 @@
 -- Laws for passing over records: how one ends, by its frame, and the turns of their repetitions. Assumes nothing.
 use Prim.Native.Nat.{ℕ, _+_, _≤_, _<_}
-use mathlib.Core.Path.{_≡_, refl, sym, ap, _∙_}
+use mathlib.Core.Path.{_≡_, refl, sym, ap, subst, _∙_}
 use mathlib.Core.Bool.{Bool, true, false}
 use mathlib.Core.List.{List, []}
 use native.Mathlib.Omega.{arith}
@@ -26,20 +26,28 @@ use Rattle.modules.specs.RepeatLaws.{Moved, Moves, then-moves, then-stay
 use Rattle.modules.specs.EndLaws.{afterEnd, MovedEnd, end-turn, moved-end, then-end, Gave, closing, least-end}
 use Rattle.modules.specs.Passes.{allowedFor, holds, recordEnd, allEnd}
 
--- every record moves
-pub record-moves : {A : Type 0} (library : List ℕ) (allowed : ℕ → Bool) (inner : Frame → Reader A) → Moves library (recordOf library allowed inner)
+-- every record has a type, a length and a checksum byte, so it moves
+pub record-longer : {A : Type 0} (library : List ℕ) (allowed : ℕ → Bool) (inner : Frame → Reader A) (at : ℕ) → Moved library (at + 3) (recordOf library allowed inner at)
 unfolding recordOf
-record-moves {A} library allowed inner at = go (expected library allowed at) (expected-fits library allowed at)
+record-longer {A} library allowed inner at = go (expected library allowed at) (expected-fits library allowed at)
   where
-    body : (next : ℕ) → at < next → next ≤ length library → (o : Outcome A) → Moved library at (andThen o λ a left. read a next)
+    body : (next : ℕ) → at + 3 < next → next ≤ length library → (o : Outcome A) → Moved library (at + 3) (andThen o λ a left. read a next)
     body next l m (read a left) = (l, m)
     body next l m stop = tt
     body next l m (refused r) = tt
 
-    go : (o : Outcome Frame) → FrameFits library at o → Moved library at (andThen o λ f next. andThen (inner f (f .body)) λ a left. read a next)
+    go : (o : Outcome Frame) → FrameFits library at o → Moved library (at + 3) (andThen o λ f next. andThen (inner f (f .body)) λ a left. read a next)
     go (read f next) h = body next (omega arith) (h .inside) (inner f (f .body))
     go stop h = tt
     go (refused r) h = tt
+
+pub record-moves : {A : Type 0} (library : List ℕ) (allowed : ℕ → Bool) (inner : Frame → Reader A) → Moves library (recordOf library allowed inner)
+record-moves {A} library allowed inner at = go (recordOf library allowed inner at) (record-longer library allowed inner at)
+  where
+    go : (o : Outcome A) → Moved library (at + 3) o → Moved library at o
+    go (read a next) m = (omega arith, m .1)
+    go stop m = tt
+    go (refused r) m = tt
 
 -- an entry is one, or none
 ending-gave : {A B : Type 0} (f : Frame) (a : A) (next : ℕ) (g : A → List B) → ((a : A) (k : ℕ) → Gave (read (g a) k)) → Gave (andThen (ending f a next) λ a. give (g a))
@@ -121,6 +129,7 @@ pub all-turn : (what : Entries) (library : List ℕ) (at : ℕ) {e : End} → re
 all-turn Definitions library at e = end-turn library (definitionsAt library) (definitions-move library) at e
 all-turn Fixups library at e = end-turn library (fixupsAt library) (fixups-move library) at e
 
-pub record-moved : (what : Entries) (library : List ℕ) (at : ℕ) {e : End} → recordEnd what library at ≡ e → MovedEnd library at e
-record-moved Definitions library at e = moved-end library (definitionsAt library) (definitions-move library) at e
-record-moved Fixups library at e = moved-end library (fixupsAt library) (fixups-move library) at e
+pub record-moved : (what : Entries) (library : List ℕ) (at : ℕ) {e : End} → recordEnd what library at ≡ e → MovedEnd library (at + 3) e
+unfolding definitionsAt fixupsAt
+record-moved Definitions library at e = subst (MovedEnd library (at + 3)) e (moved-end library (at + 3) (definitionsAt library at) (record-longer library _ _ at))
+record-moved Fixups library at e = subst (MovedEnd library (at + 3)) e (moved-end library (at + 3) (fixupsAt library at) (record-longer library _ _ at))

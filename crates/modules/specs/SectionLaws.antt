@@ -1,6 +1,6 @@
 -- Contents with their fixups, and the records skipped among them: how one ends, and the turn of all. Assumes nothing.
 use Prim.Native.Nat.{ℕ, _+_, _≤_, _<_}
-use mathlib.Core.Path.{_≡_, refl, sym, ap, _∙_}
+use mathlib.Core.Path.{_≡_, refl, sym, ap, subst, _∙_}
 use mathlib.Core.Bool.{Bool, true, false}
 use mathlib.Core.List.{List, []}
 use native.Mathlib.Omega.{arith}
@@ -87,4 +87,4 @@ pub sections-turn : (library : List ℕ) (at : ℕ) {e : End} → endOf (section
 sections-turn library at e = end-turn library (sectionsAt library) (sections-move library) at e
 
 pub section-moved : (library : List ℕ) (at : ℕ) {e : End} → endOf (sectionsAt library at) ≡ e → MovedEnd library at e
-section-moved library at e = moved-end library (sectionsAt library) (sections-move library) at e
+section-moved library at e = subst (MovedEnd library at) e (moved-end library at (sectionsAt library at) (sections-move library at))

@@ -22,7 +22,7 @@ fn allowed_for(what: Entries) -> Allowed
 }
 
 // Whether a record of a type holds such entries; one that holds none is skipped.
-fn holds(what: Entries, kind: u8) -> bool
+pub fn holds(what: Entries, kind: u8) -> bool
     ensures { λ r. ⌜ r ≡ holdsType what kind ⌝ }
 {
     match what {

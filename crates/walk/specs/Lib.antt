@@ -1,0 +1,3 @@
+-- Going over a whole module again.
+pub mod Walk
+pub mod WalkLaws
