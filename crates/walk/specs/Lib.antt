@@ -1,3 +1,5 @@
 -- Going over a whole module again.
 pub mod Walk
 pub mod WalkLaws
+pub mod Items
+pub mod ItemLaws
