@@ -3,3 +3,5 @@ pub mod Walk
 pub mod WalkLaws
 pub mod Items
 pub mod ItemLaws
+pub mod Contents
+pub mod ContentLaws

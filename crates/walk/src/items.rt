@@ -18,7 +18,7 @@ fn wide(x: u8) -> usize
     x as usize
 }
 
-fn word(library: &[u8], at: usize) -> usize
+pub fn word(library: &[u8], at: usize) -> usize
     ensures { λ r. ⌜ r ≡ wordAt (now (library .entry)) at ⌝ }
 {
     word_at(library, at) as usize
