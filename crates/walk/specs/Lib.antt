@@ -5,3 +5,6 @@ pub mod Items
 pub mod ItemLaws
 pub mod Contents
 pub mod ContentLaws
+pub mod Left
+pub mod EnterLaws
+pub mod LeftLaws
