@@ -24,7 +24,7 @@ use Rattle.modules.specs.PassLaws.{record-moved}
 use Rattle.walk.specs.declared.Cursor.{Cursor}
 use Rattle.walk.specs.declared.Step.{Step}
 use Rattle.walk.specs.declared.Step.the-variants.{Entry, Done}
-use Rattle.walk.specs.Walk.{entryIn, frameTo, enteredAt, afterRecord, afterEntry, steps, nextEntry}
+use Rattle.walk.specs.Walk.{startAt, entryIn, frameTo, enteredAt, afterRecord, afterEntry, steps, nextEntry}
 use Rattle.walk.specs.Items.{past}
 use Rattle.walk.specs.ItemLaws.{Whole, entry-whole}
 use Rattle.walk.specs.Left.{leftIn, left}
@@ -102,3 +102,7 @@ module _ {A : Type 0} (what : Entries) (library : List ℕ) (each : Frame → Re
 
   pub step-yields : (c : Cursor) → left library each records c ≡ unwound (nextEntry what library c)
   step-yields c = steps-yield (suc (length library)) c (omega arith)
+
+  -- before the first record, all of them are left
+  pub start-left : (at : ℕ) → left library each records (startAt at) ≡ found library records at
+  start-left at = past-body (startAt at) (rw (le-leb 0 (length library) (omega arith), w .entry-ends (startAt at .frame) 0) (w .last-halts (startAt at .frame)))

@@ -8,3 +8,4 @@ pub mod ContentLaws
 pub mod Left
 pub mod EnterLaws
 pub mod LeftLaws
+pub mod Yields
