@@ -1,0 +1,108 @@
+-- A walk goes forward: each entry stands behind the one before, and within the library, so no walk has more entries than the library has bytes. Assumes nothing.
+use Prim.Native.Nat.{ℕ, zero, suc, _+_, _-_, _≤_, _<_}
+use mathlib.Core.Path.{_≡_, refl, sym, subst, _∙_}
+use mathlib.Core.Bool.{Bool, true, false}
+use mathlib.Core.List.{List}
+use native.Mathlib.Omega.{arith}
+use lib.ListN.{length}
+use Rattle.lent.specs.Choice.{if_then_else_}
+use Rattle.lent.specs.Parts.{byteAt}
+use Rattle.omf51.specs.declared.Definition.{Definition}
+use Rattle.omf51.specs.declared.Fixup.{Fixup}
+use Rattle.omf51.specs.declared.End.{End}
+use Rattle.omf51.specs.declared.End.the-variants.{At, Stop, Refused}
+use Rattle.omf51.specs.declared.entry.Entries.{Entries}
+use Rattle.omf51.specs.declared.entry.Entries.the-variants.{Definitions, Fixups}
+use Rattle.omf51.specs.Ends.{entryEnd}
+use Rattle.modules.specs.EndLaws.{MovedEnd}
+use Rattle.modules.specs.Passes.{holds, recordEnd}
+use Rattle.modules.specs.PassLaws.{record-moved}
+use Rattle.walk.specs.declared.Cursor.{Cursor}
+use Rattle.walk.specs.declared.Step.{Step}
+use Rattle.walk.specs.declared.Step.the-variants.{Entry, Done}
+use Rattle.walk.specs.declared.NextDefinition.{NextDefinition}
+use Rattle.walk.specs.declared.NextDefinition.the-variants as NextDefinition
+use Rattle.walk.specs.declared.NextFixup.{NextFixup}
+use Rattle.walk.specs.declared.NextFixup.the-variants as NextFixup
+use Rattle.walk.specs.Walk.{entryIn, enteredAt, afterRecord, afterEntry, steps, nextEntry}
+use Rattle.walk.specs.Items.{past, nextDefinition, definitionStep, nextFixup, fixupStep}
+use Rattle.walk.specs.ItemLaws.{Whole, entry-whole, definition-room, fixup-room}
+
+-- a cursor whose body ends before its next record
+pub record Ordered (c : Cursor) : Type 0 where
+  pub before : c .at ≤ c .next
+  pub body-before : c .frame .end ≤ c .next
+
+-- from one cursor to the next
+pub record Forward (library : List ℕ) (c rest : Cursor) : Type 0 where
+  pub later : c .at < rest .at
+  pub inside : rest .at ≤ length library
+  pub ordered : Ordered rest
+
+entry-forward : (what : Entries) (library : List ℕ) (c : Cursor) {end : ℕ} → entryEnd what library (c .frame) (c .at) ≡ At end
+    → (c .at < end) × (end ≤ c .frame .end)
+entry-forward Definitions library c e = let r = definition-room library (c .frame) (c .at) e in (omega arith, r .1)
+entry-forward Fixups library c e = let r = fixup-room library (c .frame) (c .at) e in (omega arith, r .1)
+
+abbrev Steps : List ℕ → ℕ → Step → Type 0
+Steps library at (Entry here end) = (at ≤ here .at) × ((here .at < end) × ((end ≤ length library) × Ordered (past here end)))
+Steps library at Done = Unit
+
+steps-forward : (n : ℕ) (what : Entries) (library : List ℕ) (c : Cursor) → Ordered c → Steps library (c .at) (steps n what library c)
+unfolding steps
+steps-forward zero what library c o = tt
+steps-forward (suc n) what library c o = entry (steps-forward n what library) (entryIn what library c) refl
+  where
+    weaker : {at : ℕ} (s : Step) → c .at ≤ at → Steps library at s → Steps library (c .at) s
+    weaker (Entry here end) h p = (omega arith, p .1)
+    weaker Done h p = tt
+
+    place : (next : ℕ) (t : Bool) → c .next + 3 < next → (c .next ≤ (if t then c .next + 3 else next - 1)) × ((if t then c .next + 3 else next - 1) ≤ next)
+    place next true h = (omega arith, omega arith)
+    place next false h = (omega arith, omega arith)
+
+    later : ((k : Cursor) → Ordered k → Steps library (k .at) (steps n what library k)) → (e : End) → recordEnd what library (c .next) ≡ e
+        → Steps library (c .at) (afterRecord (steps n what library) what library (c .next) e)
+    later rest (At next) q =
+        let m : MovedEnd library (c .next + 3) (At next) = record-moved what library (c .next) q in
+        let p = place next (holds what (byteAt library (c .next))) (m .0) in
+        let k : Cursor = enteredAt what library (c .next) next in
+        weaker (steps n what library k) (omega (arith, p, o .before)) (rest k (record { before = p .1; body-before = omega arith }))
+    later rest Stop q = tt
+    later rest (Refused r) q = tt
+
+    entry : ((k : Cursor) → Ordered k → Steps library (k .at) (steps n what library k)) → (e : End) → entryIn what library c ≡ e
+        → Steps library (c .at) (afterEntry (afterRecord (steps n what library) what library (c .next) (recordEnd what library (c .next))) c e)
+    entry rest (At end) q =
+        let w = entry-whole what library c q in
+        let f = entry-forward what library c (w .ends) in
+        (omega arith, (f .0, (omega (arith, f, w .inside), record { before = omega (arith, f, o .body-before); body-before = o .body-before })))
+    entry rest Stop q = later rest (recordEnd what library (c .next)) refl
+    entry rest (Refused r) q = later rest (recordEnd what library (c .next)) refl
+
+abbrev Stepped : List ℕ → Cursor → Step → Type 0
+Stepped library c (Entry here end) = Forward library c (past here end)
+Stepped library c Done = Unit
+
+stepped : (what : Entries) (library : List ℕ) (c : Cursor) → Ordered c → Stepped library c (nextEntry what library c)
+stepped what library c o = go (nextEntry what library c) (steps-forward (suc (length library)) what library c o)
+  where
+    go : (s : Step) → Steps library (c .at) s → Stepped library c s
+    go (Entry here end) p = record { later = omega (arith, p .0, p .1 .0); inside = p .1 .1 .0; ordered = p .1 .1 .1 }
+    go Done p = tt
+
+pub definition-goes : (library : List ℕ) (c : Cursor) → Ordered c → {definition : Definition} {rest : Cursor}
+    → nextDefinition library c ≡ NextDefinition.Item definition rest → Forward library c rest
+definition-goes library c o {definition} {rest} = go (nextEntry Definitions library c) (stepped Definitions library c o)
+  where
+    go : (s : Step) → Stepped library c s → definitionStep library s ≡ NextDefinition.Item definition rest → Forward library c rest
+    go (Entry here end) p e = let q : past here end ≡ rest = cc in subst (Forward library c) q p
+    go Done p e = let z : _≡_ {A = ℕ} 0 1 = cc in absurd (omega arith)
+
+pub fixup-goes : (library : List ℕ) (c : Cursor) → Ordered c → {fixup : Fixup} {rest : Cursor}
+    → nextFixup library c ≡ NextFixup.Item fixup rest → Forward library c rest
+fixup-goes library c o {fixup} {rest} = go (nextEntry Fixups library c) (stepped Fixups library c o)
+  where
+    go : (s : Step) → Stepped library c s → fixupStep library s ≡ NextFixup.Item fixup rest → Forward library c rest
+    go (Entry here end) p e = let q : past here end ≡ rest = cc in subst (Forward library c) q p
+    go Done p e = let z : _≡_ {A = ℕ} 0 1 = cc in absurd (omega arith)
