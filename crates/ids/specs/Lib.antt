@@ -3,3 +3,4 @@ pub mod IdRows
 pub mod IdRowLaws
 pub mod Noted
 pub mod NotedLaws
+pub mod ClearLaws

@@ -6,6 +6,7 @@ use mathlib.Core.List.{List}
 use lib.ListN.{length}
 use Rattle.lent.specs.declared.part.Part.{Part}
 use Rattle.lent.specs.Choice.{if_then_else_}
+use Rattle.lent.specs.Lists.{keep}
 use Rattle.lent.specs.Rows.{flag, putRow}
 use Rattle.omf51.specs.declared.ModuleId.{ModuleId}
 use Rattle.omf51.specs.declared.Definition.{Definition}
@@ -59,3 +60,12 @@ keptAfter n d = n + flag (isKept d)
 pub record Tells (definitions : List Definition) (table : List ℕ) : Type 0 where
   pub long : 65536 * 6 ≤ length table
   pub rows : (id : ModuleId) → id .0 < 65536 → idRowAt table id ≡ idRow definitions id
+
+-- and how many segments they keep
+pub record Filled (definitions : List Definition) (table : List ℕ) (n : ℕ) : Type 0 where
+  pub tells : Tells definitions table
+  pub number : n ≡ length (keep isKept definitions)
+
+-- an id of which nothing is defined
+abbrev pub noRow : IdRow
+noRow = record { segment = Missing; kept = None; external = Missing; name = record { at = 0; len = 0 } }

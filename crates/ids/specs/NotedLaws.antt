@@ -1,6 +1,6 @@
 -- A definition noted: the table tells of it too. Assumes nothing.
 use Prim.Native.Nat.{ℕ, suc, _+_, _*_, _<_, _≤_}
-use mathlib.Core.Path.{_≡_, refl, sym, ap, _∙_}
+use mathlib.Core.Path.{_≡_, refl, sym, ap, subst, _∙_}
 use mathlib.Core.Bool.{Bool, true, false, _&&_, false≢true}
 use mathlib.Core.List.{List, [], _∷_, _++_, append-nil}
 use mathlib.Core.Option.{Option, none, some}
@@ -23,7 +23,7 @@ use Rattle.ids.specs.declared.KeptAs.the-variants.{None, Place}
 use Rattle.ids.specs.declared.IdRow.{IdRow}
 use Rattle.ids.specs.IdRows.{markOf, keptAs, keptIn, idRow, idCells, idLayout, idRowAt}
 use Rattle.ids.specs.IdRowLaws.{id-wide, id-back}
-use Rattle.ids.specs.Noted.{firstMark, firstName, firstKeptAs, changed, noteIn, keptAfter, Tells}
+use Rattle.ids.specs.Noted.{firstMark, firstName, firstKeptAs, changed, noteIn, keptAfter, Tells, Filled}
 
 -- a list with one more: what is kept of it, and the first that passes a test
 keep-snoc : {A : Type 0} (p : A → Bool) (xs : List A) (x : A) → keep p (xs ++ one x) ≡ keep p xs ++ (if p x then one x else [])
@@ -181,3 +181,38 @@ noted ds table d t small = record { long = omega (arith, t .long, put-length 6 t
         get-other idLayout id-wide table (idOf d .0) (id .0) new (λ q. n (sym q))
         ∙ t .rows id h
         ∙ sym (row-same id ds d (other-segment id d n) (other-external id d n))
+
+-- the same by its steps
+pub note-steps : (table : List ℕ) (n : ℕ) (d : Definition) {id : ModuleId} {row new : IdRow} {out : List ℕ} → id ≡ idOf d → row ≡ idRowAt table id → new ≡ changed row n d
+    → out ≡ putRow 6 table (id .0) (idCells new) → out ≡ noteIn table n d
+unfolding noteIn
+note-steps table n d i r c o = rw (← i, ← r, ← c) o
+
+pub kept-more : (ds : List Definition) (d : Definition) → length (keep isKept (ds ++ one d)) ≡ keptAfter (length (keep isKept ds)) d
+kept-more ds d = ap length (keep-snoc isKept ds d) ∙ length-append (keep isKept ds) (if isKept d then one d else []) ∙ ap (λ n. length (keep isKept ds) + n) (go (isKept d))
+  where
+    go : (t : Bool) → length (if t then one d else []) ≡ flag t
+    go true = refl
+    go false = refl
+
+pub kept-step : (n : ℕ) (d : Definition) → keptAfter n d ≤ n + 1
+kept-step n d = go (isKept d)
+  where
+    go : (t : Bool) → n + flag t ≤ n + 1
+    go true = omega arith
+    go false = omega arith
+
+-- none are kept of none; once nothing is left, the table tells of all
+pub none-kept : 0 ≡ length (keep isKept [])
+unfolding keep
+none-kept = refl
+
+pub all-noted : {all done : List Definition} {left : List Definition} (table : List ℕ) {n : ℕ} → done ++ left ≡ all → left ≡ [] → Tells done table → n ≡ length (keep isKept done)
+    → Filled all table n
+all-noted {all} {done} {left} table w e t k =
+    let q : done ≡ all = sym (append-nil done) ∙ ap (λ xs. done ++ xs) (sym e) ∙ w in
+    record { tells = subst (λ ds. Tells ds table) q t; number = k ∙ ap (λ ds. length (keep isKept ds)) q }
+
+pub note-length : (table : List ℕ) (n : ℕ) (d : Definition) → length (noteIn table n d) ≡ length table
+unfolding noteIn
+note-length table n d = put-length 6 table (idOf d .0) _
