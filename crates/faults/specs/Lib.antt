@@ -1,0 +1,3 @@
+-- Refusals 10 to 13 by what an id leads to.
+pub mod Faults
+pub mod FaultLaws
