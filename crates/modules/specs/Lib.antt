@@ -9,3 +9,4 @@ pub mod ModuleLaws
 pub mod Reading
 pub mod WholeLaws
 pub mod ReadingLaws
+pub mod OneOutcome

@@ -5,3 +5,4 @@ pub mod Items
 pub mod ItemLaws
 pub mod Contents
 pub mod ContentLaws
+pub mod OneOutcome
