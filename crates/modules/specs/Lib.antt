@@ -10,3 +10,4 @@ pub mod Reading
 pub mod WholeLaws
 pub mod ReadingLaws
 pub mod StandLaws
+pub mod OneOutcome

@@ -10,3 +10,4 @@ pub mod EnterLaws
 pub mod LeftLaws
 pub mod Yields
 pub mod ForwardLaws
+pub mod OneOutcome
