@@ -1,33 +1,23 @@
+-- `content_fault`: no sum is taken, so none can wrap. Assumes nothing.
+use mathlib.Core.Path.{sym, ap}
+use native.Mathlib.Omega.{arith}
+use Rattle.faults.specs.Faults.{verdictOf}
+use Rattle.faults.specs.FaultLaws.{no-segment, fits, too-long}
 use borrow.Author.Needs.{needs}
 use Rattle.faults.proofs.one.content_fault.Statement.{statement}
 use Rattle.faults.proofs.one.content_fault.Tie as tie
-use Rattle.faults.proofs.one.content_fault.Reads as reads
-use Rattle.faults.proofs.one.content_fault.Lts as lts
 
--- src/one.rt:61:25
-enum-told : tie.Need-enum-told
-enum-told c = search needs
-
--- src/one.rt:62:25
-enum-known-kept : tie.Need-enum-known-kept
-enum-known-kept c = search needs
-
--- src/one.rt:65:21
 returns : tie.Need-returns
-returns c = ?
+returns c = let a = c .before .before .before .before .before .before .before .before .args in sym (ap verdictOf (fits (a .row) (a .c) (c .before .before .before .before .before .before .kept .given .1) (omega arith)))
 
--- src/one.rt:56:1
 returns-2 : tie.Need-returns-2
-returns-2 c = ?
+returns-2 c = let a = c .before .before .args in sym (ap verdictOf (no-segment (a .row) (a .c) (c .enum-told .given .1)))
 
--- src/one.rt:56:1
 returns-3 : tie.Need-returns-3
-returns-3 c = ?
+returns-3 c = let a = c .before .before .before .before .before .before .before .before .args in sym (ap verdictOf (too-long (a .row) (a .c) (c .before .before .before .before .before .before .kept .given .1) (omega arith)))
 
--- src/one.rt:56:1
 returns-4 : tie.Need-returns-4
-returns-4 c = ?
+returns-4 c = let a = c .before .before .before .before .before .args in sym (ap verdictOf (too-long (a .row) (a .c) (c .before .before .before .kept .given .1) (omega arith)))
 
 pub content-fault-spec : {M : Type 1} → statement M
-content-fault-spec =
-    tie.close (tie.spec enum-told enum-known-kept returns returns-2 returns-3 returns-4)
+content-fault-spec = tie.close (tie.spec (λ c. search needs) (λ c. search needs) returns returns-2 returns-3 returns-4)

@@ -1,46 +1,38 @@
+-- `fixup_fault` tests block 3, kind, block, and then what the id leads to. Assumes nothing.
+use mathlib.Core.Path.{sym, ap, _∙_}
+use borrow.Author.Tests.{not-true, not-false}
+use Rattle.faults.specs.Faults.{verdictOf}
+use Rattle.faults.specs.FaultLaws.{ignored, unknown-kind, unknown-block, not-segment, not-code, segment-fault}
 use borrow.Author.Needs.{needs}
 use Rattle.faults.proofs.one.fixup_fault.Statement.{statement}
 use Rattle.faults.proofs.one.fixup_fault.Tie as tie
-use Rattle.faults.proofs.one.fixup_fault.Reads as reads
-use Rattle.faults.proofs.one.fixup_fault.Lts as lts
-use Rattle.faults.proofs.one.is_code.Reads as is-code-reads
-use Rattle.faults.proofs.one.is_kept.Reads as is-kept-reads
 
--- src/one.rt:35:9
 returns : tie.Need-returns
-returns c = ?
+returns c = let a = c .before .before .args in sym (ap verdictOf (ignored (a .row) (a .f) (c .if1 .taken)))
 
--- src/one.rt:38:9
 returns-2 : tie.Need-returns-2
-returns-2 c = ?
+returns-2 c = let a = c .before .before .before .before .args in sym (ap verdictOf (unknown-kind (a .row) (a .f) (c .before .before .if1 .left) (c .if2 .taken)))
 
--- src/one.rt:41:9
 returns-3 : tie.Need-returns-3
-returns-3 c = ?
+returns-3 c = let a = c .before .before .before .before .before .before .args in sym (ap verdictOf (unknown-block (a .row) (a .f) (c .before .before .before .before .if1 .left) (c .before .before .if2 .left) (c .if3 .taken)))
 
--- src/one.rt:44:9
 returns-4 : tie.Need-returns-4
-returns-4 c = ?
+returns-4 c = let a = c .before .before .before .before .before .before .before .before .args in sym (ap verdictOf (not-segment (a .row) (a .f) (c .before .before .before .before .before .before .if1 .left) (c .before .before .before .before .if2 .left) (c .before .before .if3 .left) (c .if4 .taken)))
 
--- src/one.rt:46:9
-is-code-requires : tie.Need-is-code-requires
-is-code-requires c κs = search needs
-
--- src/one.rt:47:9
 returns-5 : tie.Need-returns-5
-returns-5 c = ?
+returns-5 c =
+    let a = c .before .before .before .before .before .before .before .before .before .before .args in
+    sym (ap verdictOf (not-code (a .row) (a .f) (c .before .before .before .before .before .before .before .before .if1 .left) (c .before .before .before .before .before .before .if2 .left) (c .before .before .before .before .if3 .left) (c .before .before .if4 .left) (sym (c .before .is-code .ensures) ∙ not-true (c .before .is-code .result) (c .if5 .taken))))
 
--- src/one.rt:49:8
-is-kept-requires : tie.Need-is-kept-requires
-is-kept-requires c κs = search needs
-
--- src/one.rt:50:9
 returns-6 : tie.Need-returns-6
-returns-6 c = ?
+returns-6 c =
+    let a = c .before .before .before .before .before .before .before .before .before .before .before .before .args in
+    sym (ap verdictOf (segment-fault (a .row) (a .f) (c .before .before .before .before .before .before .before .before .before .before .if1 .left) (c .before .before .before .before .before .before .before .before .if2 .left) (c .before .before .before .before .before .before .if3 .left) (c .before .before .before .before .if4 .left) (sym (c .before .before .before .is-code .ensures) ∙ not-false (c .before .before .before .is-code .result) (c .before .before .if5 .left)) (sym (c .before .is-kept .ensures) ∙ c .if6 .taken)))
 
--- src/one.rt:29:1
 returns-7 : tie.Need-returns-7
-returns-7 c = ?
+returns-7 c =
+    let a = c .before .before .before .before .before .before .before .before .before .before .before .before .args in
+    sym (ap verdictOf (segment-fault (a .row) (a .f) (c .before .before .before .before .before .before .before .before .before .before .if1 .left) (c .before .before .before .before .before .before .before .before .if2 .left) (c .before .before .before .before .before .before .if3 .left) (c .before .before .before .before .if4 .left) (sym (c .before .before .before .is-code .ensures) ∙ not-false (c .before .before .before .is-code .result) (c .before .before .if5 .left)) (sym (c .before .is-kept .ensures) ∙ c .if6 .left)))
 
 pub fixup-fault-spec : {M : Type 1} → statement M
 fixup-fault-spec =
@@ -50,8 +42,8 @@ fixup-fault-spec =
     returns-2
     returns-3
     returns-4
-    is-code-requires
+    (λ c κs. search needs)
     returns-5
-    is-kept-requires
+    (λ c κs. search needs)
     returns-6
     returns-7)
