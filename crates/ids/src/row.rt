@@ -1,6 +1,6 @@
 // The row of an id in memory.
 ghost use mathlib.Core.Path.{_≡_};
-ghost use Prim.Native.Nat.{_≤_};
+ghost use Prim.Native.Nat.{_≤_, _<_};
 ghost use Rattle.lent.specs.Rows.{putRow};
 ghost use Rattle.ids.specs.IdRows.{markNumber, markFrom, keptCells, keptFrom, idCells, idRowAt};
 use lent::part::Part;
@@ -70,7 +70,7 @@ fn kept_from(n: u64, place: u64, size: u64) -> KeptAs
 
 // What an id leads to.
 pub fn id_row(table: &[u64], id: ModuleId) -> IdRow
-    ensures { λ r. ⌜ r ≡ idRowAt (now (table .entry)) id ⌝ }
+    ensures { λ r. ⌜ (r ≡ idRowAt (now (table .entry)) id) × (id .0 < 65536) ⌝ }
 {
     let n = rows::numbers(table, WIDTH, id.0 as usize);
     IdRow {

@@ -4,7 +4,7 @@ use Rattle.ids.proofs.row.id_row.Statement.{statement}
 use Rattle.ids.proofs.row.id_row.Tie as tie
 
 returns : tie.Need-returns
-returns c = rw (c .before .before .mark-from .ensures, c .before .kept-from .ensures, c .mark-from2 .ensures, c .before .before .before .numbers .ensures)
+returns c = (rw (c .before .before .mark-from .ensures, c .before .kept-from .ensures, c .mark-from2 .ensures, c .before .before .before .numbers .ensures), search needs)
 
 pub id-row-spec : {M : Type 1} → statement M
 id-row-spec =
