@@ -9,3 +9,4 @@ pub mod Left
 pub mod EnterLaws
 pub mod LeftLaws
 pub mod Yields
+pub mod Fewer
