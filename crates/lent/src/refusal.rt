@@ -1,4 +1,7 @@
 // Why there is no answer, in the order of document 01's table; specs/Refusals.antt gives each its number.
+ghost use mathlib.Core.Path.{_≡_};
+ghost use Rattle.lent.specs.Refusals.{refusalNumber};
+
 pub enum Refusal {
     RuleSet,
     ImageTooLong,
@@ -13,4 +16,25 @@ pub enum Refusal {
     UnknownBlock,
     ContentPastSegment,
     NoKeptSegment,
+}
+
+// The number that the caller is handed for it.
+pub fn number(r: Refusal) -> u8
+    ensures { λ n. ⌜ n ≡ refusalNumber r ⌝ }
+{
+    match r {
+        Refusal::RuleSet => 1,
+        Refusal::ImageTooLong => 2,
+        Refusal::LibraryTooLong => 3,
+        Refusal::StretchPastEnd => 4,
+        Refusal::NoModule => 5,
+        Refusal::BodyPastEnd => 6,
+        Refusal::LengthZero => 7,
+        Refusal::NamesDiffer => 8,
+        Refusal::TooFewRows => 9,
+        Refusal::UnknownKind => 10,
+        Refusal::UnknownBlock => 11,
+        Refusal::ContentPastSegment => 12,
+        Refusal::NoKeptSegment => 13,
+    }
 }

@@ -10,4 +10,5 @@ pub mod EnterLaws
 pub mod LeftLaws
 pub mod Yields
 pub mod ForwardLaws
+pub mod Fewer
 pub mod OneOutcome

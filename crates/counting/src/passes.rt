@@ -1,0 +1,91 @@
+// One pass over the definitions and one over the contents of each module, each content with its fixups.
+use crate::items::of_content;
+use crate::items::of_definition;
+use crate::items::of_fixup;
+use crate::items::plus;
+use modules::ModuleAt;
+use modules::Places;
+use modules::module::module_at;
+use walk::Cursor;
+use walk::NextContent;
+use walk::NextDefinition;
+use walk::NextFixup;
+use walk::contents::next_content;
+use walk::entries::start;
+use walk::items::next_definition;
+use walk::items::next_fixup;
+
+fn over_definitions(library: &[u8], definitions: usize) -> usize {
+    let mut sum = 0;
+    let mut c = start(definitions);
+    loop {
+        match next_definition(library, c) {
+            NextDefinition::Item { definition, rest } => {
+                sum = plus(sum, of_definition(definition));
+                c = rest;
+            }
+            NextDefinition::Done => {
+                return sum;
+            }
+        }
+    }
+}
+
+fn over_fixups(library: &[u8], from: Cursor) -> usize {
+    let mut sum = 0;
+    let mut c = from;
+    loop {
+        match next_fixup(library, c) {
+            NextFixup::Item { fixup, rest } => {
+                sum = plus(sum, of_fixup(fixup));
+                c = rest;
+            }
+            NextFixup::Done => {
+                return sum;
+            }
+        }
+    }
+}
+
+fn over_contents(library: &[u8], contents: usize) -> usize {
+    let mut sum = 0;
+    let mut at = contents;
+    loop {
+        match next_content(library, at) {
+            NextContent::Item {
+                content,
+                fixups,
+                rest,
+            } => {
+                sum = plus(sum, plus(of_content(content), over_fixups(library, fixups)));
+                at = rest;
+            }
+            NextContent::Done => {
+                return sum;
+            }
+        }
+    }
+}
+
+fn over_module(library: &[u8], places: Places) -> usize {
+    plus(
+        over_definitions(library, places.definitions),
+        over_contents(library, places.contents),
+    )
+}
+
+// As many modules as were read, one after another. Each was whole when it was counted, so none ends this early.
+pub fn over_modules(library: &[u8], first: usize, count: usize) -> usize {
+    let mut sum = 0;
+    let mut at = first;
+    let mut i = 0;
+    while i < count {
+        let ModuleAt::Whole(places) = module_at(library, at) else {
+            return sum;
+        };
+        sum = plus(sum, over_module(library, places));
+        at = places.next;
+        i += 1;
+    }
+    sum
+}
