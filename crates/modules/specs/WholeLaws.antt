@@ -16,11 +16,13 @@ use Rattle.omf51.specs.declared.Definition.{Definition}
 use Rattle.omf51.specs.Reader.{Outcome, read, stop, refused, Reader, andThen, give, refuse, after, many, notEmpty}
 use Rattle.omf51.specs.Module.{Section, Module, definitionsAt, sectionsAt, moduleAt}
 use Rattle.modules.specs.declared.Places.{Places}
+use Rattle.modules.specs.declared.ModuleAt.{ModuleAt}
+use Rattle.modules.specs.declared.ModuleAt.the-variants as ModuleAt
 use Rattle.modules.specs.declared.Counted.{Counted}
 use Rattle.modules.specs.declared.Counted.the-variants.{Modules, Refused}
 use Rattle.modules.specs.Found.{found, followed}
 use Rattle.modules.specs.RepeatLaws.{Moved, Stayed, Moves, moved-stays, then-stays, then-moves, many-stays, onto, many-turn, found-turn, many-found}
-use Rattle.modules.specs.Passes.{headAt, lastAt, closedBy, lastPlaces, restPlaces, placesAt}
+use Rattle.modules.specs.Passes.{headAt, lastAt, closedBy, lastPlaces, restPlaces, placesAt, placesRead}
 use Rattle.modules.specs.PassLaws.{record-moves, definitions-move}
 use Rattle.modules.specs.SectionLaws.{sections-move}
 use Rattle.modules.specs.Reading.{countOf}
@@ -96,6 +98,12 @@ count-all (read modules next) = ap (λ n. Modules n next) (zero-add (length modu
 count-all stop = refl
 count-all (refused r) = refl
 
+-- no whole module
+abbrev pub Ended : ModuleAt → Type 0
+Ended (ModuleAt.Whole p) = ⊥
+Ended ModuleAt.Stop = Unit
+Ended (ModuleAt.Refused r) = Unit
+
 module _ (library : List ℕ) (at : ℕ) where
   module-known : {o : Outcome Places} → placesAt library at ≡ o → moduleAt library at ≡ andThen o (wholeModule library)
   module-known e = module-places library at ∙ ap (λ o. andThen o (wholeModule library)) e
@@ -104,6 +112,15 @@ module _ (library : List ℕ) (at : ℕ) where
   pub modules-step : {p : Places} {next : ℕ} → placesAt library at ≡ read p next
       → found library (moduleAt library) at ≡ moduleOf library p ∷ found library (moduleAt library) next
   modules-step e = found-turn library (moduleAt library) (modules-move library) at (module-known e)
+
+  -- where no whole module stands, there are no more
+  pub modules-end : (r : ModuleAt) → placesAt library at ≡ placesRead r → Ended r → found library (moduleAt library) at ≡ []
+  modules-end r e h = found-turn library (moduleAt library) (modules-move library) at (module-known e) ∙ go r h
+    where
+      go : (r : ModuleAt) → Ended r → followed (found library (moduleAt library)) (andThen (placesRead r) (wholeModule library)) ≡ []
+      go (ModuleAt.Whole p) h = absurd h
+      go ModuleAt.Stop h = refl
+      go (ModuleAt.Refused r) h = refl
 
   pub module-moved : {p : Places} {next : ℕ} → placesAt library at ≡ read p next → (at < next) × (next ≤ length library)
   module-moved e = subst (Moved library at) (module-known e) (modules-move library at)

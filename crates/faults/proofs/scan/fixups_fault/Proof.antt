@@ -48,7 +48,7 @@ returns : tie.Need-returns Inv-loop μ-loop
 returns c =
     λ ds t.
     let i = c .before .before .before in
-    ap verdictOf (sym (refused-first (oneFault ds) _ _ (told (verdict i (c .before .verdict .given .1) ds t))) ∙ ap (fixupsFault ds) (sym (yields i)) ∙ i .before .before .before .before .before .before .loop .inv ds t)
+    ap verdictOf (sym (refused-first (oneFault ds) (i .before .before .before .fixup .given .0 .0) (fixupsLeft (i .before .before .before .before .before .before .before .before .before .args .library .now) (i .before .before .before .fixup .given .0 .1 .0)) (told (verdict i (c .before .verdict .given .1) ds t))) ∙ ap (fixupsFault ds) (sym (yields i)) ∙ i .before .before .before .before .before .before .loop .inv ds t)
 
 loop-less : tie.Need-loop-less Inv-loop μ-loop
 loop-less c = rw (yields (c .before .before)) (omega arith)
@@ -57,7 +57,7 @@ loop-again : tie.Need-loop-again Inv-loop μ-loop
 loop-again c =
     λ ds t.
     let i = c .before .before in
-    sym (passed-first (oneFault ds) _ _ (told (verdict i (c .enum-told .given .1) ds t))) ∙ ap (fixupsFault ds) (sym (yields i)) ∙ i .before .before .before .before .before .before .loop .inv ds t
+    sym (passed-first (oneFault ds) (i .before .before .before .fixup .given .0 .0) (fixupsLeft (i .before .before .before .before .before .before .before .before .before .args .library .now) (i .before .before .before .fixup .given .0 .1 .0)) (told (verdict i (c .enum-told .given .1) ds t))) ∙ ap (fixupsFault ds) (sym (yields i)) ∙ i .before .before .before .before .before .before .loop .inv ds t
 
 returns-2 : tie.Need-returns-2 Inv-loop μ-loop
 returns-2 c =

@@ -1,47 +1,39 @@
+-- `section_fault`: a refusal of its fixups decides, or else the content's own. Assumes nothing.
+use mathlib.Core.Path.{sym, ap, _∙_}
+use Rattle.lent.specs.Choice.{orElse}
+use Rattle.ids.specs.IdRows.{idRow}
+use Rattle.walk.specs.Left.{fixupsLeft}
+use Rattle.faults.specs.Faults.{verdictOf, contentFault}
+use Rattle.faults.specs.Scan.{fixupsFault}
+use Rattle.faults.specs.ScanLaws.{told}
 use borrow.Author.Needs.{needs}
 use Rattle.faults.proofs.scan.section_fault.Statement.{statement}
 use Rattle.faults.proofs.scan.section_fault.Tie as tie
-use Rattle.faults.proofs.scan.section_fault.Reads as reads
-use Rattle.faults.proofs.scan.section_fault.Lts as lts
-use Rattle.faults.proofs.one.content_fault.Reads as content-fault-reads
-use Rattle.faults.proofs.scan.fixups_fault.Reads as fixups-fault-reads
-use Rattle.ids.proofs.row.id_row.Reads as id-row-reads
 
--- src/scan.rt:45:9
-fixups-fault-requires : tie.Need-fixups-fault-requires
-fixups-fault-requires c κs = search needs
-
--- src/scan.rt:46:29
-enum-known-verdict : tie.Need-enum-known-verdict
-enum-known-verdict c = search needs
-
--- src/scan.rt:47:9
 returns : tie.Need-returns
-returns c = ?
+returns c =
+    λ ds t.
+    let a = c .before .before .before .before .before .before .args in
+    let e = told {o = fixupsFault ds (fixupsLeft (a .library .now) (a .fixups))} (sym (c .before .before .before .fixups-fault .ensures ds t) ∙ c .before .verdict .given .1) in
+    ap (λ o. verdictOf (orElse o (contentFault (idRow ds (a .content .id)) (a .content)))) (sym e)
 
-enum-told : tie.Need-enum-told
-enum-told c = search needs
-
--- src/scan.rt:49:19
-id-row-requires : tie.Need-id-row-requires
-id-row-requires c κs = search needs
-
--- src/scan.rt:49:5
-content-fault-requires : tie.Need-content-fault-requires
-content-fault-requires c κs = search needs
-
--- src/scan.rt:42:1
 returns-2 : tie.Need-returns-2
-returns-2 c = ?
+returns-2 c =
+    λ ds t.
+    let a = c .before .before .before .before .before .before .before .args in
+    let e = told {o = fixupsFault ds (fixupsLeft (a .library .now) (a .fixups))} (sym (c .before .before .before .before .fixups-fault .ensures ds t) ∙ c .before .before .enum-told .given .1) in
+    let row = c .before .id-row .ensures .0 ∙ t .rows (a .content .id) (c .before .id-row .ensures .1) in
+    c .content-fault .ensures ∙ ap (λ r. verdictOf (contentFault r (a .content))) row
+    ∙ ap (λ o. verdictOf (orElse o (contentFault (idRow ds (a .content .id)) (a .content)))) (sym e)
 
 pub section-fault-spec : {M : Type 1} → statement M
 section-fault-spec =
     tie.close
     (tie.spec
-    fixups-fault-requires
-    enum-known-verdict
+    (λ c κs. search needs)
+    (λ c. search needs)
     returns
-    enum-told
-    id-row-requires
-    content-fault-requires
+    (λ c. search needs)
+    (λ c κs. search needs)
+    (λ c κs. search needs)
     returns-2)
