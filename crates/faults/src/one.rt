@@ -1,10 +1,13 @@
 // The refusal of one fixup, and of one content, by what its id leads to.
 ghost use mathlib.Core.Path.{_≡_};
 ghost use Rattle.faults.specs.Faults.{isCodeMark, isKeptAs, passesKept, verdictOf, fixupFault, contentFault};
-use ids::{IdRow, KeptAs, Mark};
-use lent::refusal::Refusal;
-use omf51::{Content, Fixup};
 use crate::Verdict;
+use ids::IdRow;
+use ids::KeptAs;
+use ids::Mark;
+use lent::refusal::Refusal;
+use omf51::Content;
+use omf51::Fixup;
 
 fn is_code(mark: Mark) -> bool
     ensures { λ r. ⌜ r ≡ isCodeMark mark ⌝ }

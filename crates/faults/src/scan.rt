@@ -6,16 +6,20 @@ ghost use Rattle.walk.specs.Left.{fixupsLeft};
 ghost use Rattle.ids.specs.Noted.{Tells};
 ghost use Rattle.faults.specs.Scan.{fixupsFault, sectionFault, sectionsFault, Says, Scanned};
 ghost use Rattle.faults.specs.ScanLaws.{sectionWith};
+use crate::Verdict;
+use crate::one::content_fault;
+use crate::one::fixup_fault;
 use ids::row::id_row;
-use ids::table::{clear, fill};
+use ids::table::clear;
+use ids::table::fill;
 use modules::ModuleAt;
 use modules::module::module_at;
 use omf51::Content;
-use walk::{Cursor, NextContent, NextFixup};
+use walk::Cursor;
+use walk::NextContent;
+use walk::NextFixup;
 use walk::contents::next_content;
 use walk::items::next_fixup;
-use crate::Verdict;
-use crate::one::{content_fault, fixup_fault};
 
 // The fixups of a content.
 fn fixups_fault(library: &[u8], table: &[u64], from: Cursor) -> Verdict

@@ -3,10 +3,12 @@ ghost use mathlib.Core.Path.{_≡_};
 ghost use Prim.Native.Nat.{_≤_, _<_};
 ghost use Rattle.lent.specs.Rows.{putRow};
 ghost use Rattle.ids.specs.IdRows.{markNumber, markFrom, keptCells, keptFrom, idCells, idRowAt};
+use crate::IdRow;
+use crate::KeptAs;
+use crate::Mark;
 use lent::part::Part;
 use lent::rows;
 use omf51::ModuleId;
-use crate::{IdRow, KeptAs, Mark};
 
 const WIDTH: usize = 6;
 

@@ -8,13 +8,17 @@ ghost use Rattle.omf51.specs.Module.{definitionsAt};
 ghost use Rattle.modules.specs.Found.{found};
 ghost use Rattle.segments.specs.Ids.{codeInfo, isKept, idOf};
 ghost use Rattle.ids.specs.Noted.{firstMark, firstName, firstKeptAs, changed as changedRow, noteIn, keptAfter, noRow, Tells, Filled};
+use crate::IdRow;
+use crate::KeptAs;
+use crate::Mark;
+use crate::row::id_row;
+use crate::row::put_id;
 use lent::part::Part;
-use omf51::{Definition, ModuleId};
+use omf51::Definition;
+use omf51::ModuleId;
 use walk::NextDefinition;
 use walk::entries::start;
 use walk::items::next_definition;
-use crate::{IdRow, KeptAs, Mark};
-use crate::row::{id_row, put_id};
 
 // Type code: the low three info bits are 0.
 pub fn code_info(info: u8) -> bool

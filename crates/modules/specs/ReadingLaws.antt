@@ -135,10 +135,10 @@ module _ (library : List ℕ) where
       where
         go : (o : Outcome (List Module))
             → readingOf next (andThen o λ ms. do
-                _ ← recordOf library (eqb 0x28) give
-                _ ← recordOf library (eqb 0x26) give
-                _ ← recordOf library (eqb 0x2a) give
-                give ms)
+              _ ← recordOf library (eqb 0x28) give
+              _ ← recordOf library (eqb 0x26) give
+              _ ← recordOf library (eqb 0x2a) give
+              give ms)
             ≡ countedReading library next (countOf o)
         go (read ms n) = closing next ms (recordOf library (eqb 0x28) give n) _ _ λ a. closing next ms (recordOf library (eqb 0x26) give a) _ _ λ b. closed next ms (recordOf library (eqb 0x2a) give b)
         go stop = refl

@@ -5,12 +5,16 @@ ghost use Rattle.omf51.specs.Module.{moduleAt};
 ghost use Rattle.omf51.specs.File.{modulesAt};
 ghost use Rattle.modules.specs.Reading.{countOf, reading, typeEnd};
 ghost use Rattle.modules.specs.ReadingLaws.{closingEnd, libraryReading};
+use crate::Counted;
+use crate::ModuleAt;
+use crate::Reading;
+use crate::module::module_at;
 use lent::refusal::Refusal;
 use omf51::End;
-use omf51::record::{Framed, byte_at, record_at};
+use omf51::record::Framed;
+use omf51::record::byte_at;
+use omf51::record::record_at;
 use omf51::types::Allowed;
-use crate::{Counted, ModuleAt, Reading};
-use crate::module::module_at;
 
 // The modules from a place on, as many as can be read.
 fn count(library: &[u8], from: usize) -> Counted

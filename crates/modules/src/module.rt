@@ -1,16 +1,26 @@
 // One module at a place.
 ghost use mathlib.Core.Path.{_≡_};
 ghost use Rattle.modules.specs.Passes.{placesRead, placesAt, restPlaces, lastPlaces};
+use crate::ModuleAt;
+use crate::Places;
+use crate::passes::skip;
+use crate::passes::skip_sections;
 use lent::names::same_name;
 use lent::part::Part;
 use lent::refusal::Refusal;
 use omf51::End;
-use omf51::entry::{Entries, Named, named_at};
-use crate::{ModuleAt, Places};
-use crate::passes::{skip, skip_sections};
+use omf51::entry::Entries;
+use omf51::entry::Named;
+use omf51::entry::named_at;
 
 // The end of a module: it has the header's name again.
-fn last_places(library: &[u8], name: Part, definitions: usize, contents: usize, at: usize) -> ModuleAt
+fn last_places(
+    library: &[u8],
+    name: Part,
+    definitions: usize,
+    contents: usize,
+    at: usize,
+) -> ModuleAt
     ensures { λ r. ⌜ placesRead r ≡ lastPlaces (now (library .entry)) name definitions contents at ⌝ }
 {
     match named_at(library, 0x04, 4, at) {

@@ -7,10 +7,17 @@ ghost use Rattle.omf51.specs.Module.{sectionAt, sectionsAt};
 ghost use Rattle.omf51.specs.Ends.{endOf, entryEnd};
 ghost use Rattle.modules.specs.Passes.{allowedFor, holds as holdsType, recordEnd, allEnd, sectionsEnd};
 ghost use Rattle.modules.specs.EndLaws.{closing as closingAt};
-use omf51::{End, Frame};
-use omf51::types::{Allowed, defines, fills};
-use omf51::record::{Framed, byte_at, record_at};
-use omf51::entry::{Entries, entry_end, id_size};
+use omf51::End;
+use omf51::Frame;
+use omf51::entry::Entries;
+use omf51::entry::entry_end;
+use omf51::entry::id_size;
+use omf51::record::Framed;
+use omf51::record::byte_at;
+use omf51::record::record_at;
+use omf51::types::Allowed;
+use omf51::types::defines;
+use omf51::types::fills;
 
 fn allowed_for(what: Entries) -> Allowed
     ensures { λ r. ⌜ r ≡ allowedFor what ⌝ }

@@ -6,11 +6,14 @@ ghost use Rattle.omf51.specs.Record.{recordOf};
 ghost use Rattle.omf51.specs.Entry.{idSize, isSegment, isPublic, nameOffset, nameWith, definitionAt, fixupAt};
 ghost use Rattle.omf51.specs.Expected.{oneType};
 ghost use Rattle.omf51.specs.Ends.{endOf, nameRead, entryEnd};
+use crate::End;
+use crate::Frame;
+use crate::record::Framed;
+use crate::record::byte_at;
+use crate::record::record_at;
+use crate::types::Allowed;
 use lent::part::Part;
 use lent::refusal::Refusal;
-use crate::{End, Frame};
-use crate::record::{Framed, byte_at, record_at};
-use crate::types::Allowed;
 
 // Which entries a body holds.
 pub enum Entries {

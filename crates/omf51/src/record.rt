@@ -4,9 +4,10 @@ ghost use Prim.Native.Nat.{_<_};
 ghost use Rattle.lent.specs.Parts.{byteAt, wordAt};
 ghost use Rattle.omf51.specs.Record.{frameAt, expected};
 ghost use Rattle.omf51.specs.Expected.{allows as allowedTypes, frameRead};
-use lent::refusal::Refusal;
 use crate::Frame;
-use crate::types::{Allowed, allows};
+use crate::types::Allowed;
+use crate::types::allows;
+use lent::refusal::Refusal;
 
 pub enum Framed {
     Read(Frame),

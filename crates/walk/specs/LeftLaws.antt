@@ -68,7 +68,7 @@ module _ {A : Type 0} (what : Entries) (library : List ℕ) (each : Frame → Re
       let m : MovedEnd library (at + 3) (At next) = record-moved what library at e in
       let none = found-none library (each f) (w .entries-move f (omega (arith, m))) (f .end) refl (w .last-halts f) in
       let inside : leftIn library each (enteredAt what library at next) ≡ found library (each f) (if holds what (byteAt library at) then at + 3 else next - 1) =
-          rw (le-leb (f .end) (length library) (omega (arith, m))) in
+      rw (le-leb (f .end) (length library) (omega (arith, m))) in
       w .enters at (sym (w .record-ends at) ∙ e)
       ∙ ap (λ xs. xs ++ found library records next) (go f (holds what (byteAt library at)) none ∙ sym inside)
     where

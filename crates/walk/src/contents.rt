@@ -4,15 +4,19 @@ ghost use Prim.Native.Nat.{_+_, _<_, _≤_};
 ghost use lib.ListN.{length};
 ghost use Rattle.omf51.specs.Entry.{idSize};
 ghost use Rattle.walk.specs.Contents.{contentHere, nextContent};
-use lent::part::Part;
-use omf51::{Content, End, Frame};
-use omf51::entry::id_size;
-use omf51::record::{Framed, record_at};
-use omf51::types::Allowed;
-use modules::passes::section_end;
 use crate::NextContent;
 use crate::entries::start;
-use crate::items::{id_at, word};
+use crate::items::id_at;
+use crate::items::word;
+use lent::part::Part;
+use modules::passes::section_end;
+use omf51::Content;
+use omf51::End;
+use omf51::Frame;
+use omf51::entry::id_size;
+use omf51::record::Framed;
+use omf51::record::record_at;
+use omf51::types::Allowed;
 
 // The content in a body that has an id and an offset at least.
 fn content_of(library: &[u8], f: Frame) -> Content

@@ -3,11 +3,15 @@ ghost use mathlib.Core.Path.{_≡_};
 ghost use Prim.Native.Nat.{_+_, _<_, _≤_};
 ghost use lib.ListN.{length};
 ghost use Rattle.walk.specs.Walk.{entryIn, enteredAt, nextEntry, startAt};
-use omf51::{End, Frame};
-use omf51::entry::{Entries, entry_end};
+use crate::Cursor;
+use crate::Step;
+use modules::passes::holds;
+use modules::passes::record_end;
+use omf51::End;
+use omf51::Frame;
+use omf51::entry::Entries;
+use omf51::entry::entry_end;
 use omf51::record::byte_at;
-use modules::passes::{holds, record_end};
-use crate::{Cursor, Step};
 
 // Before the first record at a place.
 pub fn start(at: usize) -> Cursor

@@ -5,12 +5,24 @@ ghost use lib.ListN.{length};
 ghost use Rattle.lent.specs.Parts.{wordAt};
 ghost use Rattle.omf51.specs.Entry.{idAt, nameOffset};
 ghost use Rattle.walk.specs.Items.{definitionHere, fixupHere, nextDefinition, nextFixup};
-use lent::part::Part;
-use omf51::{Definition, Fixup, Frame, ModuleId, segment_size};
-use omf51::entry::{Entries, id_size, is_public, is_segment, name_offset};
-use omf51::record::{byte_at, word_at};
-use crate::{Cursor, NextDefinition, NextFixup, Step};
+use crate::Cursor;
+use crate::NextDefinition;
+use crate::NextFixup;
+use crate::Step;
 use crate::entries::next_entry;
+use lent::part::Part;
+use omf51::Definition;
+use omf51::Fixup;
+use omf51::Frame;
+use omf51::ModuleId;
+use omf51::entry::Entries;
+use omf51::entry::id_size;
+use omf51::entry::is_public;
+use omf51::entry::is_segment;
+use omf51::entry::name_offset;
+use omf51::record::byte_at;
+use omf51::record::word_at;
+use omf51::segment_size;
 
 fn wide(x: u8) -> usize
     ensures { λ r. ⌜ r ≡ x ⌝ }

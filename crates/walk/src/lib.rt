@@ -1,5 +1,8 @@
 // Going over a whole module again: its next definition, its next content, a content's next fixup.
-use omf51::{Content, Definition, Fixup, Frame};
+use omf51::Content;
+use omf51::Definition;
+use omf51::Fixup;
+use omf51::Frame;
 
 pub mod contents;
 pub mod entries;
@@ -19,7 +22,10 @@ pub enum Step {
 }
 
 pub enum NextDefinition {
-    Item { definition: Definition, rest: Cursor },
+    Item {
+        definition: Definition,
+        rest: Cursor,
+    },
     Done,
 }
 
