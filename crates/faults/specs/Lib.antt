@@ -3,3 +3,4 @@ pub mod Faults
 pub mod FaultLaws
 pub mod Scan
 pub mod ScanLaws
+pub mod OneOutcome

@@ -4,3 +4,4 @@ pub mod IdRowLaws
 pub mod Noted
 pub mod NotedLaws
 pub mod ClearLaws
+pub mod OneOutcome
