@@ -1,0 +1,3 @@
+-- Contents merged into pattern memory.
+pub mod MaskTurns
+pub mod OneOutcome

@@ -1,0 +1,12 @@
+-- The functions that make masks and merge have one outcome each, by their contracts alone. Assumes nothing.
+use Prim.Native.Nat.{ℕ}
+use mathlib.Core.Path.{_≡_}
+use mathlib.Core.List.{List}
+use lib.ListN.{length}
+use Rattle.lent.specs.OneOutcome.{Determines, by-equation}
+use Rattle.segments.specs.Masks.{masksOf}
+use Rattle.walk.specs.declared.Cursor.{Cursor}
+use Rattle.walk.specs.Left.{fixupsLeft}
+
+pub content-masks-one : (library : List ℕ) (fixups : Cursor) (masks : List ℕ) → Determines (λ exit. exit ≡ masksOf (length masks) (fixupsLeft library fixups))
+content-masks-one library fixups masks = by-equation (masksOf (length masks) (fixupsLeft library fixups))
