@@ -24,18 +24,19 @@ fold-keeps P step h [] b p = p
 fold-keeps P step h (x ∷ xs) b p = fold-keeps P step h xs (step b x) (h b x p)
 
 -- masks are as many as the bytes
-pub masks-length : (n : ℕ) (fixups : List Fixup) → length (masksOf n fixups) ≡ n
-unfolding masksOf
-masks-length n fixups = fold-keeps (λ m. length m ≡ n) masked step fixups (replicate n 0xff) (length-replicate n 0xff)
+pub mask-length : (masks : List ℕ) (f : Fixup) → length (masked masks f) ≡ length masks
+mask-length masks f =
+    chosen P (eqb (f .block) 3) (λ t. refl) λ t.
+    chosen P (eqb (f .kind) (kindNumber Word)) (λ u. simp length-set) λ u.
+    chosen P (eqb (f .kind) (kindNumber Inblock)) (λ v. simp length-set) (λ v. simp length-set)
   where
     P : List ℕ → Type 0
-    P m = length m ≡ n
+    P m = length m ≡ length masks
 
-    step : (m : List ℕ) (f : Fixup) → length m ≡ n → length (masked m f) ≡ n
-    step m f e =
-        chosen P (eqb (f .block) 3) (λ t. e) λ t.
-        chosen P (eqb (f .kind) (kindNumber Word)) (λ u. simp length-set e) λ u.
-        chosen P (eqb (f .kind) (kindNumber Inblock)) (λ v. simp length-set e) (λ v. simp length-set e)
+pub masks-length : (n : ℕ) (fixups : List Fixup) → length (masksOf n fixups) ≡ n
+unfolding masksOf
+masks-length n fixups =
+    fold-keeps (λ m. length m ≡ n) masked (λ m f e. mask-length m f ∙ e) fixups (replicate n 0xff) (length-replicate n 0xff)
 
 -- what a fixup makes of masks, by the tests of the code
 module _ (masks : List ℕ) (f : Fixup) where
