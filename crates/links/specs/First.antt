@@ -1,0 +1,17 @@
+-- The first number from one up to another that passes a test; as a link, one more than it, or 0 where there is none.
+use Prim.Native.Nat.{ℕ, zero, suc, _+_, _-_}
+use mathlib.Core.Bool.{Bool}
+use mathlib.Core.Option.{Option, none, some}
+use Rattle.lent.specs.Choice.{if_then_else_}
+
+unfoldable pub firstOf : (ℕ → Bool) → ℕ → ℕ → Option ℕ
+firstOf p zero at = none
+firstOf p (suc n) at = if p at then some at else firstOf p n (at + 1)
+
+-- from `low` up to `high`, which is not tried
+abbrev pub firstIn : (ℕ → Bool) → ℕ → ℕ → Option ℕ
+firstIn p low high = firstOf p (high - low) low
+
+abbrev pub linkTo : Option ℕ → ℕ
+linkTo none = 0
+linkTo (some n) = n + 1

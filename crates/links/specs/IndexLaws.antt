@@ -1,0 +1,90 @@
+-- One place more is linked. Assumes nothing.
+use Prim.Native.Nat.{ℕ, _+_, _<_, _≤_}
+use mathlib.Core.Path.{_≡_, refl, sym, ap, subst, _∙_}
+use mathlib.Core.Bool.{Bool, true, false}
+use mathlib.Core.List.{List}
+use native.Mathlib.Decide.{decLt}
+use native.Mathlib.Omega.{arith}
+use borrow.Author.Tests.{eq-eqb, ne-eqb, eqb-true, eqb-false}
+use lib.Dec.{eqb}
+use lib.ListN.{length, getD, set, length-set}
+use lib.Seq.{getD-set-same, getD-set-other}
+use Rattle.links.specs.First.{firstIn, linkTo}
+use Rattle.links.specs.FirstLaws.{first-none, first-hit, first-miss}
+use Rattle.links.specs.Index.{keyAt, linkFrom, Linked, ClearedTo}
+
+-- before any: heads that are all 0
+pub none-linked : (keys first next : List ℕ) → 65536 ≤ length first → length keys ≤ length next → ((key : ℕ) → key < 65536 → getD first key 0 ≡ 0)
+    → Linked keys (length keys) first next
+none-linked keys first next h r z = record {
+  heads = h;
+  room = r;
+  starts = λ key k. z key k ∙ ap linkTo (sym (first-none (λ j. eqb (keyAt keys j) key) (length keys) (length keys) (omega arith)));
+  follows = λ j a b. absurd (omega arith);
+}
+
+module _ (keys first next : List ℕ) (i : ℕ) (within : i < length keys) (small : keyAt keys i < 65536) (l : Linked keys (i + 1) first next) where
+  starts-turn : (key : ℕ) → key < 65536 → getD (set first (keyAt keys i) (i + 1)) key 0 ≡ linkFrom keys key i
+  starts-turn key k = go (eqb (keyAt keys i) key) refl
+    where
+      go : (t : Bool) → eqb (keyAt keys i) key ≡ t → getD (set first (keyAt keys i) (i + 1)) key 0 ≡ linkFrom keys key i
+      go true e =
+          let same : keyAt keys i ≡ key = eqb-true (keyAt keys i) key e in
+          ap (λ x. getD (set first (keyAt keys i) (i + 1)) x 0) (sym same)
+          ∙ getD-set-same first (keyAt keys i) (i + 1) 0 (omega (arith, l .heads))
+          ∙ ap linkTo (sym (first-hit (λ j. eqb (keyAt keys j) key) i (length keys) within e))
+      go false e =
+          let other = eqb-false (keyAt keys i) key e in
+          getD-set-other first (keyAt keys i) key (i + 1) 0 (λ q. other (sym q))
+          ∙ l .starts key k
+          ∙ ap linkTo (sym (first-miss (λ j. eqb (keyAt keys j) key) i (length keys) within e))
+
+  follows-turn : (j : ℕ) → i ≤ j → j < length keys → getD (set next i (getD first (keyAt keys i) 0)) j 0 ≡ linkFrom keys (keyAt keys j) (j + 1)
+  follows-turn j a b = go (eqb i j) refl
+    where
+      go : (t : Bool) → eqb i j ≡ t → getD (set next i (getD first (keyAt keys i) 0)) j 0 ≡ linkFrom keys (keyAt keys j) (j + 1)
+      go true e =
+          let same : i ≡ j = eqb-true i j e in
+          rw (← same) (getD-set-same next i (getD first (keyAt keys i) 0) 0 (omega (arith, l .room)) ∙ l .starts (keyAt keys i) small)
+      go false e =
+          let other = eqb-false i j e in
+          getD-set-other next i j (getD first (keyAt keys i) 0) 0 (λ q. other (sym q)) ∙ l .follows j (omega (arith, other)) b
+
+  pub link-turn : Linked keys i (set first (keyAt keys i) (i + 1)) (set next i (getD first (keyAt keys i) 0))
+  link-turn = record {
+    heads = rw length-set (l .heads);
+    room = rw length-set (l .room);
+    starts = starts-turn;
+    follows = follows-turn;
+  }
+
+pub linked-at : {keys first next : List ℕ} {i k : ℕ} → Linked keys i first next → i ≡ k → Linked keys k first next
+linked-at {keys} {first} {next} l e = subst (λ n. Linked keys n first next) e l
+
+-- heads set to 0 again, one key after another
+pub none-cleared : (keys first : List ℕ) → ClearedTo keys 0 first first
+none-cleared keys first = record { long = refl; those = λ j h. absurd (omega arith); others = λ key h. refl }
+
+pub clear-turn : (keys before after : List ℕ) (i : ℕ) → keyAt keys i < length after → ClearedTo keys i before after → ClearedTo keys (i + 1) before (set after (keyAt keys i) 0)
+clear-turn keys before after i h c = record {
+  long = rw length-set (c .long);
+  those = λ j k. go j k (eqb (keyAt keys i) (keyAt keys j)) refl;
+  others = λ key n. getD-set-other after (keyAt keys i) key 0 0 (λ q. n i (omega arith) (sym q)) ∙ c .others key (λ j k. n j (omega arith));
+}
+  where
+    go : (j : ℕ) → j < i + 1 → (t : Bool) → eqb (keyAt keys i) (keyAt keys j) ≡ t → getD (set after (keyAt keys i) 0) (keyAt keys j) 0 ≡ 0
+    go j k true e =
+        ap (λ x. getD (set after (keyAt keys i) 0) x 0) (sym (eqb-true (keyAt keys i) (keyAt keys j) e)) ∙ getD-set-same after (keyAt keys i) 0 0 h
+    go j k false e =
+        let other = eqb-false (keyAt keys i) (keyAt keys j) e in
+        getD-set-other after (keyAt keys i) (keyAt keys j) 0 0 (λ q. other (sym q)) ∙ c .those j (before-last j k other)
+      where
+        before-last : (j : ℕ) → j < i + 1 → (keyAt keys i ≡ keyAt keys j → ⊥) → j < i
+        before-last j k n = step (eqb i j) refl
+          where
+            step : (t : Bool) → eqb i j ≡ t → j < i
+            step true e = absurd (n (ap (keyAt keys) (eqb-true i j e)))
+            step false e = let d = eqb-false i j e in omega arith
+
+pub all-cleared : (keys before after : List ℕ) (i : ℕ) → i ≡ length keys → ClearedTo keys i before after → ClearedTo keys (length keys) before after
+all-cleared keys before after i e c = subst (λ n. ClearedTo keys n before after) e c
