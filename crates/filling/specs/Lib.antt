@@ -1,0 +1,3 @@
+-- Lent memory that is filled with rows.
+pub mod Filling
+pub mod FillingLaws
