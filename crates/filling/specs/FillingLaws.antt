@@ -97,3 +97,21 @@ few-rows n width p h = omega (arith, times n)
     times : (k : ℕ) → k ≤ k * width
     times zero = omega arith
     times (suc k) = omega (arith, times k, suc-mul k width)
+
+-- memory after one row more, by whether there was room
+pub put-none : {R : Type 0} (l : Layout R) (f : Fill) (r : R) (m : List ℕ) → oneMore f (l .width) (length m) .over ≡ true → putMore l f r m ≡ m
+unfolding putMore
+put-none l f r m e = rw e
+
+pub put-behind : {R : Type 0} (l : Layout R) (f : Fill) (r : R) (m : List ℕ) → oneMore f (l .width) (length m) .over ≡ false
+    → putMore l f r m ≡ putRow (l .width) m (f .rows) (l .cells r)
+unfolding putMore
+put-behind l f r m e = rw e
+
+pub put-more-length : {R : Type 0} (l : Layout R) (f : Fill) (r : R) (m : List ℕ) → length (putMore l f r m) ≡ length m
+unfolding putMore
+put-more-length l f r m = go (oneMore f (l .width) (length m) .over)
+  where
+    go : (t : Bool) → length (if t then m else putRow (l .width) m (f .rows) (l .cells r)) ≡ length m
+    go true = refl
+    go false = put-length (l .width) m (f .rows) (l .cells r)

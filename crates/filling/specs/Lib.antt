@@ -1,3 +1,4 @@
 -- Lent memory that is filled with rows.
 pub mod Filling
 pub mod FillingLaws
+pub mod OneOutcome
