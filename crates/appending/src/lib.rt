@@ -3,9 +3,14 @@ ghost use mathlib.Core.Path.{_≡_};
 ghost use lib.ListN.{length};
 ghost use Rattle.filling.specs.Filling.{oneMore, putMore};
 ghost use Rattle.segments.specs.SegmentLayouts.{segmentLayout, referenceLayout, symbolLayout};
-use filling::{Fill, one_more};
-use segments::{Reference, SegmentRow, Symbol};
-use segments::rows::{put_reference, put_segment, put_symbol};
+use filling::Fill;
+use filling::one_more;
+use segments::Reference;
+use segments::SegmentRow;
+use segments::Symbol;
+use segments::rows::put_reference;
+use segments::rows::put_segment;
+use segments::rows::put_symbol;
 
 pub fn append_segment(m: &mut [u64], f: Fill, row: SegmentRow) -> Fill
     ensures { λ r. ⌜ (now (m .exit) ≡ putMore segmentLayout f row (now (m .entry))) × (r ≡ oneMore f 8 (length (now (m .entry)))) ⌝ }

@@ -1,11 +1,10 @@
 -- What the row of an id says is what the module's definitions say. Assumes nothing.
 use Prim.Native.Nat.{ℕ, suc, _+_, _≤_, _<_}
-use mathlib.Core.Path.{_≡_, refl, sym, ap, _∙_}
+use mathlib.Core.Path.{_≡_, refl, sym, ap}
 use mathlib.Core.Bool.{Bool, true, false, not, _&&_, _||_}
 use mathlib.Core.List.{List, [], _∷_}
 use mathlib.Core.Option.{Option, none, some}
-use native.Mathlib.Omega.{arith}
-use borrow.Author.Tests.{eq-eqb, ne-eqb, lt-ltb, le-ltb, eqb-true}
+use borrow.Author.Tests.{eq-eqb, ne-eqb, lt-ltb, le-ltb}
 use lib.Dec.{eqb, ltb}
 use lib.ListN.{getElem?}
 use Rattle.lent.specs.declared.refusal.Refusal.the-variants.{UnknownKind, UnknownBlock, ContentPastSegment, NoKeptSegment}
@@ -15,15 +14,13 @@ use Rattle.omf51.specs.declared.Content.{Content}
 use Rattle.omf51.specs.declared.Definition.{Definition}
 use Rattle.omf51.specs.declared.Fixup.{Fixup}
 use Rattle.omf51.specs.Module.{Module}
-use Rattle.segments.specs.Ids.{isKept, segmentOf, externalOf, kept, anyKept, firstKept, named, isCode, sizeOf}
-use Rattle.segments.specs.Refuse.{leadsNowhere, fixupRefusal, passes, contentRefusal}
+use Rattle.segments.specs.Ids.{isKept, segmentOf, externalOf, kept, named, isCode}
+use Rattle.segments.specs.Refuse.{fixupRefusal, passes, contentRefusal}
 use Rattle.ids.specs.declared.Mark.the-variants.{Other, Code}
-use Rattle.ids.specs.declared.KeptAs.{KeptAs}
 use Rattle.ids.specs.declared.KeptAs.the-variants.{None, Place}
 use Rattle.ids.specs.declared.IdRow.{IdRow}
 use Rattle.ids.specs.IdRows.{markOf, keptAs, idRow}
-use Rattle.faults.specs.declared.Verdict.the-variants.{Passed, Refused}
-use Rattle.faults.specs.Faults.{isCodeMark, isKeptAs, passesKept, fixupFault, contentFault, verdictOf}
+use Rattle.faults.specs.Faults.{isCodeMark, isKeptAs, passesKept, fixupFault, contentFault}
 
 -- a mark says whether the definition is code
 mark-code : (o : Option Definition) → isCodeMark (markOf o) ≡ isCode o

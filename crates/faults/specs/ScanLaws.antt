@@ -6,16 +6,14 @@ use Rattle.lent.specs.declared.refusal.Refusal.{Refusal}
 use Rattle.lent.specs.Choice.{orElse, leading}
 use Rattle.lent.specs.Lists.{one, joined}
 use Rattle.omf51.specs.declared.Content.{Content}
-use Rattle.omf51.specs.declared.Definition.{Definition}
 use Rattle.omf51.specs.declared.Fixup.{Fixup}
 use Rattle.omf51.specs.Module.{Section, Module}
-use Rattle.segments.specs.Refuse.{fixupRefusal, contentRefusal, Test, ofFixup, ofContent, testRefusal, tests, collectRefusal}
-use Rattle.ids.specs.IdRows.{idRow}
+use Rattle.segments.specs.Refuse.{contentRefusal, Test, ofFixup, ofContent, testRefusal, tests, collectRefusal}
 use Rattle.faults.specs.declared.Verdict.{Verdict}
 use Rattle.faults.specs.declared.Verdict.the-variants.{Passed, Refused}
-use Rattle.faults.specs.Faults.{fixupFault, contentFault, verdictOf}
+use Rattle.faults.specs.Faults.{verdictOf}
 use Rattle.faults.specs.FaultLaws.{fixup-refusal, content-refusal}
-use Rattle.faults.specs.Scan.{oneFault, fixupsFault, sectionFault, sectionsFault}
+use Rattle.faults.specs.Scan.{oneFault, sectionFault, sectionsFault}
 
 -- the first of two lists, one after the other
 leading-append : {A : Type 0} (xs ys : List (Option A)) → leading (xs ++ ys) ≡ orElse (leading xs) (leading ys)

@@ -1,6 +1,6 @@
 // The refusal of one fixup, and of one content, by what its id leads to.
 ghost use mathlib.Core.Path.{_≡_};
-ghost use Rattle.faults.specs.Faults.{isCodeMark, isKeptAs, passesKept, verdictOf, fixupFault, contentFault};
+ghost use Rattle.faults.specs.Faults.{isCodeMark, isKeptAs, verdictOf, fixupFault, contentFault};
 use crate::Verdict;
 use ids::IdRow;
 use ids::KeptAs;

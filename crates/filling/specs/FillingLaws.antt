@@ -1,17 +1,17 @@
 -- One row more. Assumes nothing.
 use Prim.Native.Nat.{ℕ, zero, suc, _+_, _*_, _≤_, _<_}
-use mathlib.Core.Path.{_≡_, refl, sym, ap, subst, _∙_}
+use mathlib.Core.Path.{_≡_, refl, sym, ap, _∙_}
 use mathlib.Core.Bool.{Bool, true, false, false≢true}
 use mathlib.Core.List.{List, [], _++_}
-use native.Mathlib.Nat.{suc-mul, sub-zero}
+use native.Mathlib.Nat.{suc-mul}
 use native.Mathlib.Omega.{arith}
 use borrow.Author.Tests.{le-leb, lt-leb, leb-true, leb-false, eq-eqb, ne-eqb}
-use lib.Dec.{eqb, leb}
+use lib.Dec.{leb}
 use lib.ListN.{length, length-append}
 use Rattle.lent.specs.Choice.{if_then_else_}
 use Rattle.lent.specs.Lists.{one, joined}
 use Rattle.lent.specs.Rows.{zeros, padded, putRow, Layout}
-use Rattle.lent.specs.RowLaws.{Wide, append-row, put-length}
+use Rattle.lent.specs.RowLaws.{Wide, padded-nil, append-row, put-length}
 use Rattle.filling.specs.declared.Fill.{Fill}
 use Rattle.filling.specs.Filling.{noMore, oneMore, putMore, Holds, Filling}
 
@@ -38,7 +38,7 @@ module _ (f : Fill) (width len : ℕ) where
 -- nothing yet: memory of zeros
 pub none-filled : {R : Type 0} (l : Layout R) (m : List ℕ) → m ≡ zeros (length m) → Filling l [] m (record { rows = 0; over = false })
 unfolding joined
-none-filled l m z = record { fits = λ e. record { number = refl; room = omega arith; memory = z ∙ ap zeros (sym (sub-zero (length m))) }; over = λ e. absurd (false≢true e) }
+none-filled l m z = record { fits = λ e. record { number = refl; room = omega arith; memory = z ∙ padded-nil (length m) }; over = λ e. absurd (false≢true e) }
 
 -- ONE ROW MORE: it is held behind the others, or there are too many
 module _ {R : Type 0} (l : Layout R) (wide : Wide l) (some : l .width ≡ 0 → ⊥) (rows : List R) (m : List ℕ) (f : Fill) (r : R) where

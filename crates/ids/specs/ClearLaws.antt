@@ -1,23 +1,22 @@
 -- A table is clear again once the rows of all ids that are defined are. Assumes nothing.
-use Prim.Native.Nat.{ℕ, _+_, _*_, _<_, _≤_}
+use Prim.Native.Nat.{ℕ, zero, suc, _+_, _*_, _<_, _≤_}
 use mathlib.Core.Path.{_≡_, refl, sym, ap, _∙_}
-use mathlib.Core.Bool.{Bool, true, false, _||_, false≢true}
+use mathlib.Core.Bool.{Bool, true, false, _&&_, _||_, false≢true}
 use mathlib.Core.List.{List, [], _∷_}
 use mathlib.Core.Option.{none}
 use native.Mathlib.Omega.{arith}
 use borrow.Author.Tests.{eqb-true, eqb-false}
-use lib.Dec.{eqb}
-use lib.ListN.{length}
+use lib.Dec.{eqb, ltb}
+use lib.ListN.{length, getD, length-replicate}
 use Rattle.lent.specs.Choice.{if_then_else_}
 use Rattle.lent.specs.Lists.{keep, any, placeOf, first}
-use Rattle.lent.specs.Rows.{putRow}
+use Rattle.lent.specs.Rows.{zeros, hasRow, cellOf, putRow}
 use Rattle.lent.specs.RowLaws.{get-put, get-other, put-length}
 use Rattle.omf51.specs.declared.ModuleId.{ModuleId}
 use Rattle.omf51.specs.declared.Definition.{Definition}
 use Rattle.omf51.specs.declared.Definition.the-variants.{Segment, Public, External}
 use Rattle.segments.specs.Ids.{sameId, isKept, segmentOf, externalOf, idOf}
-use Rattle.ids.specs.declared.IdRow.{IdRow}
-use Rattle.ids.specs.IdRows.{idRow, idCells, idLayout, idRowAt, keptIn}
+use Rattle.ids.specs.IdRows.{idRow, idCells, idLayout, idRowAt}
 use Rattle.ids.specs.IdRowLaws.{id-wide, id-back}
 use Rattle.ids.specs.Noted.{noRow, Tells}
 
@@ -90,3 +89,30 @@ clearing-step d left table small c = record { long = omega (arith, c .long, put-
 pub cleared : (table : List ℕ) → Clearing [] table → Tells [] table
 unfolding any
 cleared table c = record { long = c .long; rows = λ id h. c .rows id h refl ∙ sym (undefined-row id [] refl) }
+
+-- a table of zeros tells of nothing
+zero-at : (n k : ℕ) → getD (zeros n) k 0 ≡ 0
+zero-at zero k = refl
+zero-at (suc n) zero = refl
+zero-at (suc n) (suc k) = zero-at n k
+
+zero-cell : (n i j : ℕ) → cellOf 6 (zeros n) i j ≡ 0
+unfolding cellOf
+zero-cell n i j = rw (zero-at n (i * 6 + j)) (go (hasRow 6 (zeros n) i && ltb j 6))
+  where
+    nil : ℕ
+    nil = 0
+
+    go : (t : Bool) → (if t then nil else 0) ≡ 0
+    go true = refl
+    go false = refl
+
+none-defined : (id : ModuleId) → defined id [] ≡ false
+unfolding any
+none-defined id = refl
+
+pub zeros-tell : (n : ℕ) → 65536 * 6 ≤ n → Tells [] (zeros n)
+zeros-tell n h = record { long = omega (arith, h, length-replicate {A = ℕ} n 0); rows = λ id k. row id ∙ sym (undefined-row id [] (none-defined id)) }
+  where
+    row : (id : ModuleId) → idRowAt (zeros n) id ≡ noRow
+    row id = rw (zero-cell n (id .0) 0, zero-cell n (id .0) 3, zero-cell n (id .0) 4, zero-cell n (id .0) 5)

@@ -1,9 +1,6 @@
 -- The rows of ids are read back as they were written; what one more definition changes. Assumes nothing.
-use Prim.Native.Nat.{ℕ, suc, _+_, _%_}
-use mathlib.Core.Path.{_≡_, refl, sym, ap, _∙_}
-use mathlib.Core.Bool.{Bool, true, false}
-use mathlib.Core.List.{List, [], _∷_, _++_}
-use mathlib.Core.Option.{Option, none, some}
+use Prim.Native.Nat.{_+_, _%_}
+use mathlib.Core.Path.{_≡_, refl}
 use Rattle.lent.specs.RowLaws.{Wide, Back}
 use Rattle.ids.specs.declared.Mark.{Mark}
 use Rattle.ids.specs.declared.Mark.the-variants.{Missing, Other, Code}

@@ -1,7 +1,7 @@
 -- A definition noted: the table tells of it too. Assumes nothing.
-use Prim.Native.Nat.{ℕ, suc, _+_, _*_, _<_, _≤_}
+use Prim.Native.Nat.{ℕ, suc, _+_, _<_, _≤_}
 use mathlib.Core.Path.{_≡_, refl, sym, ap, subst, _∙_}
-use mathlib.Core.Bool.{Bool, true, false, _&&_, false≢true}
+use mathlib.Core.Bool.{Bool, true, false, false≢true}
 use mathlib.Core.List.{List, [], _∷_, _++_, append-nil}
 use mathlib.Core.Option.{Option, none, some}
 use native.Mathlib.Omega.{arith}
@@ -16,8 +16,8 @@ use Rattle.lent.specs.RowLaws.{get-put, get-other, put-length}
 use Rattle.omf51.specs.declared.ModuleId.{ModuleId}
 use Rattle.omf51.specs.declared.Definition.{Definition}
 use Rattle.omf51.specs.declared.Definition.the-variants.{Segment, Public, External}
-use Rattle.segments.specs.Ids.{sameId, codeInfo, isKept, segmentOf, externalOf, isCode, sizeOf, nameOf, idOf, nameIn}
-use Rattle.ids.specs.declared.Mark.the-variants.{Missing, Other, Code}
+use Rattle.segments.specs.Ids.{isKept, segmentOf, externalOf, isCode, sizeOf, nameOf, idOf, nameIn}
+use Rattle.ids.specs.declared.Mark.the-variants.{Other, Code}
 use Rattle.ids.specs.declared.KeptAs.{KeptAs}
 use Rattle.ids.specs.declared.KeptAs.the-variants.{None, Place}
 use Rattle.ids.specs.declared.IdRow.{IdRow}

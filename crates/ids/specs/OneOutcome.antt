@@ -9,6 +9,7 @@ use Rattle.omf51.specs.declared.Definition.{Definition}
 use Rattle.segments.specs.Ids.{codeInfo, isKept, idOf}
 use Rattle.ids.specs.declared.IdRow.{IdRow}
 use Rattle.ids.specs.IdRows.{idCells, idRowAt}
+use Rattle.ids.specs.Noted.{Filled}
 
 pub code-info-one : (info : ℕ) → Determines (λ r. r ≡ codeInfo info)
 code-info-one info = by-equation (codeInfo info)
@@ -24,3 +25,7 @@ id-row-one table id a b p q = p .0 ∙ sym (q .0)
 
 pub put-id-one : (table : List ℕ) (id : ModuleId) (row : IdRow) → Determines (λ out. out ≡ putRow 6 table (id .0) (idCells row))
 put-id-one table id row = by-equation (putRow 6 table (id .0) (idCells row))
+
+-- whatever the table is left as, the number is one
+pub fill-one : (definitions : List Definition) (left other : List ℕ) (a b : ℕ) → Filled definitions left a → Filled definitions other b → a ≡ b
+fill-one definitions left other a b p q = p .number ∙ sym (q .number)

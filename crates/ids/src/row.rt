@@ -12,7 +12,7 @@ use omf51::ModuleId;
 
 const WIDTH: usize = 6;
 
-// The numbers of a kept segment.
+// The numbers of a kept segment. The flag is 3, above every mark, so that one number holds a mark, `% 3`, and whether a segment is kept.
 struct Triple {
     flag: u64,
     place: u64,
@@ -70,7 +70,7 @@ fn kept_from(n: u64, place: u64, size: u64) -> KeptAs
     }
 }
 
-// What an id leads to.
+// What an id leads to; that an id has 16 bits is handed on to callers' proofs.
 pub fn id_row(table: &[u64], id: ModuleId) -> IdRow
     ensures { λ r. ⌜ (r ≡ idRowAt (now (table .entry)) id) × (id .0 < 65536) ⌝ }
 {

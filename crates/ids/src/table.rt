@@ -2,8 +2,6 @@
 ghost use mathlib.Core.Path.{_≡_};
 ghost use mathlib.Core.List.{[]};
 ghost use Prim.Native.Nat.{_+_, _<_, _^_};
-ghost use lib.ListN.{length};
-ghost use Rattle.lent.specs.Lists.{keep};
 ghost use Rattle.omf51.specs.Module.{definitionsAt};
 ghost use Rattle.modules.specs.Found.{found};
 ghost use Rattle.segments.specs.Ids.{codeInfo, isKept, idOf};

@@ -3,13 +3,12 @@ use Prim.Native.Nat.{ℕ, _+_, _<_, _≤_}
 use mathlib.Core.Path.{_≡_, refl, sym, ap, subst, _∙_}
 use mathlib.Core.Bool.{Bool, true, false}
 use mathlib.Core.List.{List}
-use native.Mathlib.Decide.{decLt}
 use native.Mathlib.Omega.{arith}
-use borrow.Author.Tests.{eq-eqb, ne-eqb, eqb-true, eqb-false}
+use borrow.Author.Tests.{eqb-true, eqb-false}
 use lib.Dec.{eqb}
 use lib.ListN.{length, getD, set, length-set}
 use lib.Seq.{getD-set-same, getD-set-other}
-use Rattle.links.specs.First.{firstIn, linkTo}
+use Rattle.links.specs.First.{linkTo}
 use Rattle.links.specs.FirstLaws.{first-none, first-hit, first-miss}
 use Rattle.links.specs.Index.{keyAt, linkFrom, Linked, ClearedTo}
 

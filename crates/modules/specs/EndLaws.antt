@@ -27,7 +27,7 @@ then-end (read a next) f rest h = h a next
 then-end stop f rest h = refl
 then-end (refused r) f rest h = refl
 
--- an end in a repetition's own words
+-- `Moved`, said of an end; and an end that is no place
 abbrev pub MovedEnd : List ℕ → ℕ → End → Type 0
 MovedEnd library at (At next) = (at < next) × (next ≤ length library)
 MovedEnd library at Stop = Unit
@@ -77,10 +77,10 @@ Gave stop = Unit
 Gave (refused r) = ⊥
 
 -- a record ends at its own end, whatever its body's reader leaves of it
-abbrev pub closing : ℕ → End → End
-closing next (At left) = At next
-closing next Stop = Stop
-closing next (Refused r) = Refused r
+abbrev pub ownEnd : ℕ → End → End
+ownEnd next (At left) = At next
+ownEnd next Stop = Stop
+ownEnd next (Refused r) = Refused r
 
 module _ {A : Type 0} (library : List ℕ) (each : Reader (List A)) (gives : (at : ℕ) → Gave (each at)) where
   abbrev Filled : Outcome (List A) → Type 0
@@ -99,17 +99,17 @@ module _ {A : Type 0} (library : List ℕ) (each : Reader (List A)) (gives : (at
       go rest stop g = tt
       go rest (refused r) g = absurd g
 
-  pub least-end : (at next : ℕ) → closing next (endOf (atLeastOne library each at)) ≡ closing next (endOf (each at))
+  pub least-end : (at next : ℕ) → ownEnd next (endOf (atLeastOne library each at)) ≡ ownEnd next (endOf (each at))
   unfolding repeat
   least-end at next = go (each at) (gives at)
     where
-      full : (o : Outcome (List A)) → Filled o → closing next (endOf (andThen o notEmpty)) ≡ At next
+      full : (o : Outcome (List A)) → Filled o → ownEnd next (endOf (andThen o notEmpty)) ≡ At next
       full (read [] k) f = absurd f
       full (read (x ∷ xs) k) f = refl
       full stop f = absurd f
       full (refused r) f = absurd f
 
-      go : (o : Outcome (List A)) → Gave o → closing next (endOf (andThen (after (repeat (length library) each) [] at o) notEmpty)) ≡ closing next (endOf o)
+      go : (o : Outcome (List A)) → Gave o → ownEnd next (endOf (andThen (after (repeat (length library) each) [] at o) notEmpty)) ≡ ownEnd next (endOf o)
       go (read [] k) g = absurd g
       go (read (x ∷ xs) k) g = full (repeat (length library) each (x ∷ xs) k) (filled (length library) x xs k)
       go stop g = refl

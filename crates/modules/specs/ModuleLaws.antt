@@ -1,10 +1,9 @@
 -- A module's places: by the ends of its parts, and what they hold. Assumes nothing.
-use Prim.Native.Nat.{ℕ, _+_, _≤_, _<_}
-use mathlib.Core.Path.{_≡_, refl, sym, ap, _∙_}
-use mathlib.Core.Bool.{Bool, true, false}
-use mathlib.Core.List.{List, []}
+use Prim.Native.Nat.{ℕ}
+use mathlib.Core.Path.{_≡_, refl, ap, _∙_}
+use mathlib.Core.Bool.{true, false}
+use mathlib.Core.List.{List}
 use Rattle.lent.specs.declared.part.Part.{Part}
-use Rattle.lent.specs.declared.refusal.Refusal.{Refusal}
 use Rattle.lent.specs.declared.refusal.Refusal.the-variants.{NamesDiffer}
 use Rattle.lent.specs.Parts.{sameName}
 use Rattle.omf51.specs.declared.End.{End}
@@ -13,7 +12,6 @@ use Rattle.omf51.specs.declared.entry.Entries.the-variants.{Definitions}
 use Rattle.omf51.specs.Reader.{Outcome, read, stop, refused, andThen, many}
 use Rattle.omf51.specs.Module.{definitionsAt, sectionsAt}
 use Rattle.omf51.specs.Ends.{endOf}
-use Rattle.modules.specs.declared.Places.{Places}
 use Rattle.modules.specs.Passes.{allEnd, sectionsEnd, headAt, lastAt, closedBy, lastPlaces, restPlaces, placesAt}
 
 -- the end record, and the names

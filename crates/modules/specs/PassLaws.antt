@@ -1,29 +1,28 @@
 -- Laws for passing over records: how one ends, by its frame, and the turns of their repetitions. Assumes nothing.
 use Prim.Native.Nat.{ℕ, _+_, _≤_, _<_}
-use mathlib.Core.Path.{_≡_, refl, sym, ap, subst, _∙_}
+use mathlib.Core.Path.{_≡_, refl, ap, subst, _∙_}
 use mathlib.Core.Bool.{Bool, true, false}
 use mathlib.Core.List.{List, []}
 use native.Mathlib.Omega.{arith}
 use lib.Dec.{leb}
 use lib.ListN.{length}
+use Rattle.lent.specs.declared.refusal.Refusal.{Refusal}
 use Rattle.lent.specs.Choice.{if_then_else_}
 use Rattle.lent.specs.ChoiceLaws.{chosen}
-use Rattle.lent.specs.Parts.{byteAt}
 use Rattle.omf51.specs.declared.Frame.{Frame}
 use Rattle.omf51.specs.declared.End.{End}
 use Rattle.omf51.specs.declared.End.the-variants.{At, Stop, Refused}
 use Rattle.omf51.specs.declared.entry.Entries.{Entries}
 use Rattle.omf51.specs.declared.entry.Entries.the-variants.{Definitions, Fixups}
-use Rattle.omf51.specs.Reader.{Outcome, read, stop, refused, Reader, andThen, give, many, atLeastOne}
+use Rattle.omf51.specs.Reader.{Outcome, read, stop, refused, Reader, andThen, give, atLeastOne}
 use Rattle.omf51.specs.Record.{expected, recordOf}
 use Rattle.omf51.specs.RecordLaws.{FrameFits, expected-fits, record-framed}
-use Rattle.omf51.specs.Entry.{ending, idSize, nameOffset, definitionAt, fixupAt}
-use Rattle.omf51.specs.EntryLaws.{whole-within, cut-past}
-use Rattle.omf51.specs.Module.{fills, isIdle, fixupsAt, definitionsAt, contentBody, sectionAt, sectionsAt}
+use Rattle.omf51.specs.Entry.{ending, definitionAt, fixupAt}
+use Rattle.omf51.specs.Module.{fixupsAt, definitionsAt}
 use Rattle.omf51.specs.Expected.{allows}
 use Rattle.omf51.specs.Ends.{endOf, entryEnd}
-use Rattle.modules.specs.RepeatLaws.{Moved, Moves, then-moves, then-stays, many-stays}
-use Rattle.modules.specs.EndLaws.{afterEnd, MovedEnd, end-turn, moved-end, then-end, Gave, closing, least-end}
+use Rattle.modules.specs.RepeatLaws.{Moved, Moves}
+use Rattle.modules.specs.EndLaws.{afterEnd, MovedEnd, end-turn, moved-end, Gave, ownEnd, least-end}
 use Rattle.modules.specs.Passes.{allowedFor, holds, recordEnd, allEnd}
 
 -- every record has a type, a length and a checksum byte, so it moves
@@ -68,7 +67,7 @@ fixup-gave library f at = chosen Gave (leb _ (f .end)) (λ e. tt) (λ e. tt)
 
 -- a record of entries whose frame is known: its first entry decides
 abbrev framedEnd : (ℕ → Bool) → (Frame → End) → Outcome Frame → End
-framedEnd has first (read f next) = closing next (if has (f .kind) then first f else At (f .body))
+framedEnd has first (read f next) = ownEnd next (if has (f .kind) then first f else At (f .body))
 framedEnd has first stop = Stop
 framedEnd has first (refused r) = Refused r
 
@@ -77,14 +76,14 @@ entries-end : {A : Type 0} (library : List ℕ) (allowed has : ℕ → Bool) (ea
     → endOf (recordOf library allowed (λ f. if has (f .kind) then atLeastOne library (each f) else give []) at) ≡ framedEnd has (λ f. endOf (each f (f .body))) o
 entries-end {A} library allowed has each gives at {o} e = ap endOf (record-framed library allowed _ at e) ∙ go o
   where
-    closed : (next : ℕ) (o : Outcome (List A)) → endOf (andThen o λ a left. read a next) ≡ closing next (endOf o)
+    closed : (next : ℕ) (o : Outcome (List A)) → endOf (andThen o λ a left. read a next) ≡ ownEnd next (endOf o)
     closed next (read a left) = refl
     closed next stop = refl
     closed next (refused r) = refl
 
     body : (f : Frame) (next : ℕ) (t : Bool)
         → endOf (andThen ((if t then atLeastOne library (each f) else give []) (f .body)) λ a left. read a next)
-        ≡ closing next (if t then endOf (each f (f .body)) else At (f .body))
+        ≡ ownEnd next (if t then endOf (each f (f .body)) else At (f .body))
     body f next true = closed next (atLeastOne library (each f) (f .body)) ∙ least-end library (each f) (gives f) (f .body) next
     body f next false = refl
 
@@ -106,11 +105,11 @@ module _ (what : Entries) (library : List ℕ) (at : ℕ) where
   pub record-halts : expected library (allows (allowedFor what)) at ≡ stop → recordEnd what library at ≡ Stop
   record-halts e = record-end what library at e
 
-  pub record-refuses : {r : Rattle.lent.specs.declared.refusal.Refusal.Refusal} → expected library (allows (allowedFor what)) at ≡ refused r → recordEnd what library at ≡ Refused r
+  pub record-refuses : {r : Refusal} → expected library (allows (allowedFor what)) at ≡ refused r → recordEnd what library at ≡ Refused r
   record-refuses e = record-end what library at e
 
   module _ {f : Frame} {next : ℕ} (e : expected library (allows (allowedFor what)) at ≡ read f next) where
-    pub record-holds : holds what (f .kind) ≡ true → recordEnd what library at ≡ closing next (entryEnd what library f (f .body))
+    pub record-holds : holds what (f .kind) ≡ true → recordEnd what library at ≡ ownEnd next (entryEnd what library f (f .body))
     record-holds h = record-end what library at e ∙ rw h
 
     pub record-skipped : holds what (f .kind) ≡ false → recordEnd what library at ≡ At next

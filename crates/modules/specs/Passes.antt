@@ -11,7 +11,7 @@ use Rattle.omf51.specs.declared.types.Allowed.{Allowed}
 use Rattle.omf51.specs.declared.types.Allowed.the-variants as Allowed
 use Rattle.omf51.specs.declared.entry.Entries.{Entries}
 use Rattle.omf51.specs.declared.entry.Entries.the-variants.{Definitions, Fixups}
-use Rattle.omf51.specs.Reader.{Outcome, read, stop, refused, Reader, andThen, give, refuse, many}
+use Rattle.omf51.specs.Reader.{Outcome, read, stop, refused, Reader, andThen, many}
 use Rattle.omf51.specs.Record.{recordOf}
 use Rattle.omf51.specs.Entry.{nameWith}
 use Rattle.omf51.specs.Module.{defines, definitionsAt, fixupsAt, sectionsAt}

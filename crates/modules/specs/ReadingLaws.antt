@@ -1,21 +1,18 @@
 -- Laws of the file: counting its modules, and its closing records. Assumes nothing.
-use Prim.Native.Nat.{ℕ, zero, suc, _+_, _≤_, _<_}
+use Prim.Native.Nat.{ℕ, zero, suc}
 use mathlib.Core.Path.{_≡_, refl, sym, ap, _∙_}
-use mathlib.Core.Bool.{Bool, true, false}
-use mathlib.Core.List.{List, [], _∷_, _++_}
-use native.Mathlib.Nat.{add-zero}
-use native.Mathlib.Omega.{arith}
+use mathlib.Core.Bool.{false}
+use mathlib.Core.List.{List, [], _∷_}
 use borrow.Author.Tests.{eq-eqb, ne-eqb}
 use lib.Dec.{eqb}
-use lib.ListN.{length, length-append}
+use lib.ListN.{length}
 use Rattle.lent.specs.declared.refusal.Refusal.{Refusal}
 use Rattle.lent.specs.declared.refusal.Refusal.the-variants.{NoModule}
-use Rattle.lent.specs.Lists.{one}
 use Rattle.lent.specs.Parts.{byteAt}
 use Rattle.omf51.specs.declared.End.{End}
 use Rattle.omf51.specs.declared.End.the-variants.{At, Stop, Refused}
 use Rattle.omf51.specs.declared.Frame.{Frame}
-use Rattle.omf51.specs.Reader.{Outcome, read, stop, refused, Reader, andThen, _>>=_, give, many, notEmpty, atLeastOne}
+use Rattle.omf51.specs.Reader.{Outcome, read, stop, refused, andThen, _>>=_, give, many, notEmpty}
 use Rattle.omf51.specs.Record.{expected, recordOf}
 use Rattle.omf51.specs.RecordLaws.{record-framed, not-expected}
 use Rattle.omf51.specs.Module.{Module, moduleAt}
@@ -26,8 +23,8 @@ use Rattle.modules.specs.declared.Counted.{Counted}
 use Rattle.modules.specs.declared.Counted.the-variants as Counted
 use Rattle.modules.specs.declared.Reading.{Reading}
 use Rattle.modules.specs.declared.Reading.the-variants as Reading
-use Rattle.modules.specs.EndLaws.{thenEnd, then-end}
-use Rattle.modules.specs.Reading.{countOf, placeAfter, firstAt, readingOf, reading, typeEnd}
+use Rattle.modules.specs.EndLaws.{thenEnd}
+use Rattle.modules.specs.Reading.{countOf, readingOf, reading, typeEnd}
 
 -- the three closing records
 abbrev pub closingEnd : List ℕ → ℕ → End

@@ -11,8 +11,7 @@ use lib.ListN.{length}
 use Rattle.lent.specs.declared.refusal.Refusal.{Refusal}
 use Rattle.lent.specs.Choice.{if_then_else_}
 use Rattle.lent.specs.Parts.{byteAt}
-use Rattle.omf51.specs.declared.Frame.{Frame}
-use Rattle.omf51.specs.Reader.{Outcome, read, stop, refused, Reader, andThen, _>>=_, give}
+use Rattle.omf51.specs.Reader.{Outcome, read, stop, refused, Reader, andThen, give}
 use Rattle.omf51.specs.Record.{expected, recordOf}
 use Rattle.omf51.specs.RecordLaws.{not-expected}
 use Rattle.omf51.specs.Module.{Module, moduleAt}

@@ -1,19 +1,18 @@
 -- A whole module by its places: its definitions and its contents are what stands there, and modules in a row are counted by their turns. Assumes nothing.
-use Prim.Native.Nat.{ℕ, suc, _+_, _≤_, _<_}
+use Prim.Native.Nat.{ℕ, _+_, _≤_, _<_}
 use mathlib.Core.Path.{_≡_, refl, sym, ap, subst, _∙_}
 use mathlib.Core.Bool.{Bool, true, false}
-use mathlib.Core.List.{List, [], _∷_, _++_}
+use mathlib.Core.List.{List, [], _∷_}
 use native.Mathlib.Nat.{add-zero, zero-add}
 use native.Mathlib.Omega.{arith}
-use lib.ListN.{length, length-append}
-use Rattle.lent.specs.declared.part.Part.{Part}
+use lib.ListN.{length}
 use Rattle.lent.specs.declared.refusal.Refusal.{Refusal}
 use Rattle.lent.specs.declared.refusal.Refusal.the-variants.{NamesDiffer, NoModule}
 use Rattle.lent.specs.Choice.{if_then_else_}
 use Rattle.lent.specs.Lists.{one}
 use Rattle.lent.specs.Parts.{sameName}
 use Rattle.omf51.specs.declared.Definition.{Definition}
-use Rattle.omf51.specs.Reader.{Outcome, read, stop, refused, Reader, andThen, give, refuse, after, many, notEmpty}
+use Rattle.omf51.specs.Reader.{Outcome, read, stop, refused, Reader, andThen, give, refuse, after, many}
 use Rattle.omf51.specs.Module.{Section, Module, definitionsAt, sectionsAt, moduleAt}
 use Rattle.modules.specs.declared.Places.{Places}
 use Rattle.modules.specs.declared.ModuleAt.{ModuleAt}
@@ -22,7 +21,7 @@ use Rattle.modules.specs.declared.Counted.{Counted}
 use Rattle.modules.specs.declared.Counted.the-variants.{Modules, Refused}
 use Rattle.modules.specs.Found.{found, followed}
 use Rattle.modules.specs.RepeatLaws.{Moved, Stayed, Moves, moved-stays, then-stays, then-moves, many-stays, onto, many-turn, found-turn, many-found}
-use Rattle.modules.specs.Passes.{headAt, lastAt, closedBy, lastPlaces, restPlaces, placesAt, placesRead}
+use Rattle.modules.specs.Passes.{headAt, lastAt, lastPlaces, restPlaces, placesAt, placesRead}
 use Rattle.modules.specs.PassLaws.{record-moves, definitions-move}
 use Rattle.modules.specs.SectionLaws.{sections-move}
 use Rattle.modules.specs.Reading.{countOf}

@@ -12,6 +12,7 @@ pub struct Places {
     pub next: usize,
 }
 
+// What stands at a place where a module may: a whole one, none, or a refusal.
 pub enum ModuleAt {
     Whole(Places),
     Stop,

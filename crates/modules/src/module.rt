@@ -54,6 +54,7 @@ fn rest_places(library: &[u8], name: Part, definitions: usize) -> ModuleAt
     }
 }
 
+// A whole module: where its parts stand, or why there is none.
 pub fn module_at(library: &[u8], at: usize) -> ModuleAt
     ensures { λ r. ⌜ placesRead r ≡ placesAt (now (library .entry)) at ⌝ }
 {

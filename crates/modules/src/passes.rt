@@ -1,14 +1,10 @@
 // Passes over records without keeping what they say: where each repetition ends.
 ghost use mathlib.Core.Path.{_≡_};
-ghost use Prim.Native.Nat.{_<_, _+_};
-ghost use lib.ListN.{length};
-ghost use Rattle.lent.specs.Choice.{if_then_else_};
 ghost use Rattle.omf51.specs.Module.{sectionAt, sectionsAt};
-ghost use Rattle.omf51.specs.Ends.{endOf, entryEnd};
+ghost use Rattle.omf51.specs.Ends.{endOf};
 ghost use Rattle.modules.specs.Passes.{allowedFor, holds as holdsType, recordEnd, allEnd, sectionsEnd};
-ghost use Rattle.modules.specs.EndLaws.{closing as closingAt};
+ghost use Rattle.modules.specs.EndLaws.{ownEnd};
 use omf51::End;
-use omf51::Frame;
 use omf51::entry::Entries;
 use omf51::entry::entry_end;
 use omf51::entry::id_size;
@@ -39,8 +35,8 @@ pub fn holds(what: Entries, kind: u8) -> bool
 }
 
 // A record ends at its own end, if its first entry is whole.
-fn closing(next: usize, first: End) -> End
-    ensures { λ r. ⌜ r ≡ closingAt next first ⌝ }
+fn own_end(next: usize, first: End) -> End
+    ensures { λ r. ⌜ r ≡ ownEnd next first ⌝ }
 {
     match first {
         End::At(left) => End::At(next),
@@ -57,7 +53,7 @@ pub fn record_end(library: &[u8], what: Entries, at: usize) -> End
         Framed::Read(f) => {
             let next = f.end + 1;
             if holds(what, f.kind) {
-                return closing(next, entry_end(library, what, f, f.body));
+                return own_end(next, entry_end(library, what, f, f.body));
             }
             End::At(next)
         }
@@ -118,6 +114,7 @@ pub fn section_end(library: &[u8], at: usize) -> End
     }
 }
 
+// All contents of a module, one after another.
 pub fn skip_sections(library: &[u8], from: usize) -> End
     ensures { λ r. ⌜ r ≡ sectionsEnd (now (library .entry)) from ⌝ }
 {

@@ -1,18 +1,17 @@
 -- Where entries end, and whether they are whole. Assumes nothing.
 use Prim.Native.Nat.{ℕ, _+_, _≤_, _<_}
-use mathlib.Core.Path.{_≡_, refl, sym, ap, _∙_}
+use mathlib.Core.Path.{_≡_, refl, ap, _∙_}
 use mathlib.Core.Bool.{Bool, true, false}
 use mathlib.Core.List.{List}
 use native.Mathlib.Omega.{arith}
-use lib.Dec.{leb}
-use borrow.Author.Tests.{le-leb, lt-leb, eq-eqb, ne-eqb, leb-false}
+use lib.Dec.{eqb, leb}
+use borrow.Author.Tests.{le-leb, lt-leb, eq-eqb, ne-eqb}
 use Rattle.lent.specs.declared.part.Part.{Part}
 use Rattle.lent.specs.Choice.{if_then_else_}
-use Rattle.lent.specs.ChoiceLaws.{chosen}
 use Rattle.lent.specs.Parts.{byteAt}
 use Rattle.omf51.specs.declared.Frame.{Frame}
 use Rattle.omf51.specs.declared.End.the-variants.{At, Stop}
-use Rattle.omf51.specs.Reader.{Outcome, read, stop, andThen}
+use Rattle.omf51.specs.Reader.{read, stop, andThen}
 use Rattle.omf51.specs.Entry.{ending, idSize, nameOffset, nameWith, definitionAt, fixupAt}
 use Rattle.omf51.specs.Record.{expected, recordOf}
 use Rattle.omf51.specs.RecordLaws.{record-framed}
@@ -45,7 +44,7 @@ module _ (library : List ℕ) (f : Frame) (at : ℕ) {size : ℕ} (here : size �
   pub fixup-short : f .end < at + size → endOf (fixupAt library f at) ≡ Stop
   unfolding fixupAt
   fixup-short h =
-      rw most (ap endOf (cut-past f _ {next = at + size + (if lib.Dec.eqb (byteAt library (at + 3)) 3 then 1 else 0)} (omega arith)))
+      rw most (ap endOf (cut-past f _ {next = at + size + (if eqb (byteAt library (at + 3)) 3 then 1 else 0)} (omega arith)))
 
   pub fixup-plain : (byteAt library (at + 3) ≡ 3 → ⊥) → at + size ≤ f .end → endOf (fixupAt library f at) ≡ At (at + size)
   unfolding fixupAt

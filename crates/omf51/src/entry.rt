@@ -1,7 +1,6 @@
 // The entries of bodies: where each ends, if it is whole.
 ghost use mathlib.Core.Path.{_≡_};
 ghost use Prim.Native.Nat.{_≤_};
-ghost use Rattle.omf51.specs.Reader.{Outcome};
 ghost use Rattle.omf51.specs.Record.{recordOf};
 ghost use Rattle.omf51.specs.Entry.{idSize, isSegment, isPublic, nameOffset, nameWith, definitionAt, fixupAt};
 ghost use Rattle.omf51.specs.Expected.{oneType};

@@ -11,7 +11,7 @@ pub mod types;
 // An id as a module numbers its segments, and its externals. It means nothing outside its module.
 pub struct ModuleId(pub u16);
 
-// A record: its type, and where its body starts and ends.
+// A record: its type (`type` is a word of the language), and where its body starts and ends.
 pub struct Frame {
     pub kind: u8,
     pub body: usize,

@@ -1,4 +1,4 @@
-// One record: whether its type is allowed here, and where its body stands. Every place in the library is tested here.
+// One record: whether its type is allowed here, and where its body stands. The library's bytes are indexed only here.
 ghost use mathlib.Core.Path.{_≡_};
 ghost use Prim.Native.Nat.{_<_};
 ghost use Rattle.lent.specs.Parts.{byteAt, wordAt};

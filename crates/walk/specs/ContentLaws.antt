@@ -1,12 +1,11 @@
 -- The turns from content to content. Assumes nothing.
 use Prim.Native.Nat.{ℕ, zero, suc, _+_, _-_, _≤_, _<_}
-use mathlib.Core.Path.{_≡_, refl, sym, ap, _∙_}
+use mathlib.Core.Path.{_≡_, refl, sym, _∙_}
 use mathlib.Core.Bool.{Bool, true, false}
-use mathlib.Core.List.{List, [], _∷_}
+use mathlib.Core.List.{List, []}
 use native.Mathlib.Omega.{arith}
 use borrow.Author.Tests.{leb-true}
 use lib.Dec.{leb}
-use lib.ListN.{length}
 use Rattle.lent.specs.declared.refusal.Refusal.{Refusal}
 use Rattle.lent.specs.Choice.{if_then_else_}
 use Rattle.lent.specs.Lists.{one}
@@ -25,7 +24,6 @@ use Rattle.omf51.specs.Ends.{endOf}
 use Rattle.modules.specs.Found.{found}
 use Rattle.modules.specs.RepeatLaws.{many-found}
 use Rattle.modules.specs.EndLaws.{Halts}
-use Rattle.walk.specs.declared.NextContent.{NextContent}
 use Rattle.walk.specs.declared.NextContent.the-variants.{Item, Done}
 use Rattle.walk.specs.Walk.{startAt}
 use Rattle.walk.specs.Contents.{contentHere, contentOr, afterSection, seek}

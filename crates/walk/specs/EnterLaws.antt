@@ -1,22 +1,20 @@
 -- A record that was passed: its frame, and what it holds. Assumes nothing.
-use Prim.Native.Nat.{ℕ, _+_, _-_, _≤_, _<_}
-use mathlib.Core.Path.{_≡_, refl, sym, ap, _∙_}
+use Prim.Native.Nat.{ℕ, _+_, _-_}
+use mathlib.Core.Path.{_≡_, refl}
 use mathlib.Core.Bool.{Bool, true, false}
 use mathlib.Core.List.{List, [], _++_}
 use native.Mathlib.Omega.{arith}
-use lib.ListN.{length}
 use Rattle.lent.specs.declared.refusal.Refusal.{Refusal}
 use Rattle.lent.specs.Choice.{if_then_else_}
 use Rattle.lent.specs.Parts.{byteAt}
 use Rattle.omf51.specs.declared.Frame.{Frame}
-use Rattle.omf51.specs.declared.End.{End}
 use Rattle.omf51.specs.declared.End.the-variants.{At, Stop, Refused}
 use Rattle.omf51.specs.Reader.{Outcome, read, stop, refused, Reader, andThen, give, atLeastOne}
 use Rattle.omf51.specs.Record.{expected, recordOf}
 use Rattle.omf51.specs.RecordLaws.{Fits, FrameFits, expected-fits}
 use Rattle.omf51.specs.Ends.{endOf}
 use Rattle.modules.specs.Found.{found}
-use Rattle.modules.specs.RepeatLaws.{Moves, found-turn, least-found}
+use Rattle.modules.specs.RepeatLaws.{found-turn, least-found}
 use Rattle.modules.specs.PassLaws.{record-moves}
 use Rattle.walk.specs.Walk.{frameTo}
 

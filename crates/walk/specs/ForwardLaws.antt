@@ -1,6 +1,6 @@
 -- A walk goes forward: each entry stands behind the one before, and within the library, so no walk has more entries than the library has bytes. Assumes nothing.
 use Prim.Native.Nat.{ℕ, zero, suc, _+_, _-_, _≤_, _<_}
-use mathlib.Core.Path.{_≡_, refl, sym, subst, _∙_}
+use mathlib.Core.Path.{_≡_, refl, subst}
 use mathlib.Core.Bool.{Bool, true, false}
 use mathlib.Core.List.{List}
 use native.Mathlib.Omega.{arith}
@@ -26,7 +26,7 @@ use Rattle.walk.specs.declared.NextFixup.{NextFixup}
 use Rattle.walk.specs.declared.NextFixup.the-variants as NextFixup
 use Rattle.walk.specs.Walk.{entryIn, enteredAt, afterRecord, afterEntry, steps, nextEntry}
 use Rattle.walk.specs.Items.{past, nextDefinition, definitionStep, nextFixup, fixupStep}
-use Rattle.walk.specs.ItemLaws.{Whole, entry-whole, definition-room, fixup-room}
+use Rattle.walk.specs.ItemLaws.{entry-whole, definition-room, fixup-room}
 
 -- a cursor whose body ends before its next record
 pub record Ordered (c : Cursor) : Type 0 where

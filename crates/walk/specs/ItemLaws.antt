@@ -15,7 +15,6 @@ use Rattle.omf51.specs.declared.End.{End}
 use Rattle.omf51.specs.declared.End.the-variants.{At, Stop, Refused}
 use Rattle.omf51.specs.declared.Definition.the-variants.{Segment, Public, External}
 use Rattle.omf51.specs.declared.entry.Entries.{Entries}
-use Rattle.omf51.specs.declared.entry.Entries.the-variants.{Definitions, Fixups}
 use Rattle.omf51.specs.Reader.{Outcome, read, stop, refused, andThen, give}
 use Rattle.omf51.specs.Entry.{ending, idSize, idAt, segmentSize, isSegment, isPublic, nameOffset, definitionOf, definitionAt, fixupAt}
 use Rattle.omf51.specs.Ends.{endOf, entryEnd}

@@ -14,7 +14,7 @@ use Rattle.omf51.specs.declared.Frame.{Frame}
 use Rattle.omf51.specs.declared.End.{End}
 use Rattle.omf51.specs.declared.End.the-variants.{At, Stop, Refused}
 use Rattle.omf51.specs.declared.entry.Entries.{Entries}
-use Rattle.omf51.specs.Reader.{Outcome, read, Reader}
+use Rattle.omf51.specs.Reader.{read, Reader}
 use Rattle.omf51.specs.Ends.{endOf, entryEnd}
 use Rattle.modules.specs.Found.{found}
 use Rattle.modules.specs.RepeatLaws.{Moves, found-turn}
@@ -26,7 +26,7 @@ use Rattle.walk.specs.declared.Step.{Step}
 use Rattle.walk.specs.declared.Step.the-variants.{Entry, Done}
 use Rattle.walk.specs.Walk.{startAt, entryIn, frameTo, enteredAt, afterRecord, afterEntry, steps, nextEntry}
 use Rattle.walk.specs.Items.{past}
-use Rattle.walk.specs.ItemLaws.{Whole, entry-whole}
+use Rattle.walk.specs.ItemLaws.{entry-whole}
 use Rattle.walk.specs.Left.{leftIn, left}
 
 -- what the law asks of the entries and of the records that hold them

@@ -1,23 +1,22 @@
 -- The steps of a walk yield exactly the definition's lists, in file order. Assumes nothing.
 use Prim.Native.Nat.{ℕ, zero, suc, _+_, _-_, _≤_, _<_}
-use mathlib.Core.Path.{_≡_, refl, sym, ap, subst, _∙_}
+use mathlib.Core.Path.{_≡_, refl, sym, subst, _∙_}
 use mathlib.Core.List.{List, [], _∷_, _++_}
 use native.Mathlib.Omega.{arith}
 use lib.ListN.{length}
-use Rattle.lent.specs.Lists.{one}
 use Rattle.omf51.specs.declared.Frame.{Frame}
 use Rattle.omf51.specs.declared.End.{End}
 use Rattle.omf51.specs.declared.End.the-variants.{At, Stop, Refused}
 use Rattle.omf51.specs.declared.Definition.{Definition}
 use Rattle.omf51.specs.declared.Fixup.{Fixup}
 use Rattle.omf51.specs.declared.entry.Entries.the-variants.{Definitions, Fixups}
-use Rattle.omf51.specs.Reader.{Outcome, read, stop, refused, Reader}
+use Rattle.omf51.specs.Reader.{Outcome, read, stop, refused}
 use Rattle.omf51.specs.Record.{expected}
 use Rattle.omf51.specs.Entry.{definitionAt, fixupAt}
 use Rattle.omf51.specs.Module.{fills, Section, definitionsAt, fixupsAt, sectionsAt}
 use Rattle.omf51.specs.Ends.{endOf}
 use Rattle.modules.specs.Found.{found, followed}
-use Rattle.modules.specs.RepeatLaws.{Moved, Moves, found-turn}
+use Rattle.modules.specs.RepeatLaws.{Moved, found-turn}
 use Rattle.modules.specs.EndLaws.{Halts, MovedEnd, found-none}
 use Rattle.modules.specs.Passes.{holds}
 use Rattle.modules.specs.PassLaws.{definitions-move, fixups-move}
@@ -34,7 +33,7 @@ use Rattle.walk.specs.declared.NextContent.the-variants as NextContent
 use Rattle.walk.specs.Walk.{startAt, nextEntry}
 use Rattle.walk.specs.Items.{definitionHere, fixupHere, nextDefinition, definitionStep, nextFixup, fixupStep}
 use Rattle.walk.specs.ItemLaws.{definition-read, definition-room, fixup-read, fixup-room}
-use Rattle.walk.specs.Contents.{contentHere, contentOr, afterSection, seek, nextContent}
+use Rattle.walk.specs.Contents.{contentOr, afterSection, seek, nextContent}
 use Rattle.walk.specs.ContentLaws.{Absent, sectionOf, section-passed, section-skipped}
 use Rattle.walk.specs.Left.{definitionsLeft, fixupsLeft}
 use Rattle.walk.specs.EnterLaws.{enter}

@@ -1,6 +1,6 @@
 // What an entry says, and the steps from one to the next.
 ghost use mathlib.Core.Path.{_≡_};
-ghost use Prim.Native.Nat.{_+_, _<_, _≤_};
+ghost use Prim.Native.Nat.{_+_, _<_};
 ghost use lib.ListN.{length};
 ghost use Rattle.lent.specs.Parts.{wordAt};
 ghost use Rattle.omf51.specs.Entry.{idAt, nameOffset};

@@ -7,7 +7,7 @@ use Rattle.omf51.specs.Record.{expected}
 use Rattle.omf51.specs.RecordLaws.{read-fits}
 use Rattle.omf51.specs.Expected.{allows, frameRead}
 use Rattle.modules.specs.Passes.{allowedFor}
-use Rattle.modules.specs.EndLaws.{closing}
+use Rattle.modules.specs.EndLaws.{ownEnd}
 use Rattle.modules.specs.PassLaws.{record-halts, record-refuses, record-holds, record-skipped}
 use borrow.Author.Needs.{needs}
 use Rattle.modules.proofs.passes.record_end.Statement.{statement}
@@ -28,7 +28,7 @@ add-next c =
 returns : tie.Need-returns
 returns c =
     let a = c .before .before .before .before .before .before .before .before .before .before .before .args in
-    c .closing .ensures ∙ ap (closing _) (c .before .entry-end .ensures)
+    c .own-end .ensures ∙ ap (ownEnd _) (c .before .entry-end .ensures)
     ∙ sym (record-holds (a .what) (a .library .now) (a .at) (framed (c .before .before .before .before .before .before .before .before) (c .before .before .before .before .before .before .f .given .1)) (sym (c .before .before .before .holds .ensures) ∙ c .before .before .if1 .taken))
 
 returns-2 : tie.Need-returns-2
