@@ -23,7 +23,7 @@ use Rattle.ids.specs.IdRows.{markOf, keptAs, idRow}
 use Rattle.faults.specs.Faults.{isCodeMark, isKeptAs, passesKept, fixupFault, contentFault}
 
 -- a mark says whether the definition is code
-mark-code : (o : Option Definition) → isCodeMark (markOf o) ≡ isCode o
+pub mark-code : (o : Option Definition) → isCodeMark (markOf o) ≡ isCode o
 mark-code none = refl
 mark-code (some d) = go (isCode (some d))
   where

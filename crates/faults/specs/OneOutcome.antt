@@ -6,9 +6,10 @@ use Rattle.lent.specs.OneOutcome.{Determines, by-equation}
 use Rattle.omf51.specs.declared.Content.{Content}
 use Rattle.omf51.specs.declared.Fixup.{Fixup}
 use Rattle.omf51.specs.Module.{Module}
+use Rattle.ids.specs.declared.Mark.{Mark}
 use Rattle.ids.specs.declared.IdRow.{IdRow}
 use Rattle.faults.specs.declared.Verdict.{Verdict}
-use Rattle.faults.specs.Faults.{verdictOf, fixupFault, contentFault}
+use Rattle.faults.specs.Faults.{isCodeMark, verdictOf, fixupFault, contentFault}
 use Rattle.faults.specs.Scan.{Scanned}
 
 pub fixup-fault-one : (row : IdRow) (f : Fixup) → Determines (λ r. r ≡ verdictOf (fixupFault row f))
@@ -20,3 +21,6 @@ content-fault-one row c = by-equation (verdictOf (contentFault row c))
 -- whatever the table of ids is left as
 pub scan-one : (modules : List Module) (left other : List ℕ) (a b : Verdict) → Scanned modules left a → Scanned modules other b → a ≡ b
 scan-one modules left other a b p q = p .says ∙ sym (q .says)
+
+pub is-code-one : (mark : Mark) → Determines (λ r. r ≡ isCodeMark mark)
+is-code-one mark = by-equation (isCodeMark mark)

@@ -9,7 +9,7 @@ use lent::refusal::Refusal;
 use omf51::Content;
 use omf51::Fixup;
 
-fn is_code(mark: Mark) -> bool
+pub fn is_code(mark: Mark) -> bool
     ensures { λ r. ⌜ r ≡ isCodeMark mark ⌝ }
 {
     match mark {
