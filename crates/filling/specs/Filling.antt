@@ -2,7 +2,7 @@
 use Prim.Native.Nat.{ℕ, _+_, _*_, _≤_, _<_}
 use mathlib.Core.Path.{_≡_}
 use mathlib.Core.Bool.{true, false}
-use mathlib.Core.List.{List}
+use mathlib.Core.List.{List, _++_}
 use lib.Dec.{eqb, leb}
 use lib.ListN.{length}
 use Rattle.lent.specs.Choice.{if_then_else_}
@@ -34,3 +34,11 @@ pub record Holds {R : Type 0} (l : Layout R) (rows : List R) (m : List ℕ) (f :
 pub record Filling {R : Type 0} (l : Layout R) (rows : List R) (m : List ℕ) (f : Fill) : Type 0 where
   pub fits : f .over ≡ false → Holds l rows m f
   pub over : f .over ≡ true → length m < length rows * l .width
+
+-- memory that held some rows, or was too small for them, holds the new ones behind them, or is too small
+abbrev pub Adds : {R : Type 0} → Layout R → List R → List ℕ → Fill → List ℕ → Fill → Type 0
+Adds {R} l new m f n g = (rows : List R) → Filling l rows m f → Filling l (rows ++ new) n g
+
+-- whoever adds what is left has added all
+abbrev pub Leads : {R : Type 0} → Layout R → List R → List ℕ → Fill → List R → List ℕ → Fill → Type 0
+Leads l left m f all m₀ f₀ = (n : List ℕ) (g : Fill) → Adds l left m f n g → Adds l all m₀ f₀ n g

@@ -9,7 +9,7 @@ use native.Mathlib.Nat.{suc-mul}
 use native.Mathlib.Omega.{arith}
 use lib.ListN.{length, getD, set, length-append, length-set, List·getD-append}
 use lib.Seq.{sets, getD-append-add, getD-set-same, getD-set-other}
-use Rattle.lent.specs.Lists.{one, joined, all, from, numbered, total}
+use Rattle.lent.specs.Lists.{one, joined, fold, all, from, numbered, total}
 
 -- a loop over the numbers up to n: keep, joined, fold, any and all compute at the result
 pub from-turn : (i n : ℕ) → i < n → from i (n - i) ≡ i ∷ from (i + 1) (n - (i + 1))
@@ -64,10 +64,42 @@ total-width k (x ∷ xs) = rw (total-width k xs) (omega (arith, suc-mul (length 
 pub rows-length : {A B : Type 0} (k : ℕ) (f : A → List B) → ((x : A) → length (f x) ≡ k) → (xs : List A) → length (joined f xs) ≡ length xs * k
 rows-length k f w xs = joined-length f xs ∙ total-same (λ x. length (f x)) (λ x. k) w xs ∙ total-width k xs
 
+-- the first of a list that is known, and then the rest
+pub joined-turn : {A B : Type 0} (f : A → List B) {xs rest : List A} {x : A} → xs ≡ x ∷ rest → joined f xs ≡ f x ++ joined f rest
+unfolding joined
+joined-turn f e = rw e
+
+pub joined-end : {A B : Type 0} (f : A → List B) {xs : List A} → xs ≡ [] → joined f xs ≡ []
+unfolding joined
+joined-end f e = rw e
+
+pub fold-turn : {A B : Type 0} (step : B → A → B) (b : B) {xs rest : List A} {x : A} → xs ≡ x ∷ rest → fold step b xs ≡ fold step (step b x) rest
+unfolding fold
+fold-turn step b e = rw e
+
+pub fold-end : {A B : Type 0} (step : B → A → B) (b : B) {xs : List A} → xs ≡ [] → fold step b xs ≡ b
+unfolding fold
+fold-end step b e = rw e
+
 pub joined-snoc : {A B : Type 0} (f : A → List B) (xs : List A) (x : A) → joined f (xs ++ one x) ≡ joined f xs ++ f x
 unfolding joined
 joined-snoc f [] x = append-nil (f x)
 joined-snoc f (y ∷ xs) x = ap (λ ys. f y ++ ys) (joined-snoc f xs x) ∙ sym (append-assoc (f y) (joined f xs) (f x))
+
+pub joined-append : {A B : Type 0} (f : A → List B) (xs ys : List A) → joined f (xs ++ ys) ≡ joined f xs ++ joined f ys
+unfolding joined
+joined-append f [] ys = refl
+joined-append f (x ∷ xs) ys = ap (λ zs. f x ++ zs) (joined-append f xs ys) ∙ sym (append-assoc (f x) (joined f xs) (joined f ys))
+
+pub joined-joined : {A B C : Type 0} (f : B → List C) (g : A → List B) (xs : List A) → joined (λ x. joined f (g x)) xs ≡ joined f (joined g xs)
+unfolding joined
+joined-joined f g [] = refl
+joined-joined f g (x ∷ xs) = ap (λ ys. joined f (g x) ++ ys) (joined-joined f g xs) ∙ sym (joined-append f (g x) (joined g xs))
+
+pub joined-same : {A B : Type 0} (f g : A → List B) → ((x : A) → f x ≡ g x) → (xs : List A) → joined f xs ≡ joined g xs
+unfolding joined
+joined-same f g e [] = refl
+joined-same f g e (x ∷ xs) = rw (e x, joined-same f g e xs) refl
 
 -- what stands in lists of one width, put together
 pub joined-at : {A : Type 0} (k : ℕ) (f : A → List ℕ) → ((x : A) → length (f x) ≡ k) → (d : A) (xs : List A) (i j : ℕ) → i < length xs → j < k
