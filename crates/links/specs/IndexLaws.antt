@@ -1,5 +1,5 @@
--- One place more is linked. Assumes nothing.
-use Prim.Native.Nat.{ℕ, _+_, _<_, _≤_}
+-- One place more is linked; and heads are 0 again after all. Assumes nothing.
+use Prim.Native.Nat.{ℕ, zero, suc, _+_, _<_, _≤_}
 use mathlib.Core.Path.{_≡_, refl, sym, ap, subst, _∙_}
 use mathlib.Core.Bool.{Bool, true, false}
 use mathlib.Core.List.{List}
@@ -87,3 +87,27 @@ clear-turn keys before after i h c = record {
 
 pub all-cleared : (keys before after : List ℕ) (i : ℕ) → i ≡ length keys → ClearedTo keys i before after → ClearedTo keys (length keys) before after
 all-cleared keys before after i e c = subst (λ n. ClearedTo keys n before after) e c
+
+-- after linking and clearing every head is 0: that of one of the keys was cleared, and that of another was 0 before
+module _ (keys first next after : List ℕ) (l : Linked keys 0 first next) (c : ClearedTo keys (length keys) first after) (key : ℕ) (small : key < 65536) where
+  abbrev None-before : ℕ → Type 0
+  None-before at = (j : ℕ) → j < at → keyAt keys j ≡ key → ⊥
+
+  nor-this : (at : ℕ) → eqb (keyAt keys at) key ≡ false → None-before at → None-before (at + 1)
+  nor-this at e n j h = step (eqb at j) refl
+    where
+      step : (t : Bool) → eqb at j ≡ t → keyAt keys j ≡ key → ⊥
+      step true z = rw (← eqb-true at j z) (eqb-false (keyAt keys at) key e)
+      step false z = let d = eqb-false at j z in n j (omega arith)
+
+  unlinked-from : (n at : ℕ) → at + n ≡ length keys → None-before at → getD first key 0 ≡ linkFrom keys key at → getD after key 0 ≡ 0
+  unlinked-from zero at e n h =
+      c .others key (λ j k. n j (omega arith)) ∙ h ∙ ap linkTo (first-none (λ j. eqb (keyAt keys j) key) at (length keys) (omega arith))
+  unlinked-from (suc m) at e n h = turn (eqb (keyAt keys at) key) refl (unlinked-from m (at + 1) (omega arith))
+    where
+      turn : (t : Bool) → eqb (keyAt keys at) key ≡ t → (None-before (at + 1) → getD first key 0 ≡ linkFrom keys key (at + 1) → getD after key 0 ≡ 0) → getD after key 0 ≡ 0
+      turn true q rest = ap (λ x. getD after x 0) (sym (eqb-true (keyAt keys at) key q)) ∙ c .those at (omega arith)
+      turn false q rest = rest (nor-this at q n) (h ∙ ap linkTo (first-miss (λ j. eqb (keyAt keys j) key) at (length keys) (omega arith) q))
+
+  pub unlinked : getD after key 0 ≡ 0
+  unlinked = unlinked-from (length keys) 0 (omega arith) (λ j h. absurd (omega arith)) (l .starts key small)

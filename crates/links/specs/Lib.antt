@@ -3,3 +3,6 @@ pub mod First
 pub mod FirstLaws
 pub mod Index
 pub mod IndexLaws
+pub mod Follow
+pub mod FollowLaws
+pub mod OneOutcome

@@ -1,6 +1,7 @@
 // Links between the places of one key: with them the places of a key are gone over without looking at the others.
+ghost use mathlib.Core.Path.{_≡_};
 ghost use Prim.Native.Nat.{_+_, _<_, _≤_};
-ghost use lib.ListN.{length};
+ghost use lib.ListN.{length, getD};
 ghost use Rattle.links.specs.Index.{Linked, Ready, Cleared};
 
 // Links each place to the next of its key, from the back. A link is one more than a place, or 0.
@@ -28,4 +29,14 @@ pub fn unlink(keys: &[u16], first: &mut [u32])
         first[key] = 0;
         i += 1;
     }
+}
+
+// The number at a place, 0 where there is none.
+pub fn number_at(numbers: &[u32], i: usize) -> usize
+    ensures { λ r. ⌜ r ≡ getD (now (numbers .entry)) i 0 ⌝ }
+{
+    if i < numbers.len() {
+        return numbers[i] as usize;
+    }
+    0
 }

@@ -10,5 +10,7 @@ pub mod EnterLaws
 pub mod LeftLaws
 pub mod Yields
 pub mod ForwardLaws
+pub mod ContentSizeLaws
+pub mod EntrySizeLaws
 pub mod Fewer
 pub mod OneOutcome
