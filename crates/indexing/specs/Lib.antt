@@ -1,0 +1,5 @@
+-- The tables of a module.
+pub mod Indexed
+pub mod Indexing
+pub mod IndexingLaws
+pub mod OneOutcome
