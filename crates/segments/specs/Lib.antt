@@ -10,4 +10,7 @@ pub mod SegmentRows
 pub mod SegmentRowLaws
 pub mod SegmentLayouts
 pub mod SegmentLayoutLaws
+pub mod PlacedRows
+pub mod PlacedRowLaws
+pub mod PlacedReadLaws
 pub mod OneOutcome

@@ -34,7 +34,7 @@ reference-wide r = ap (λ n. suc (suc (suc n))) (go (r .goal))
     go (Goal.Segment number) = refl
     go (Goal.Name name) = refl
 
-rows-from : (last : SegmentRow) (segments : List Collected) → length (segmentRowsFrom last segments) ≡ length segments
+pub rows-from : (last : SegmentRow) (segments : List Collected) → length (segmentRowsFrom last segments) ≡ length segments
 unfolding segmentRowsFrom
 rows-from last [] = refl
 rows-from last (g ∷ rest) = ap suc (rows-from _ rest)
@@ -69,6 +69,10 @@ unfolding total
 total-among f h [] e = refl
 total-among f h (g ∷ rest) e = rw (e g (List·Memᴰ·head refl), total-among f h rest (λ x i. e x (List·Memᴰ·tail i)))
 
+-- collected segments have as many masks as bytes
+pub masks-like-bytes : (rules : Rules) (library : List ℕ) (modules : List Module) (g : Collected) → g among collect rules library modules → length (g .masks) ≡ length (g .bytes)
+masks-like-bytes rules library modules g i = let p = source rules library modules g i in same-length rules library (p .0) (p .2 .0) g (p .2 .1)
+
 pub masks-take : (rules : Rules) (library : List ℕ) (modules : List Module) → let segments = collect rules library modules in
     length (patternMasks segments) ≡ total (λ g. length (g .bytes)) segments * 1
 unfolding patternMasks
@@ -76,5 +80,5 @@ masks-take rules library modules =
     let segments = collect rules library modules in
     joined-length (λ g. g .masks) segments
     ∙ total-among (λ g. length (g .masks)) (λ g. length (g .bytes)) segments
-    (λ g i. let p = source rules library modules g i in same-length rules library (p .0) (p .2 .0) g (p .2 .1))
+    (masks-like-bytes rules library modules)
     ∙ sym (mul-one (total (λ g. length (g .bytes)) segments))
