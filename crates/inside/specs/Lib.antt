@@ -1,0 +1,8 @@
+-- The public definitions of id 0 by their offsets.
+pub mod Offsets
+pub mod OffsetLaws
+pub mod Flags
+pub mod LinkLaws
+pub mod FlagLaws
+pub mod Inside
+pub mod InsideLaws

@@ -1,0 +1,4 @@
+// The public definitions of id 0 by their offsets: those inside an absolute content are found without looking at the others.
+pub mod flags;
+pub mod names;
+pub mod offsets;
