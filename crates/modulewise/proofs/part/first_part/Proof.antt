@@ -1,0 +1,54 @@
+-- `first_part` indexes the public definitions, stores, and forgets them again. Assumes nothing.
+use mathlib.Core.Path.{sym, subst}
+use native.Mathlib.Omega.{arith}
+use Rattle.lent.specs.Lists.{keep}
+use Rattle.gathering.specs.Places.{PublicIs, publicKey, isPublicDefinition}
+use Rattle.indexing.specs.Indexed.{Meets}
+use Rattle.indexing.specs.IndexingLaws.{forgotten}
+use borrow.Author.Needs.{needs}
+use Rattle.modulewise.proofs.part.first_part.Statement.{statement}
+use Rattle.modulewise.proofs.part.first_part.Tie as tie
+
+store-keeps-requires : tie.Need-store-keeps-requires
+store-keeps-requires c κs = (c .before .before .before .before .before .before .before .before .before .before .before .before .before .before .before .before .before .before .before .before .before .before .before .before .before .before .before .before .before .before .before .before .before .before .before .before .before .pre .0, c .before .before .before .before .before .before .before .before .before .before .before .before .before .before .before .before .before .before .before .before .before .before .before .before .before .before .before .before .before .before .before .before .before .before .before .before .before .pre .1 .0)
+
+forget-requires : tie.Need-forget-requires
+forget-requires c κs = let i = c .before .before .before .before .before .before .before .before .before .before .before .before .before .before .before .before .before .before .before .before .before .before .before .before .before .before .before .before .before .before .before .before .index-publics .ensures in (i .within, omega (arith, i .first-long, c .before .before .before .before .before .before .before .before .before .before .before .before .before .before .before .before .before .before .before .before .before .before .before .before .before .before .before .before .before .before .before .before .before .before .before .before .before .before .before .before .before .before .before .before .before .before .before .before .before .before .before .before .pre .1 .1 .heads))
+
+same-length : tie.Need-same-length
+same-length c = c .before .before .before .before .before .before .before .before .before .before .before .before .before .before .before .before .before .before .before .before .before .before .before .before .before .before .before .before .before .before .before .before .before .before .before .index-publics .ensures .keys-long
+
+returns : tie.Need-returns
+returns c =
+    let a = c .before .before .before .before .before .before .before .before .before .before .before .before .before .before .before .before .before .before .before .before .before .before .before .before .before .before .before .before .before .before .before .before .before .before .before .before .before .before .before .before .before .before .before .before .before .before .before .before .before .before .before .before .before .before .before .args in
+    let i = c .before .before .before .before .before .before .before .before .before .before .before .before .before .before .before .before .before .before .before .before .before .before .before .before .before .before .before .before .before .before .before .before .before .before .before .index-publics in
+    let s = c .before .before .before .before .before .before .before .before .before .before .before .before .before .before .before .before .before .store-keeps in
+    record {
+      blank = forgotten (c .before .before .before .before .before .before .before .before .before .before .before .before .before .before .before .before .before .before .before .before .before .before .before .before .before .before .before .before .before .before .before .before .before .before .before .before .before .before .before .before .before .before .before .before .before .before .before .before .before .before .before .before .before .before .before .pre .1 .1) (i .ensures) (c .before .before .forget .ensures);
+      long = s .ensures .long;
+      apart-long = s .ensures .apart-long;
+      extends = λ m k gs t. s .ensures .extends m (k .defined) (record {
+        tells = k .tells;
+        sections = k .sections;
+        publics = subst (λ ds. Meets (PublicIs (a .library .now) (i .last .1 .1 .1 .0)) publicKey (keep isPublicDefinition ds) (i .last .1 .1 .1 .1 .0) (i .last .1 .1 .1 .1 .1 .0)) (sym (k .defined)) (i .ensures .meets);
+      }) gs t;
+    }
+
+pub first-part-spec : {M : Type 1} → statement M
+first-part-spec =
+    tie.close
+    (tie.spec
+    (λ c κs. search needs)
+    store-keeps-requires
+    forget-requires
+    same-length
+    (λ c. search needs)
+    (λ c. search needs)
+    (λ c. search needs)
+    (λ c. search needs)
+    (λ c. search needs)
+    (λ c. search needs)
+    (λ c. search needs)
+    (λ c. search needs)
+    (λ c. search needs)
+    returns)
