@@ -11,12 +11,13 @@ set -eu
 [ $# -eq 2 ] || { echo "usage: build.sh SOURCE OUT" >&2; exit 2; }
 here=$(cd "$(dirname "$0")" && pwd)
 source=$(cd "$1" && pwd)
-mkdir -p "$2/src/libfind" "$2/.cargo"
+mkdir -p "$2/src/libfind/aslink3" "$2/.cargo"
 out=$(cd "$2" && pwd)
 cp "$here/driver/Cargo.toml" "$out/Cargo.toml"
 cp "$here/driver/cargo-config.toml" "$out/.cargo/config.toml"
 cp "$here/driver/main.rs" "$out/src/main.rs"
 cp "$here/driver/aslink3.rs" "$out/src/libfind/aslink3.rs"
+cp "$here/driver/shown.rs" "$out/src/libfind/aslink3/shown.rs"
 cp "$source/libfind/mod.rs" "$source/libfind/omf51.rs" "$out/src/libfind/"
 cd "$out"
 cargo build --offline --release

@@ -39,6 +39,11 @@ def packed_to_read(library):
     return asking(8, 0, 0, b"", library)
 
 
+def packed_to_collect(library):
+    """Reading, and the segments."""
+    return asking(16, 0, 0, b"", library)
+
+
 def answers(program, asked):
     """One answer a case, the printed table beside it under "printed"."""
     said = subprocess.run([program], input=b"".join(asked), stdout=subprocess.PIPE, check=True).stdout

@@ -91,10 +91,10 @@ caseShown image library s = caseShownIn library (run image library s caseLent)
 UNFOLDABLE = re.compile(r"^\s*unfoldable pub (\S+) :", re.MULTILINE)
 
 
-def unfoldable(repository):
+def unfoldable(repository, crates=CRATES):
     """Every name that can be unfolded, by crate and file; all are, so that no list here grows old."""
     found = []
-    for crate in CRATES:
+    for crate in crates:
         for path in sorted(Path(repository, "crates", crate, "specs").glob("*.antt")):
             names = UNFOLDABLE.findall(path.read_text(encoding="utf-8"))
             if names:
@@ -102,9 +102,9 @@ def unfoldable(repository):
     return found
 
 
-def own_names(found):
+def own_names(found, imports=IMPORTS):
     """The same, each with the name it gets here: one that stands here already is told apart by its file."""
-    seen = {name for names in re.findall(r"{(.*)}", IMPORTS) for name in names.split(", ")}
+    seen = {name for names in re.findall(r"{(.*)}", imports) for name in names.split(", ")}
     for crate, stem, names in found:
         pairs = [(n, f"{n}-{crate}-{stem}" if n in seen else n) for n in names]
         seen.update(names)
@@ -134,14 +134,20 @@ def statement(number, case, expected):
     return f"pub case-{number} : caseShown {asked(case)}\n    ≡ {said}"
 
 
+def uses_and_names(found):
+    """The lines that import what own_names tells, and all the names."""
+    uses, names = [], []
+    for crate, stem, pairs in found:
+        words = ", ".join(n if n == own else f"{n} as {own}" for n, own in pairs)
+        uses.append(f"use Rattle.{crate}.specs.{stem}.{{{words}}}\n")
+        names += [own for _, own in pairs]
+    return uses, names
+
+
 def module(repository, batch, lent):
     """A file of specs with one theorem a case; a batch holds (number, case, expected)."""
     rows, pattern = lent
     stated = STATED.replace("ROWS", str(rows)).replace("PATTERN", str(pattern))
-    uses, names = [], []
-    for crate, stem, pairs in own_names(unfoldable(repository)):
-        words = ", ".join(n if n == own else f"{n} as {own}" for n, own in pairs)
-        uses.append(f"use Rattle.{crate}.specs.{stem}.{{{words}}}\n")
-        names += [own for _, own in pairs]
+    uses, names = uses_and_names(own_names(unfoldable(repository)))
     theorems = [f"\n{statement(n, c, e)}\nunfolding caseLinesIn {' '.join(names)}\ncase-{n} = refl\n" for n, c, e in batch]
     return IMPORTS + "".join(uses) + stated + "".join(theorems)

@@ -2,7 +2,7 @@
 mod contents;
 mod definitions;
 pub mod file;
-mod numbers;
+pub mod numbers;
 
 // A refusal's number and zeros, or else 0, the number of modules, and the digest of what they say.
 pub struct Answer {

@@ -36,7 +36,7 @@ pub fn take_in_all(before: u64, numbers: &[u64]) -> u64 {
     h
 }
 
-fn take_in_bytes(before: u64, bytes: &[u8]) -> u64 {
+pub fn take_in_bytes(before: u64, bytes: &[u8]) -> u64 {
     let mut h = before;
     let mut i = 0;
     while i < bytes.len() {

@@ -1,11 +1,13 @@
 //! Batch driver around the unchanged libfind.
 //!
 //! stdin: any number of cases, each
-//!   flags u8 (1 = check, 2 = a skip amount is given, 4 = also print the table, 8 = only read the library)
+//!   flags u8 (1 = check, 2 = a skip amount is given, 4 = also print the table, 8 = only read the library,
+//!     16 = only read it and collect its segments)
 //!   minimum, skip (u64 LE each), image length u32 LE, image, library length u32 LE, library
 //! stdout: per case one JSON line
 //!   {"case":n,"outcome":"ok","ns":..,"rows":[{location,name,goodness,description}..]}
 //!   {"case":n,"outcome":"read","ns":..,"text":".."} with flag 8: the Debug form of all that was read
+//!   {"case":n,"outcome":"collected","ns":..,"segments":[..]} with flag 16: the segments as shown.rs puts them
 //!   {"case":n,"outcome":"unread"|"convert error"|"panic","text":"..","stage":"read|convert|search|list"}
 //!   the text of "unread" is "incomplete" where a record's body passes the file's end, else "error .."
 //! and, if flag 4 is set and the outcome is ok, the very output of print_segrefs between the lines
@@ -13,7 +15,7 @@
 #![allow(dead_code)]
 mod libfind;
 
-use libfind::{omf51::Omf51Objects, print_segrefs, process_segrefs, SegmentCollection, Segref};
+use libfind::{aslink3::shown, omf51::Omf51Objects, print_segrefs, process_segrefs, SegmentCollection, Segref};
 use std::cell::Cell;
 use std::collections::HashMap;
 use std::convert::TryInto;
@@ -24,6 +26,7 @@ use std::time::Instant;
 enum Outcome {
     Ok(Vec<Segref>),
     Read(String),
+    Collected(Vec<serde_json::Value>),
     Unread(String),
     Convert(&'static str),
 }
@@ -51,6 +54,14 @@ fn read(library: &[u8]) -> Outcome {
     }
 }
 
+/// Reading and converting.
+fn collect(library: &[u8], stage: &Cell<&'static str>) -> Result<SegmentCollection, Outcome> {
+    stage.set("read");
+    let objects = Omf51Objects::new(library).map_err(|e| Outcome::Unread(unread(e, library)))?;
+    stage.set("convert");
+    objects.try_into().map_err(Outcome::Convert)
+}
+
 fn run(
     image: &[u8],
     library: &[u8],
@@ -59,15 +70,9 @@ fn run(
     skip: Option<usize>,
     stage: &Cell<&'static str>,
 ) -> Outcome {
-    stage.set("read");
-    let objects = match Omf51Objects::new(library) {
-        Ok(o) => o,
-        Err(e) => return Outcome::Unread(unread(e, library)),
-    };
-    stage.set("convert");
-    let collection: SegmentCollection = match objects.try_into() {
+    let collection = match collect(library, stage) {
         Ok(c) => c,
-        Err(e) => return Outcome::Convert(e),
+        Err(outcome) => return outcome,
     };
     stage.set("search");
     let mut cslist = vec![Vec::new(); image.len()];
@@ -108,6 +113,11 @@ fn main() {
         let outcome = catch_unwind(AssertUnwindSafe(|| {
             if flags & 8 != 0 {
                 read(library)
+            } else if flags & 16 != 0 {
+                match collect(library, &stage) {
+                    Ok(c) => Outcome::Collected(shown::segments(&c)),
+                    Err(outcome) => outcome,
+                }
             } else {
                 run(image, library, check, minimum, skip, &stage)
             }
@@ -120,6 +130,9 @@ fn main() {
             }
             Ok(Outcome::Read(t)) => {
                 serde_json::json!({"case": case, "outcome": "read", "ns": ns, "text": t})
+            }
+            Ok(Outcome::Collected(segments)) => {
+                serde_json::json!({"case": case, "outcome": "collected", "ns": ns, "segments": segments})
             }
             Ok(Outcome::Unread(t)) => {
                 serde_json::json!({"case": case, "outcome": "unread", "ns": ns, "text": t})
