@@ -1,7 +1,7 @@
 #!/bin/sh
-# rust.sh SOURCE OUT: builds the reading of at51's libfind, unchanged, as an x86-64 program to be counted.
+# rust.sh SOURCE OUT: builds the reading of at51's libfind, unchanged, as an x86-64 program to be counted, and the collecting as another.
 # SOURCE is the folder src of at51's repository: it holds libfind/mod.rs and libfind/omf51.rs.
-# Left: OUT/rust-reading, static; rust/main.rs says what it does. README.md names the Debian packages.
+# Left: OUT/rust-reading and OUT/rust-collecting, static; rust/main.rs and rust/collecting.rs say what they do. README.md names the Debian packages.
 # On another machine than x86-64 the standard library for x86-64 is unpacked under OUT beside the machine's own;
 # nothing is installed.
 set -eu
@@ -14,7 +14,7 @@ target=x86_64-unknown-linux-gnu
 
 cp "$here/rust/Cargo.toml" "$out/Cargo.toml"
 cp "$here/../tools/oracle/driver/cargo-config.toml" "$out/.cargo/config.toml"
-cp "$here/rust/main.rs" "$out/src/main.rs"
+cp "$here/rust/main.rs" "$here/rust/collecting.rs" "$out/src/"
 cp "$here/../tools/oracle/driver/aslink3.rs" "$out/src/libfind/aslink3.rs"
 cp "$source/libfind/mod.rs" "$source/libfind/omf51.rs" "$out/src/libfind/"
 cd "$out"
@@ -40,4 +40,4 @@ if [ "$(uname -m)" != x86_64 ]; then
 fi
 export RUSTC RUSTFLAGS="-C target-feature=+crt-static -L native=$out/lib"
 /usr/bin/cargo build --offline --release --target "$target"
-cp "target/$target/release/rust-reading" "$out/rust-reading"
+cp "target/$target/release/rust-reading" "target/$target/release/rust-collecting" "$out/"

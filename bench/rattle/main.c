@@ -9,26 +9,10 @@
      #[no_mangle] pub extern "C" fn count_places(library: &[u8]) -> usize
      #[no_mangle] pub extern "C" fn count_reading(library: &[u8]) -> usize
    A lent slice is a pointer and a length. */
-#include <stdint.h>
-#include <stdio.h>
-#include <stdlib.h>
+#include "loaded.h"
 
 size_t count_places(const uint8_t *library, size_t length);
 size_t count_reading(const uint8_t *library, size_t length);
-
-static uint8_t *loaded(const char *path, size_t *length)
-{
-    FILE *file = fopen(path, "rb");
-    if (!file || fseek(file, 0, SEEK_END) != 0)
-        return NULL;
-    *length = (size_t)ftell(file);
-    rewind(file);
-    uint8_t *bytes = malloc(*length + 1);
-    if (bytes && fread(bytes, 1, *length, file) != *length)
-        bytes = NULL;
-    fclose(file);
-    return bytes;
-}
 
 int main(int count, char **words)
 {

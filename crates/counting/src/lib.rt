@@ -1,7 +1,12 @@
-// What bench/ counts the instructions of: a library read and gone over once, and a library read only.
+// What bench/ counts the instructions of: a library read and gone over once, a library read only, and its segments collected.
 mod items;
 mod passes;
 
+use collecting::Collection;
+use collecting::entry::collect;
+use fixup::Rules;
+use lent::refusal::number;
+use lent::rows::put;
 use modules::Reading;
 use modules::file::read;
 use passes::over_modules;
@@ -21,5 +26,43 @@ pub extern "C" fn count_places(library: &[u8]) -> usize {
     match read(library) {
         Reading::Modules { first, count } => count,
         Reading::Refused(r) => 0,
+    }
+}
+
+// The number that collecting the segments comes to, as found; 0 leaves how many segments, references, symbols and pattern bytes there are in `counts`.
+#[no_mangle]
+pub extern "C" fn count_collecting(
+    library: &[u8],
+    counts: &mut [u64],
+    segments: &mut [u64],
+    references: &mut [u64],
+    symbols: &mut [u64],
+    bytes: &mut [u8],
+    masks: &mut [u8],
+) -> u8 {
+    match read(library) {
+        Reading::Modules { first, count } => match collect(
+            library,
+            Rules::Found,
+            first,
+            segments,
+            references,
+            symbols,
+            bytes,
+            masks,
+        ) {
+            Collection::Done(c) => {
+                let cells = [
+                    c.segments as u64,
+                    c.references as u64,
+                    c.symbols as u64,
+                    c.pattern as u64,
+                ];
+                put(counts, 0, &cells);
+                0
+            }
+            Collection::Refused(r) => number(r),
+        },
+        Reading::Refused(r) => number(r),
     }
 }
