@@ -1,0 +1,4 @@
+-- Tables of zeros.
+pub mod Zeros
+pub mod ZeroLaws
+pub mod OneOutcome
