@@ -13,12 +13,15 @@ keyAt keys i = getD keys i 0
 abbrev pub linkFrom : List ℕ → ℕ → ℕ → ℕ
 linkFrom keys key from = linkTo (firstIn (λ j. eqb (keyAt keys j) key) from (length keys))
 
--- tables in which the places from `i` on are linked
-pub record Linked (keys : List ℕ) (i : ℕ) (first next : List ℕ) : Type 0 where
-  pub heads : 65536 ≤ length first
+-- tables in which the places from `i` on are linked; keys are below `bound`
+pub record LinkedIn (bound : ℕ) (keys : List ℕ) (i : ℕ) (first next : List ℕ) : Type 0 where
+  pub heads : bound ≤ length first
   pub room : length keys ≤ length next
-  pub starts : (key : ℕ) → key < 65536 → getD first key 0 ≡ linkFrom keys key i
+  pub starts : (key : ℕ) → key < bound → getD first key 0 ≡ linkFrom keys key i
   pub follows : (j : ℕ) → i ≤ j → j < length keys → getD next j 0 ≡ linkFrom keys (keyAt keys j) (j + 1)
+
+abbrev pub Linked : List ℕ → ℕ → List ℕ → List ℕ → Type 0
+Linked keys i first next = LinkedIn 65536 keys i first next
 
 -- tables with room, in which nothing is linked
 pub record Ready (keys first next : List ℕ) : Type 0 where

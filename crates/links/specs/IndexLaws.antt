@@ -10,11 +10,11 @@ use lib.ListN.{length, getD, set, length-set}
 use lib.Seq.{getD-set-same, getD-set-other}
 use Rattle.links.specs.First.{linkTo}
 use Rattle.links.specs.FirstLaws.{first-none, first-hit, first-miss}
-use Rattle.links.specs.Index.{keyAt, linkFrom, Linked, ClearedTo}
+use Rattle.links.specs.Index.{keyAt, linkFrom, LinkedIn, Linked, ClearedTo}
 
 -- before any: heads that are all 0
-pub none-linked : (keys first next : List ℕ) → 65536 ≤ length first → length keys ≤ length next → ((key : ℕ) → key < 65536 → getD first key 0 ≡ 0)
-    → Linked keys (length keys) first next
+pub none-linked : {bound : ℕ} (keys first next : List ℕ) → bound ≤ length first → length keys ≤ length next → ((key : ℕ) → key < bound → getD first key 0 ≡ 0)
+    → LinkedIn bound keys (length keys) first next
 none-linked keys first next h r z = record {
   heads = h;
   room = r;
@@ -22,8 +22,8 @@ none-linked keys first next h r z = record {
   follows = λ j a b. absurd (omega arith);
 }
 
-module _ (keys first next : List ℕ) (i : ℕ) (within : i < length keys) (small : keyAt keys i < 65536) (l : Linked keys (i + 1) first next) where
-  starts-turn : (key : ℕ) → key < 65536 → getD (set first (keyAt keys i) (i + 1)) key 0 ≡ linkFrom keys key i
+module _ {bound : ℕ} (keys first next : List ℕ) (i : ℕ) (within : i < length keys) (small : keyAt keys i < bound) (l : LinkedIn bound keys (i + 1) first next) where
+  starts-turn : (key : ℕ) → key < bound → getD (set first (keyAt keys i) (i + 1)) key 0 ≡ linkFrom keys key i
   starts-turn key k = go (eqb (keyAt keys i) key) refl
     where
       go : (t : Bool) → eqb (keyAt keys i) key ≡ t → getD (set first (keyAt keys i) (i + 1)) key 0 ≡ linkFrom keys key i
@@ -49,7 +49,7 @@ module _ (keys first next : List ℕ) (i : ℕ) (within : i < length keys) (smal
           let other = eqb-false i j e in
           getD-set-other next i j (getD first (keyAt keys i) 0) 0 (λ q. other (sym q)) ∙ l .follows j (omega (arith, other)) b
 
-  pub link-turn : Linked keys i (set first (keyAt keys i) (i + 1)) (set next i (getD first (keyAt keys i) 0))
+  pub link-turn : LinkedIn bound keys i (set first (keyAt keys i) (i + 1)) (set next i (getD first (keyAt keys i) 0))
   link-turn = record {
     heads = rw length-set (l .heads);
     room = rw length-set (l .room);
@@ -57,8 +57,8 @@ module _ (keys first next : List ℕ) (i : ℕ) (within : i < length keys) (smal
     follows = follows-turn;
   }
 
-pub linked-at : {keys first next : List ℕ} {i k : ℕ} → Linked keys i first next → i ≡ k → Linked keys k first next
-linked-at {keys} {first} {next} l e = subst (λ n. Linked keys n first next) e l
+pub linked-at : {bound : ℕ} {keys first next : List ℕ} {i k : ℕ} → LinkedIn bound keys i first next → i ≡ k → LinkedIn bound keys k first next
+linked-at {bound} {keys} {first} {next} l e = subst (λ n. LinkedIn bound keys n first next) e l
 
 -- heads set to 0 again, one key after another
 pub none-cleared : (keys first : List ℕ) → ClearedTo keys 0 first first

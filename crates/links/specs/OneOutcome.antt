@@ -9,7 +9,7 @@ use lib.Dec.{eqb}
 use lib.ListN.{length, getD}
 use lib.Seq.{ext-getD}
 use Rattle.lent.specs.OneOutcome.{Determines, by-equation}
-use Rattle.links.specs.Index.{keyAt, Linked, ClearedTo, Cleared}
+use Rattle.links.specs.Index.{keyAt, LinkedIn, ClearedTo, Cleared}
 
 pub number-at-one : (numbers : List ℕ) (i : ℕ) → Determines (λ r. r ≡ getD numbers i 0)
 number-at-one numbers i = by-equation (getD numbers i 0)
@@ -39,7 +39,7 @@ unlink-one keys before a b p q =
     ext-getD 0 a b (p .long ∙ sym (q .long)) (λ key h. cleared-alike keys before (length keys) a b p q key (length keys) (omega arith) (λ j l k. absurd (omega arith)))
 
 -- `link`: the head of each key, and the link of each place
-pub link-one : (keys first next first′ next′ : List ℕ) → Linked keys 0 first next → Linked keys 0 first′ next′
-    → ((key : ℕ) → key < 65536 → getD first key 0 ≡ getD first′ key 0) × ((j : ℕ) → j < length keys → getD next j 0 ≡ getD next′ j 0)
+pub link-one : {bound : ℕ} (keys first next first′ next′ : List ℕ) → LinkedIn bound keys 0 first next → LinkedIn bound keys 0 first′ next′
+    → ((key : ℕ) → key < bound → getD first key 0 ≡ getD first′ key 0) × ((j : ℕ) → j < length keys → getD next j 0 ≡ getD next′ j 0)
 link-one keys first next first′ next′ p q =
     ((λ key h. p .starts key h ∙ sym (q .starts key h)), (λ j h. p .follows j (omega arith) h ∙ sym (q .follows j (omega arith) h)))
