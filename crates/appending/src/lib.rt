@@ -5,12 +5,12 @@ ghost use Rattle.filling.specs.Filling.{oneMore, putMore};
 ghost use Rattle.segments.specs.SegmentLayouts.{segmentLayout, referenceLayout, symbolLayout};
 use filling::Fill;
 use filling::one_more;
+use putting::put_reference;
+use putting::put_segment;
+use putting::put_symbol;
 use segments::Reference;
 use segments::SegmentRow;
 use segments::Symbol;
-use segments::rows::put_reference;
-use segments::rows::put_segment;
-use segments::rows::put_symbol;
 
 pub fn append_segment(m: &mut [u64], f: Fill, row: SegmentRow) -> Fill
     ensures { λ r. ⌜ (now (m .exit) ≡ putMore segmentLayout f row (now (m .entry))) × (r ≡ oneMore f 8 (length (now (m .entry)))) ⌝ }

@@ -10,7 +10,7 @@ use lent::names::name;
 use lent::part::Part;
 use lent::refusal::number;
 use modules::Reading;
-use modules::file::read;
+use reader::file::read;
 use storing::Counts;
 
 // A number for each lent list: its length, or its digest.

@@ -25,8 +25,8 @@ use Rattle.storing.specs.Stores.{Lists, referencesIn, symbolsIn, Room, Stores, 
 use Rattle.storing.specs.Segments.{lists}
 use Rattle.collecting.specs.declared.Collection.{Collection}
 use Rattle.collecting.specs.declared.Collection.the-variants.{Done, Refused}
-use Rattle.collecting.specs.All.{nothing}
-use Rattle.collecting.specs.AllLaws.{stores-none}
+use Rattle.librarywise.specs.All.{nothing}
+use Rattle.librarywise.specs.AllLaws.{stores-none}
 use Rattle.collecting.specs.Outcome.{Outcome, countedIn, tooFew, refusalOf, zeroed, filledWith, outcomeOf, collection}
 use Rattle.collecting.specs.OutcomeLaws.{refused-9, refused-late, counted, stored-room, no-room}
 

@@ -1,11 +1,8 @@
--- The segments of all modules.
-pub mod Modules
-pub mod FewLaws
-pub mod All
-pub mod AllLaws
+-- What the collection comes to.
 pub mod Outcome
+pub mod Concluded
 pub mod OutcomeLaws
 pub mod EndLaws
-pub mod Zeros
 pub mod ZeroLaws
+pub mod RecalledLaws
 pub mod OneOutcome

@@ -20,7 +20,7 @@ use Rattle.segments.specs.SegmentRows.{patternBytes, patternMasks}
 use Rattle.storing.specs.declared.Counts.{Counts}
 use Rattle.storing.specs.Stores.{Lists, Room, Stores}
 use Rattle.storing.specs.StoreLaws.{stored-count}
-use Rattle.collecting.specs.All.{nothing}
+use Rattle.librarywise.specs.All.{nothing}
 use Rattle.collecting.specs.Outcome.{countedIn, tooFew, refusalOf}
 
 -- the order of the refusals, once the library is short enough

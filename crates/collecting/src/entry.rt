@@ -1,43 +1,51 @@
-// The entry points, which lend the tables.
+// The entry point, which lends the tables.
 ghost use mathlib.Core.Path.{_≡_};
+ghost use mathlib.Core.List.{[]};
 ghost use Prim.Native.Nat.{_≤_};
 ghost use lib.ListN.{length};
 ghost use Rattle.omf51.specs.Module.{moduleAt};
 ghost use Rattle.modules.specs.Found.{found};
+ghost use Rattle.ids.specs.Noted.{Tells};
+ghost use Rattle.storing.specs.Stores.{Stores};
 ghost use Rattle.storing.specs.Segments.{lists};
+ghost use Rattle.librarywise.specs.All.{nothing, StoresAll};
 ghost use Rattle.collecting.specs.Outcome.{collection};
 use crate::Collection;
-use crate::room::content_room;
-use crate::room::few_entries;
-use crate::room::few_ids;
-use crate::room::few_keys;
-use crate::room::few_places;
-use crate::room::heads;
-use crate::room::id_table;
-use crate::room::many_entries;
-use crate::room::many_ids;
-use crate::room::many_keys;
-use crate::room::many_places;
-use crate::with::collect_with;
+use crate::conclude::clear_all;
+use crate::conclude::conclude;
 use fixup::Rules;
 use lent::refusal::Refusal;
+use librarywise::all::store_all;
+use rooms::content_room;
+use rooms::few_entries;
+use rooms::few_ids;
+use rooms::few_keys;
+use rooms::few_places;
+use rooms::heads;
+use rooms::id_table;
+use rooms::many_entries;
+use rooms::many_ids;
+use rooms::many_keys;
+use rooms::many_places;
+use storing::Stored;
 
 // A library of at most 64 KiB, for which small tables do.
-fn collect_short(
+fn store_short(
     library: &[u8],
     rules: Rules,
     from: usize,
+    table: &mut [u64],
     segments: &mut [u64],
     references: &mut [u64],
     symbols: &mut [u64],
     bytes: &mut [u8],
     masks: &mut [u8],
-) -> Collection
-    requires { ⌜ length (now library) ≤ 65536 ⌝ }
-    ensures { λ r. ⌜ record { answer = r; left = lists (now (segments .exit)) (now (references .exit)) (now (symbols .exit)) (now (bytes .exit)) (now (masks .exit)) }
-        ≡ collection rules (now (library .entry)) (found (now (library .entry)) (moduleAt (now (library .entry))) from) (lists (now (segments .entry)) (now (references .entry)) (now (symbols .entry)) (now (bytes .entry)) (now (masks .entry))) ⌝ }
+) -> Stored
+    requires { ⌜ (length (now library) ≤ 65536) × (Tells [] (now table) × Stores [] (lists (now segments) (now references) (now symbols) (now bytes) (now masks)) nothing) ⌝ }
+    ensures { λ r. ⌜ StoresAll (now (library .entry)) rules (found (now (library .entry)) (moduleAt (now (library .entry))) from) (now (table .exit))
+        (lists (now (segments .entry)) (now (references .entry)) (now (symbols .entry)) (now (bytes .entry)) (now (masks .entry)))
+        (lists (now (segments .exit)) (now (references .exit)) (now (symbols .exit)) (now (bytes .exit)) (now (masks .exit))) r ⌝ }
 {
-    let mut table = id_table();
     let mut ids = few_ids();
     let mut places = few_places();
     let mut first = heads();
@@ -47,11 +55,11 @@ fn collect_short(
     let mut names = heads();
     let mut onward = few_entries();
     let mut apart = content_room();
-    collect_with(
+    store_all(
         library,
         rules,
         from,
-        &mut table,
+        table,
         &mut ids,
         &mut places,
         &mut first,
@@ -60,31 +68,32 @@ fn collect_short(
         &mut entries,
         &mut names,
         &mut onward,
-        &mut apart,
         segments,
         references,
         symbols,
         bytes,
         masks,
+        &mut apart,
     )
 }
 
 // A library of at most 1 MiB.
-fn collect_long(
+fn store_long(
     library: &[u8],
     rules: Rules,
     from: usize,
+    table: &mut [u64],
     segments: &mut [u64],
     references: &mut [u64],
     symbols: &mut [u64],
     bytes: &mut [u8],
     masks: &mut [u8],
-) -> Collection
-    requires { ⌜ length (now library) ≤ 1048576 ⌝ }
-    ensures { λ r. ⌜ record { answer = r; left = lists (now (segments .exit)) (now (references .exit)) (now (symbols .exit)) (now (bytes .exit)) (now (masks .exit)) }
-        ≡ collection rules (now (library .entry)) (found (now (library .entry)) (moduleAt (now (library .entry))) from) (lists (now (segments .entry)) (now (references .entry)) (now (symbols .entry)) (now (bytes .entry)) (now (masks .entry))) ⌝ }
+) -> Stored
+    requires { ⌜ (length (now library) ≤ 1048576) × (Tells [] (now table) × Stores [] (lists (now segments) (now references) (now symbols) (now bytes) (now masks)) nothing) ⌝ }
+    ensures { λ r. ⌜ StoresAll (now (library .entry)) rules (found (now (library .entry)) (moduleAt (now (library .entry))) from) (now (table .exit))
+        (lists (now (segments .entry)) (now (references .entry)) (now (symbols .entry)) (now (bytes .entry)) (now (masks .entry)))
+        (lists (now (segments .exit)) (now (references .exit)) (now (symbols .exit)) (now (bytes .exit)) (now (masks .exit))) r ⌝ }
 {
-    let mut table = id_table();
     let mut ids = many_ids();
     let mut places = many_places();
     let mut first = heads();
@@ -94,11 +103,11 @@ fn collect_long(
     let mut names = heads();
     let mut onward = many_entries();
     let mut apart = content_room();
-    collect_with(
+    store_all(
         library,
         rules,
         from,
-        &mut table,
+        table,
         &mut ids,
         &mut places,
         &mut first,
@@ -107,7 +116,50 @@ fn collect_long(
         &mut entries,
         &mut names,
         &mut onward,
+        segments,
+        references,
+        symbols,
+        bytes,
+        masks,
         &mut apart,
+    )
+}
+
+// The tables that the library's length asks for.
+fn store(
+    library: &[u8],
+    rules: Rules,
+    from: usize,
+    table: &mut [u64],
+    segments: &mut [u64],
+    references: &mut [u64],
+    symbols: &mut [u64],
+    bytes: &mut [u8],
+    masks: &mut [u8],
+) -> Stored
+    requires { ⌜ (length (now library) ≤ 1048576) × (Tells [] (now table) × Stores [] (lists (now segments) (now references) (now symbols) (now bytes) (now masks)) nothing) ⌝ }
+    ensures { λ r. ⌜ StoresAll (now (library .entry)) rules (found (now (library .entry)) (moduleAt (now (library .entry))) from) (now (table .exit))
+        (lists (now (segments .entry)) (now (references .entry)) (now (symbols .entry)) (now (bytes .entry)) (now (masks .entry)))
+        (lists (now (segments .exit)) (now (references .exit)) (now (symbols .exit)) (now (bytes .exit)) (now (masks .exit))) r ⌝ }
+{
+    if library.len() <= 65536 {
+        return store_short(
+            library,
+            rules,
+            from,
+            table,
+            segments,
+            references,
+            symbols,
+            bytes,
+            masks,
+        );
+    }
+    store_long(
+        library,
+        rules,
+        from,
+        table,
         segments,
         references,
         symbols,
@@ -130,29 +182,31 @@ pub fn collect(
     ensures { λ r. ⌜ record { answer = r; left = lists (now (segments .exit)) (now (references .exit)) (now (symbols .exit)) (now (bytes .exit)) (now (masks .exit)) }
         ≡ collection rules (now (library .entry)) (found (now (library .entry)) (moduleAt (now (library .entry))) from) (lists (now (segments .entry)) (now (references .entry)) (now (symbols .entry)) (now (bytes .entry)) (now (masks .entry))) ⌝ }
 {
-    if library.len() <= 65536 {
-        return collect_short(
-            library,
-            rules,
-            from,
-            segments,
-            references,
-            symbols,
-            bytes,
-            masks,
-        );
+    if library.len() > 1048576 {
+        return Collection::Refused(Refusal::LibraryTooLong);
     }
-    if library.len() <= 1048576 {
-        return collect_long(
-            library,
-            rules,
-            from,
-            segments,
-            references,
-            symbols,
-            bytes,
-            masks,
-        );
-    }
-    Collection::Refused(Refusal::LibraryTooLong)
+    let mut table = id_table();
+    clear_all(segments, references, symbols, bytes, masks);
+    let stored = store(
+        library,
+        rules,
+        from,
+        &mut table,
+        segments,
+        references,
+        symbols,
+        bytes,
+        masks,
+    );
+    conclude(
+        library,
+        from,
+        stored,
+        &mut table,
+        segments,
+        references,
+        symbols,
+        bytes,
+        masks,
+    )
 }

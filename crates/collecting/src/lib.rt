@@ -1,9 +1,6 @@
 // The segments of all modules, collected into lent memory.
-pub mod all;
+pub mod conclude;
 pub mod entry;
-pub mod module;
-pub mod room;
-pub mod with;
 
 use lent::refusal::Refusal;
 use storing::Counts;

@@ -8,8 +8,8 @@ use lent::refusal::number;
 use modules::ModuleAt;
 use modules::Places;
 use modules::Reading;
-use modules::file::read;
-use modules::module::module_at;
+use reader::file::read;
+use whole::module::module_at;
 
 fn take_in_module(before: u64, library: &[u8], places: Places) -> u64 {
     let definitions = places.definitions;

@@ -2,7 +2,6 @@
 use lent::refusal::Refusal;
 
 pub mod one;
-pub mod scan;
 
 // What was looked at is refused, or it is not.
 pub enum Verdict {

@@ -11,9 +11,9 @@ use crate::flags::clear_blocks;
 use crate::flags::flag_at;
 use crate::flags::flag_inside;
 use chains::names::Carried;
-use chains::names::append_public;
 use filling::Fill;
 use links::number_at;
+use naming::names::append_public;
 
 fn key_at(keys: &[u16], j: usize) -> usize
     ensures { λ r. ⌜ r ≡ getD (now (keys .entry)) j 0 ⌝ }

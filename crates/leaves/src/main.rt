@@ -104,7 +104,7 @@ fn fixup_at(location: usize, kind: u8, block: u8) -> Fixup {
 
 fn masks(text: &[u8], f: Fixup) {
     let mut m = [255u8; 3];
-    segments::masks::mask(&mut m, f);
+    masking::masks::mask(&mut m, f);
     say(text);
     byte(m[0]);
     byte(m[1]);
@@ -166,7 +166,7 @@ fn parts() {
 
 // A description in the room of a buffer, between brackets.
 fn described(name: &[u8], out: &mut [u8]) {
-    match describe::describe(name, out) {
+    match describing::describe(name, out) {
         Described::Written(n) => {
             say(b" [");
             say(lent::names::name(out, part(0, n)));

@@ -3,7 +3,7 @@ ghost use mathlib.Core.Path.{_≡_};
 ghost use lib.ListN.{length, replicate};
 ghost use Rattle.segments.specs.Masks.{masksOf};
 ghost use Rattle.walk.specs.Left.{fixupsLeft};
-use segments::masks::mask;
+use masking::masks::mask;
 use walk::Cursor;
 use walk::NextFixup;
 use walk::items::next_fixup;

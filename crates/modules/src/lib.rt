@@ -1,10 +1,6 @@
 // Repetitions, modules and the file.
 use lent::refusal::Refusal;
 
-pub mod file;
-pub mod module;
-pub mod passes;
-
 // Where a whole module's definitions and contents start, and what stands after it.
 pub struct Places {
     pub definitions: usize,

@@ -18,8 +18,8 @@ use Rattle.storing.specs.declared.Stored.{Stored}
 use Rattle.storing.specs.declared.Stored.the-variants.{Rows, NoRoom}
 use Rattle.storing.specs.Stores.{Lists, Room, After, Extends, Stores}
 use Rattle.storing.specs.ProgressLaws.{room-front}
-use Rattle.modulewise.specs.Kept.{keptSegments}
-use Rattle.modulewise.specs.Absolute.{absoluteSegments}
+use Rattle.keeps.specs.Kept.{keptSegments}
+use Rattle.absolutes.specs.Absolute.{absoluteSegments}
 
 module _ (rules : Rules) (library : List ℕ) (m : Module) (number : ℕ) where
   two-parts : moduleSegments rules library number m ≡ keptSegments library m number ++ absoluteSegments rules library m number

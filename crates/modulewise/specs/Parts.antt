@@ -16,8 +16,8 @@ use Rattle.storing.specs.declared.Counts.{Counts}
 use Rattle.storing.specs.declared.Stored.{Stored}
 use Rattle.storing.specs.Stores.{Lists, Extends, SameLengths}
 use Rattle.storing.specs.Segments.{ownBy}
-use Rattle.modulewise.specs.Kept.{keptSegments}
-use Rattle.modulewise.specs.Absolute.{absoluteSegments}
+use Rattle.keeps.specs.Kept.{keptSegments}
+use Rattle.absolutes.specs.Absolute.{absoluteSegments}
 
 -- what is known of a module while its parts are stored: its definitions, what its ids lead to, and its contents by id
 pub record Known (library : List ℕ) (m : Module) (from : ℕ) (table first next places : List ℕ) : Type 0 where

@@ -1,5 +1,4 @@
 // Segments to be searched for, as they are collected from the modules.
-pub mod masks;
 pub mod rows;
 
 use fixup::Kind;

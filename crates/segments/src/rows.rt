@@ -1,9 +1,6 @@
-// The rows of the collection in lent memory: segments, references and symbols, by number.
+// The rows of the collection in lent memory: segments, references and symbols, read by number.
 ghost use mathlib.Core.Path.{_≡_};
-ghost use Rattle.lent.specs.Rows.{putRow};
-ghost use Rattle.segments.specs.SegmentRows.{segmentWidth, referenceWidth, symbolWidth, segmentCells, referenceCells, symbolCells};
-ghost use Rattle.segments.specs.SegmentLayouts.{seatFrom, kindFrom, goalFrom, seatPair, goalTriple, segmentRowAt, referenceAt, symbolAt};
-ghost use Rattle.fixup.specs.Target.{kindNumber};
+ghost use Rattle.segments.specs.SegmentLayouts.{seatFrom, kindFrom, goalFrom, segmentRowAt, referenceAt, symbolAt};
 use crate::Goal;
 use crate::Reference;
 use crate::SegmentNumber;
@@ -22,27 +19,15 @@ const REFERENCE: usize = 6;
 const SYMBOL: usize = 3;
 
 // A case as numbers: its tag, and what it holds.
-struct Pair {
-    tag: u64,
-    held: u64,
+pub struct Pair {
+    pub tag: u64,
+    pub held: u64,
 }
 
-struct Triple {
-    tag: u64,
-    first: u64,
-    second: u64,
-}
-
-fn seat_pair(seat: Seat) -> Pair
-    ensures { λ r. ⌜ r ≡ seatPair seat ⌝ }
-{
-    match seat {
-        Seat::Anywhere => Pair { tag: 0, held: 0 },
-        Seat::Only(address) => Pair {
-            tag: 1,
-            held: address as u64,
-        },
-    }
+pub struct Triple {
+    pub tag: u64,
+    pub first: u64,
+    pub second: u64,
 }
 
 fn seat_from(tag: u64, address: u64) -> Seat
@@ -52,23 +37,6 @@ fn seat_from(tag: u64, address: u64) -> Seat
         Seat::Only(address as usize)
     } else {
         Seat::Anywhere
-    }
-}
-
-fn goal_triple(goal: Goal) -> Triple
-    ensures { λ r. ⌜ r ≡ goalTriple goal ⌝ }
-{
-    match goal {
-        Goal::Segment(number) => Triple {
-            tag: 0,
-            first: number.0 as u64,
-            second: 0,
-        },
-        Goal::Name(name) => Triple {
-            tag: 1,
-            first: name.at as u64,
-            second: name.len as u64,
-        },
     }
 }
 
@@ -82,16 +50,6 @@ fn goal_from(tag: u64, first: u64, second: u64) -> Goal
         })
     } else {
         Goal::Segment(SegmentNumber(first as usize))
-    }
-}
-
-fn kind_number(kind: Kind) -> u64
-    ensures { λ r. ⌜ r ≡ kindNumber kind ⌝ }
-{
-    match kind {
-        Kind::Relative => 2,
-        Kind::Word => 4,
-        Kind::Inblock => 5,
     }
 }
 
@@ -128,24 +86,6 @@ pub fn segment_at(m: &[u64], i: usize) -> SegmentRow
     }
 }
 
-pub fn put_segment(m: &mut [u64], i: usize, row: SegmentRow)
-    ensures { λ _. ⌜ now (m .exit) ≡ putRow segmentWidth (now (m .entry)) i (segmentCells row) ⌝ }
-{
-    let seat = row.seat;
-    let pair = seat_pair(seat);
-    let cells = [
-        pair.tag,
-        pair.held,
-        row.pattern.at as u64,
-        row.pattern.len as u64,
-        row.references.at as u64,
-        row.references.len as u64,
-        row.symbols.at as u64,
-        row.symbols.len as u64,
-    ];
-    rows::put(m, i, &cells);
-}
-
 pub fn reference_at(m: &[u64], i: usize) -> Reference
     ensures { λ r. ⌜ r ≡ referenceAt (now (m .entry)) i ⌝ }
 {
@@ -156,24 +96,6 @@ pub fn reference_at(m: &[u64], i: usize) -> Reference
         offset: n[2] as usize,
         goal: goal_from(n[3], n[4], n[5]),
     }
-}
-
-pub fn put_reference(m: &mut [u64], i: usize, row: Reference)
-    ensures { λ _. ⌜ now (m .exit) ≡ putRow referenceWidth (now (m .entry)) i (referenceCells row) ⌝ }
-{
-    let kind = row.kind;
-    let goal = row.goal;
-    let number = kind_number(kind);
-    let triple = goal_triple(goal);
-    let cells = [
-        row.place as u64,
-        number,
-        row.offset as u64,
-        triple.tag,
-        triple.first,
-        triple.second,
-    ];
-    rows::put(m, i, &cells);
 }
 
 pub fn symbol_at(m: &[u64], i: usize) -> Symbol
@@ -187,11 +109,4 @@ pub fn symbol_at(m: &[u64], i: usize) -> Symbol
         },
         offset: n[2] as usize,
     }
-}
-
-pub fn put_symbol(m: &mut [u64], i: usize, row: Symbol)
-    ensures { λ _. ⌜ now (m .exit) ≡ putRow symbolWidth (now (m .entry)) i (symbolCells row) ⌝ }
-{
-    let cells = [row.name.at as u64, row.name.len as u64, row.offset as u64];
-    rows::put(m, i, &cells);
 }

@@ -1,7 +1,6 @@
 // Segments stored in lent memory, one behind another, until there is no room.
-pub mod absolute;
-pub mod kept;
 pub mod row;
+pub mod rules;
 
 // What is stored so far: rows of each kind, and bytes of pattern memory.
 pub struct Counts {

@@ -8,15 +8,15 @@ use crate::NextContent;
 use crate::entries::start;
 use crate::items::id_at;
 use crate::items::word;
+use bodies::entry::id_size;
+use framing::record::record_at;
 use lent::part::Part;
-use modules::passes::section_end;
 use omf51::Content;
 use omf51::End;
 use omf51::Frame;
-use omf51::entry::id_size;
 use omf51::record::Framed;
-use omf51::record::record_at;
 use omf51::types::Allowed;
+use passing::passes::section_end;
 
 // The content in a body that has an id and an offset at least.
 fn content_of(library: &[u8], f: Frame) -> Content

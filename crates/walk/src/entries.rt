@@ -5,13 +5,13 @@ ghost use lib.ListN.{length};
 ghost use Rattle.walk.specs.Walk.{entryIn, enteredAt, nextEntry, startAt};
 use crate::Cursor;
 use crate::Step;
-use modules::passes::holds;
-use modules::passes::record_end;
+use bodies::entry::entry_end;
+use framing::record::byte_at;
 use omf51::End;
 use omf51::Frame;
 use omf51::entry::Entries;
-use omf51::entry::entry_end;
-use omf51::record::byte_at;
+use passing::passes::holds;
+use passing::passes::record_end;
 
 // Before the first record at a place.
 pub fn start(at: usize) -> Cursor

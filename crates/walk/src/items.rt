@@ -10,18 +10,18 @@ use crate::NextDefinition;
 use crate::NextFixup;
 use crate::Step;
 use crate::entries::next_entry;
+use bodies::entry::id_size;
+use bodies::entry::is_public;
+use bodies::entry::is_segment;
+use bodies::entry::name_offset;
+use framing::record::byte_at;
+use framing::record::word_at;
 use lent::part::Part;
 use omf51::Definition;
 use omf51::Fixup;
 use omf51::Frame;
 use omf51::ModuleId;
 use omf51::entry::Entries;
-use omf51::entry::id_size;
-use omf51::entry::is_public;
-use omf51::entry::is_segment;
-use omf51::entry::name_offset;
-use omf51::record::byte_at;
-use omf51::record::word_at;
 use omf51::segment_size;
 
 fn wide(x: u8) -> usize

@@ -1,0 +1,3 @@
+-- The absolute contents of a module.
+pub mod Absolute
+pub mod AbsoluteLaws

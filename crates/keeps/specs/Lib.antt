@@ -1,0 +1,3 @@
+-- The kept segments of a module.
+pub mod Kept
+pub mod KeptLaws

@@ -1,0 +1,6 @@
+-- The segments of all modules of a library.
+pub mod Modules
+pub mod FewLaws
+pub mod FlagLaws
+pub mod All
+pub mod AllLaws

@@ -1,0 +1,2 @@
+// The masks that a fixup leaves.
+pub mod masks;

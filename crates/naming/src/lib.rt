@@ -1,0 +1,2 @@
+// What is met along links becomes symbols.
+pub mod names;

@@ -1,0 +1,2 @@
+// The whole file: where its modules stand, and how many there are.
+pub mod file;

@@ -1,0 +1,2 @@
+// What is met along links becomes references.
+pub mod references;

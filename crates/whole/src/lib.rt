@@ -1,0 +1,2 @@
+// Where a whole module stands.
+pub mod module;
