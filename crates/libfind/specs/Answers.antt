@@ -49,7 +49,7 @@ module _ (image library : List ℕ) (s : Settings) (lent : Lent) where
   pub record Sound (o : Outcome) : Type 0 where
     -- on 0 the counts are the numbers of rows, and each lent list holds its stage's rows, the rest zero
     pub counts-done : numberOf (o .answer) ≡ 0 → countsOf (o .answer) ≡ counted yielded
-    pub left-done : numberOf (o .answer) ≡ 0 → o .left ≡ filledWith yielded lent
+    pub left-done : numberOf (o .answer) ≡ 0 → o .left ≡ filledWith library yielded lent
     -- every refusal has zero counts; 1 to 8 write nothing, and 9 to 13 set all to zero
     pub counts-refused : 1 ≤ numberOf (o .answer) → countsOf (o .answer) ≡ noCounts
     pub left-early : 1 ≤ numberOf (o .answer) → numberOf (o .answer) ≤ 8 → o .left ≡ lent
@@ -59,7 +59,7 @@ module _ (image library : List ℕ) (s : Settings) (lent : Lent) where
   unfolding run runSeen
   sound = go (leading (refusals (view image (s .stretch)) library s lent (counted yielded)))
     where
-      go : (o : Option Refusal) → Sound (outcomeOf o yielded lent)
+      go : (o : Option Refusal) → Sound (outcomeOf library o yielded lent)
       go none = record {
         counts-done = λ e. refl;
         left-done = λ e. refl;
@@ -76,7 +76,7 @@ module _ (image library : List ℕ) (s : Settings) (lent : Lent) where
       }
 
   -- every lent list keeps its length: what is yielded fits
-  filled-lengths : NothingRefused image library s lent → SameLengths (filledWith yielded lent) lent
+  filled-lengths : NothingRefused image library s lent → SameLengths (filledWith library yielded lent) lent
   unfolding filledWith counted stages lineNumbers
   filled-lengths h =
       let rules = rulesOf (s .rules) in
@@ -88,8 +88,8 @@ module _ (image library : List ℕ) (s : Settings) (lent : Lent) where
         symbols = fitting-length (lent .symbols) (symbolNumbers (y .segments)) symbolWidth _ (symbols-take (y .segments)) (λ o. room (inr (inr (inl o))));
         bytes = fitting-length (lent .bytes) (patternBytes (y .segments)) 1 _ (bytes-take (y .segments)) (λ o. room (inr (inr (inr (inl o)))));
         masks = fitting-length (lent .masks) (patternMasks (y .segments)) 1 _ (masks-take rules library modules) (λ o. room (inr (inr (inr (inr o)))));
-        placed = fitting-length (lent .placed) (placedNumbers (y .placed)) placedWidth _ (placed-take (y .placed)) (λ o. h .searched (inl o));
-        noted = fitting-length (lent .noted) (notedNumbers (y .noted)) notedWidth _ (noted-take (y .noted)) (λ o. h .searched (inr o));
+        placed = fitting-length (lent .placed) (placedNumbers library (y .placed)) placedWidth _ (placed-take library (y .placed)) (λ o. h .searched (inl o));
+        noted = fitting-length (lent .noted) (notedNumbers library (y .noted)) notedWidth _ (noted-take library (y .noted)) (λ o. h .searched (inr o));
         lines = fitting-length (lent .lines) (lineNumbers (y .lines)) lineWidth _ (rows-length lineWidth lineCells (λ l. refl) (y .lines)) (h .listed);
       }
 

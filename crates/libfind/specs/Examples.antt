@@ -28,8 +28,10 @@ use Rattle.segments.specs.Refuse.{fixupRefusal, contentRefusal, tests, collectR
 use Rattle.segments.specs.Masks.{masksOf, ored, merged, filled}
 use Rattle.segments.specs.Collect.{referencesOf, symbolsOf, keptSegment, absoluteSegment, moduleSegments, collect}
 use Rattle.segments.specs.SegmentRows.{segmentRowsFrom, segmentNumbers, referenceNumbers, symbolNumbers, patternBytes, patternMasks}
+use Rattle.named.specs.Newest.{newestFrom}
+use Rattle.named.specs.Sheet.{nameBucket, linkedFrom}
 use Rattle.search.specs.Search.{positionsOf, allMatches, isValid, holds, notes, note, noted, symbolsAt, place, placed}
-use Rattle.search.specs.SearchRows.{newest, linkedFrom, placedNumbers, notedNumbers}
+use Rattle.search.specs.SearchRows.{placedNumbers, notedNumbers}
 use Rattle.listing.specs.declared.Skip.the-variants.{Never}
 use Rattle.listing.specs.Listing.{bestGrade, best, grade, gradedAt, linesAt, leftovers, listing, lineNumbers}
 use Rattle.describe.specs.Describe.{text, oneOf, description, describe}
@@ -120,7 +122,7 @@ lent = record {
   symbols = replicate 4 7;
   bytes = replicate 4 7;
   masks = replicate 4 7;
-  placed = replicate 8 7;
+  placed = replicate 9 7;
   noted = replicate 1 7;
   lines = replicate 5 7;
 }
@@ -134,7 +136,7 @@ outcome = record {
     symbols = 31 ∷ 7 ∷ 0 ∷ 0 ∷ [];
     bytes = 0xe5 ∷ 0x25 ∷ 0x22 ∷ 0 ∷ [];
     masks = 0xff ∷ 0xff ∷ 0xff ∷ 0 ∷ [];
-    placed = 1 ∷ 31 ∷ 7 ∷ 1 ∷ 0 ∷ 1 ∷ 0 ∷ 0 ∷ [];
+    placed = 1 ∷ 31 ∷ 7 ∷ 1 ∷ 0 ∷ 1 ∷ 0 ∷ 0 ∷ 0 ∷ [];
     noted = zeros 1;
     lines = 1 ∷ 2 ∷ 31 ∷ 7 ∷ 0 ∷ [];
   };
@@ -147,7 +149,7 @@ unfolding leading keep joined fold any all placeOf from numbered insert sorted t
     repeat frameAt expected recordOf ending definitionOf definitionAt fixupAt definitionsAt fixupsAt sectionAt sectionsAt moduleAt libraryAt file
     kept named fixupRefusal contentRefusal tests collectRefusal masksOf ored merged filled referencesOf symbolsOf keptSegment absoluteSegment
     moduleSegments collect segmentRowsFrom segmentNumbers referenceNumbers symbolNumbers patternBytes patternMasks positionsOf allMatches isValid
-    holds notes note noted symbolsAt place placed newest linkedFrom placedNumbers notedNumbers bestGrade best grade gradedAt linesAt leftovers
+    holds notes note noted symbolsAt place placed newestFrom nameBucket linkedFrom placedNumbers notedNumbers bestGrade best grade gradedAt linesAt leftovers
     listing lineNumbers oneOf description describe digits moreDigits printedLine printed
     stages counted refusals filledWith runSeen run
 whole = (refl, refl)

@@ -77,7 +77,7 @@ module _ (image library : List ℕ) (s : Settings) (lent : Lent) where
   unfolding run runSeen refusals
   number-is r = go (leading (refusals cells library s lent (counted yield)))
     where
-      go : (o : Option Refusal) → (numberOf (outcomeOf o yield lent .answer) ≡ refusalNumber r) ↔ (o ≡ some r)
+      go : (o : Option Refusal) → (numberOf (outcomeOf library o yield lent .answer) ≡ refusalNumber r) ↔ (o ≡ some r)
       go none = ((λ e. absurd (omega (arith, number-range r .0))), λ e. absurd (none≢some e))
       go (some q) = ((λ e. ap some (number-tells q r e)), λ e. same-number e)
 
@@ -85,7 +85,7 @@ module _ (image library : List ℕ) (s : Settings) (lent : Lent) where
   unfolding run runSeen refusals
   done-is = Iff·trans (go (leading (refusals cells library s lent (counted yield)))) (leading-none (λ g. g .out) all-stages, none-leading (λ g. g .out) all-stages)
     where
-      go : (o : Option Refusal) → (numberOf (outcomeOf o yield lent .answer) ≡ 0) ↔ (o ≡ none)
+      go : (o : Option Refusal) → (numberOf (outcomeOf library o yield lent .answer) ≡ 0) ↔ (o ≡ none)
       go none = ((λ e. refl), λ e. refl)
       go (some q) = ((λ e. absurd (omega (arith, number-range q .0))), λ e. absurd (none≢some (sym e)))
 

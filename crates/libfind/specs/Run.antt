@@ -113,15 +113,15 @@ zeroed lent = record {
   lines = zeros (length (lent .lines));
 }
 
-unfoldable pub filledWith : Yield → Lent → Lent
-filledWith y lent = record {
+unfoldable pub filledWith : List ℕ → Yield → Lent → Lent
+filledWith library y lent = record {
   segments = padded (length (lent .segments)) (segmentNumbers (y .segments));
   references = padded (length (lent .references)) (referenceNumbers (y .segments));
   symbols = padded (length (lent .symbols)) (symbolNumbers (y .segments));
   bytes = padded (length (lent .bytes)) (patternBytes (y .segments));
   masks = padded (length (lent .masks)) (patternMasks (y .segments));
-  placed = padded (length (lent .placed)) (placedNumbers (y .placed));
-  noted = padded (length (lent .noted)) (notedNumbers (y .noted));
+  placed = padded (length (lent .placed)) (placedNumbers library (y .placed));
+  noted = padded (length (lent .noted)) (notedNumbers library (y .noted));
   lines = padded (length (lent .lines)) (lineNumbers (y .lines));
 }
 
@@ -129,15 +129,15 @@ filledWith y lent = record {
 abbrev pub leftBy : Refusal → Lent → Lent
 leftBy r lent = if leb (refusalNumber r) 8 then lent else zeroed lent
 
-abbrev pub outcomeOf : Option Refusal → Yield → Lent → Outcome
-outcomeOf none y lent = record { answer = Done (counted y); left = filledWith y lent }
-outcomeOf (some r) y lent = record { answer = Refused r; left = leftBy r lent }
+abbrev pub outcomeOf : List ℕ → Option Refusal → Yield → Lent → Outcome
+outcomeOf library none y lent = record { answer = Done (counted y); left = filledWith library y lent }
+outcomeOf library (some r) y lent = record { answer = Refused r; left = leftBy r lent }
 
 -- the run, from the view, and from the image
 unfoldable pub runSeen : List ℕ → List ℕ → Settings → Lent → Outcome
 runSeen cells library s lent =
     let y = stages cells library s in
-    outcomeOf (leading (refusals cells library s lent (counted y))) y lent
+    outcomeOf library (leading (refusals cells library s lent (counted y))) y lent
 
 unfoldable pub run : List ℕ → List ℕ → Settings → Lent → Outcome
 run image library s lent = runSeen (view image (s .stretch)) library s lent

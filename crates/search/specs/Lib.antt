@@ -5,4 +5,5 @@ pub mod SearchRows
 pub mod SearchRowLaws
 pub mod SearchLayouts
 pub mod SearchLayoutLaws
+pub mod FindableLaws
 pub mod OneOutcome

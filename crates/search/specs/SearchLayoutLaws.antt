@@ -7,8 +7,8 @@ use Rattle.lent.specs.Rows.{putRow}
 use Rattle.lent.specs.RowLaws.{Wide, Back, flag-back, get-put}
 use Rattle.search.specs.declared.Placed.{Placed}
 use Rattle.search.specs.declared.Noted.{Noted}
-use Rattle.search.specs.SearchRows.{placedWidth, notedWidth, placedCells, notedCells}
-use Rattle.search.specs.SearchLayouts.{placedLayout, notedLayout, placedAt, notedAt}
+use Rattle.search.specs.SearchRows.{placedWidth, notedWidth, placedCells, notedCells, placedLayout, notedLayout}
+use Rattle.search.specs.SearchLayouts.{placedAt, notedAt}
 
 pub placed-width : Wide placedLayout
 placed-width r = refl

@@ -12,8 +12,9 @@ pub struct Asked {
     pub minimum: usize,
 }
 
-// A symbol placed at a position, by the match of a segment at `found`. The link is one more than the number of the newest
-// earlier row of the same position, or 0.
+// A symbol placed at a position, by the match of a segment at `found`. Its links are each one more than the number of an
+// earlier row, or 0: `link` leads to the newest of the same position, `alike` to the newest whose position and name share a
+// bucket with these.
 pub struct Placed {
     pub position: usize,
     pub name: Part,
@@ -21,13 +22,15 @@ pub struct Placed {
     pub segment: SegmentNumber,
     pub found: usize,
     pub link: usize,
+    pub alike: usize,
 }
 
-// A name noted at a target by a reference. The link is one more than the number of the newest earlier row whose target has the
-// same low 16 bits, or 0.
+// A name noted at a target by a reference. Its links are as those of a placed symbol, by the low 16 bits of the target, and by
+// target and name.
 pub struct Noted {
     pub target: u64,
     pub name: Part,
     pub valid: bool,
     pub link: usize,
+    pub alike: usize,
 }

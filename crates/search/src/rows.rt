@@ -10,9 +10,9 @@ use lent::rows;
 use segments::SegmentNumber;
 
 // How many numbers a row has.
-const PLACED: usize = 7;
+const PLACED: usize = 8;
 
-const NOTED: usize = 5;
+const NOTED: usize = 6;
 
 pub fn placed_at(m: &[u64], i: usize) -> Placed
     ensures { λ r. ⌜ r ≡ placedAt (now (m .entry)) i ⌝ }
@@ -28,6 +28,7 @@ pub fn placed_at(m: &[u64], i: usize) -> Placed
         segment: SegmentNumber(n[4] as usize),
         found: n[5] as usize,
         link: n[6] as usize,
+        alike: n[7] as usize,
     }
 }
 
@@ -42,6 +43,7 @@ pub fn put_placed(m: &mut [u64], i: usize, row: Placed)
         row.segment.0 as u64,
         row.found as u64,
         row.link as u64,
+        row.alike as u64,
     ];
     rows::put(m, i, &cells);
 }
@@ -58,6 +60,7 @@ pub fn noted_at(m: &[u64], i: usize) -> Noted
         },
         valid: n[3] == 1,
         link: n[4] as usize,
+        alike: n[5] as usize,
     }
 }
 
@@ -70,6 +73,7 @@ pub fn put_noted(m: &mut [u64], i: usize, row: Noted)
         row.name.len as u64,
         rows::flag(row.valid),
         row.link as u64,
+        row.alike as u64,
     ];
     rows::put(m, i, &cells);
 }

@@ -7,4 +7,4 @@ returns : tie.Need-returns
 returns c = rw (c .numbers .ensures)
 
 pub noted-at-spec : {M : Type 1} → statement M
-noted-at-spec = tie.close (tie.spec (λ c κs. tt) (λ c. search needs) (λ c. search needs) (λ c. search needs) (λ c. search needs) (λ c. search needs) returns)
+noted-at-spec = tie.close (tie.spec (λ c κs. tt) (λ c. search needs) (λ c. search needs) (λ c. search needs) (λ c. search needs) (λ c. search needs) (λ c. search needs) returns)
