@@ -1,0 +1,3 @@
+-- Placing symbols.
+pub mod Placing
+pub mod PlacingLaws
