@@ -1,0 +1,65 @@
+-- `search`: too long an image, too few rows, or all rows. Assumes nothing.
+use mathlib.Core.Path.{ap, _∙_}
+use native.Mathlib.Omega.{arith}
+use Rattle.lent.specs.declared.refusal.Refusal.the-variants.{TooFewRows}
+use Rattle.pattern.specs.View.{view}
+use Rattle.pattern.specs.ViewLaws.{view-length}
+use Rattle.searching.specs.declared.Searched.the-variants.{Refused}
+use Rattle.searching.specs.Visits.{Stored, stored}
+use Rattle.searching.specs.Outcome.{Lists}
+use Rattle.searching.specs.EndLaws.{long-is, lacks-is, done-is, zeroed-same}
+use borrow.Author.Needs.{needs}
+use Rattle.searching.proofs.entry.search.Statement.{statement}
+use Rattle.searching.proofs.entry.search.Tie as tie
+
+abbrev rows : tie.Start → Stored
+rows c = stored (c .args .segments .now) (c .args .references .now) (c .args .symbols .now) (c .args .bytes .now) (c .args .masks .now)
+
+abbrev lent : tie.Start → Lists
+lent c = record { stored = rows c; placed = c .args .placed .now; noted = c .args .noted .now }
+
+returns : tie.Need-returns
+returns c =
+    let a = c .before .before .before .before .before .before .before .before .before .before .args in
+    long-is (view (a .image .now) (a .s)) (a .asked) (a .library .now) (a .n) (lent (c .before .before .before .before .before .before .before .before .before .before)) (omega (arith, c .if1 .taken, view-length (a .image .now) (a .s)))
+
+fill-rows-requires : tie.Need-fill-rows-requires
+fill-rows-requires c κs = omega (arith, c .before .before .before .before .before .before .before .if1 .left)
+
+returns-2 : tie.Need-returns-2
+returns-2 c =
+    let a = c .before .before .before .before .before .before .before .before .before .before .before .before .before .before .before .before .before .before .before .before .before .before .before .before .before .before .before .before .before .before .before .before .before .before .before .before .before .before .before .before .before .before .before .before .before .before .args in
+    let f = c .before .before .before .before .before .before .before .before .before .before .before .before .before .before .before .before .before .before .before .before .before .before .before .before .before .before .before .before .fill-rows in
+    ap (λ (l : Lists). record { answer = Refused TooFewRows; left = l }) (c .before .before .before .before .before .before .before .before .before .before .before .before .before .before .clear-all .ensures ∙ zeroed-same (rows (c .before .before .before .before .before .before .before .before .before .before .before .before .before .before .before .before .before .before .before .before .before .before .before .before .before .before .before .before .before .before .before .before .before .before .before .before .before .before .before .before .before .before .before .before .before .before)) (a .placed .now) (a .noted .now) (f .last .1 .1 .1 .1 .1 .1 .1 .1 .1 .1 .0) (f .last .1 .1 .1 .1 .1 .1 .1 .1 .1 .1 .1 .0) (c .before .before .before .before .before .before .before .before .before .before .before .before .before .before .before .before .before .before .before .before .before .before .before .before .before .before .before .placed .given) (c .before .before .before .before .before .before .before .before .before .before .before .before .before .before .before .before .before .before .before .before .before .before .before .before .before .noted .given))
+    ∙ lacks-is (view (a .image .now) (a .s)) (a .asked) (a .library .now) (a .n) (lent (c .before .before .before .before .before .before .before .before .before .before .before .before .before .before .before .before .before .before .before .before .before .before .before .before .before .before .before .before .before .before .before .before .before .before .before .before .before .before .before .before .before .before .before .before .before .before)) (omega (arith, c .before .before .before .before .before .before .before .before .before .before .before .before .before .before .before .before .before .before .before .before .before .before .before .before .before .before .before .before .before .before .before .before .before .before .before .before .if1 .left, view-length (a .image .now) (a .s))) (f .last .1 .1 .1 .1 .1 .1 .1 .1 .1 .1 .0) (f .last .1 .1 .1 .1 .1 .1 .1 .1 .1 .1 .1 .0) (f .result) (f .ensures) (c .before .before .before .before .before .before .before .before .before .before .before .before .before .before .before .before .before .before .before .before .before .before .before .lacks-room .result) (c .before .before .before .before .before .before .before .before .before .before .before .before .before .before .before .before .before .before .before .before .before .before .before .lacks-room .ensures) (c .before .before .before .before .before .before .before .before .before .before .before .before .before .before .before .before .before .before .before .before .before .before .if2 .taken)
+
+returns-3 : tie.Need-returns-3
+returns-3 c =
+    let a = c .before .before .before .before .before .before .before .before .before .before .before .before .before .before .before .before .before .before .before .before .before .before .before .before .before .before .args in
+    let f = c .before .before .before .before .before .before .before .before .fill-rows in
+    done-is (view (a .image .now) (a .s)) (a .asked) (a .library .now) (a .n) (lent (c .before .before .before .before .before .before .before .before .before .before .before .before .before .before .before .before .before .before .before .before .before .before .before .before .before .before)) (omega (arith, c .before .before .before .before .before .before .before .before .before .before .before .before .before .before .before .before .if1 .left, view-length (a .image .now) (a .s))) (f .last .1 .1 .1 .1 .1 .1 .1 .1 .1 .1 .0) (f .last .1 .1 .1 .1 .1 .1 .1 .1 .1 .1 .1 .0) (f .result) (f .ensures) (c .before .before .before .lacks-room .result) (c .before .before .before .lacks-room .ensures) (c .before .before .if2 .left)
+
+pub search-spec : {M : Type 1} → statement M
+search-spec =
+    tie.close
+    (tie.spec
+    returns
+    fill-rows-requires
+    (λ c κs. search needs)
+    (λ c κs. search needs)
+    (λ c. search needs)
+    (λ c. search needs)
+    (λ c. search needs)
+    (λ c. search needs)
+    (λ c. search needs)
+    (λ c. search needs)
+    (λ c. search needs)
+    returns-2
+    (λ c. search needs)
+    (λ c. search needs)
+    (λ c. search needs)
+    (λ c. search needs)
+    (λ c. search needs)
+    (λ c. search needs)
+    (λ c. search needs)
+    returns-3)

@@ -1,0 +1,15 @@
+-- The search has one outcome, by its contract alone: the answer, and each lent list. Assumes nothing.
+use Prim.Native.Nat.{ℕ}
+use mathlib.Core.Path.{_≡_}
+use mathlib.Core.Bool.{_||_}
+use mathlib.Core.List.{List}
+use Rattle.lent.specs.OneOutcome.{Determines, by-equation}
+use Rattle.search.specs.declared.Asked.{Asked}
+use Rattle.searching.specs.declared.Fills.{Fills}
+use Rattle.searching.specs.Outcome.{Lists, Outcome, searched}
+
+pub search-one : (cells : List ℕ) (a : Asked) (library : List ℕ) (n : ℕ) (l : Lists) → Determines (λ (o : Outcome). o ≡ searched cells a library n l)
+search-one cells a library n l = by-equation (searched cells a library n l)
+
+pub lacks-room-one : (f : Fills) → Determines (λ r. r ≡ (f .placed .over || f .noted .over))
+lacks-room-one f = by-equation (f .placed .over || f .noted .over)
