@@ -73,28 +73,43 @@ def theorem(i, data, rules, names):
     return f"\npub case-{i} : caseOf {rules} {listing(data)}\n    ≡ record {{ {fields} }}\nunfolding {' '.join(names)}\ncase-{i} = refl\n"
 
 
-def write(repository, libraries):
+def write(repository, text):
     """A crate of theorems in a repository of the definition's crates."""
     home = repository / "crates" / "cases"
     (home / "src").mkdir(parents=True)
     (home / "specs").mkdir()
     (home / "src" / "lib.rt").write_text("// Cases, in specs/.\n", encoding="utf-8")
     (home / "specs" / "Lib.antt").write_text("pub mod Cases\n", encoding="utf-8")
+    (home / "specs" / "Cases.antt").write_text(text, encoding="utf-8")
+
+
+def stated(repository, libraries):
     uses, names = uses_and_names(own_names(unfoldable(repository, CRATES), IMPORTS))
-    stated = [theorem(2 * i + rules, data, rules, names) for i, data in enumerate(libraries) for rules in (0, 1)]
-    (home / "specs" / "Cases.antt").write_text(IMPORTS + "".join(uses) + STATED + "".join(stated), encoding="utf-8")
+    theorems = [theorem(2 * i + rules, data, rules, names) for i, data in enumerate(libraries) for rules in (0, 1)]
+    return IMPORTS + "".join(uses) + STATED + "".join(theorems)
 
 
-def copied(definition, repository):
+def copied(definition, repository, crates):
     """The definition's crates, with what was proved of them, since they are not changed."""
     lines = (definition / "crates.txt").read_text(encoding="utf-8").splitlines()
-    own = [each for each in lines if each.split(":")[0] in CRATES]
-    (repository / "crates.txt").write_text("\n".join(own + [f"cases: {' '.join(CRATES)}"]) + "\n", encoding="utf-8")
-    folders = [f"crates/{crate}" for crate in CRATES] + ["target/rlib", "target/stamp"]
+    own = [each for each in lines if each.split(":")[0] in crates]
+    (repository / "crates.txt").write_text("\n".join(own + [f"cases: {' '.join(crates)}"]) + "\n", encoding="utf-8")
+    folders = [f"crates/{crate}" for crate in crates] + ["target/rlib", "target/stamp"]
     for folder in folders:
         if (definition / folder).is_dir():
             (repository / folder).parent.mkdir(parents=True, exist_ok=True)
             subprocess.run(["cp", "-r", definition / folder, repository / folder], check=True)
+
+
+def proved(definition, crates, text_of):
+    """Whether the checker proves the theorems that a text over the copied definition states; its output is shown if not."""
+    with tempfile.TemporaryDirectory() as folder:
+        copied(definition.resolve(), Path(folder), crates)
+        write(Path(folder), text_of(Path(folder)))
+        done = subprocess.run(["rt", "check", "cases"], cwd=folder, stdout=subprocess.PIPE, stderr=subprocess.STDOUT, check=False)
+    if done.returncode:
+        print(done.stdout.decode(errors="replace")[-6000:])
+    return done.returncode == 0
 
 
 def main():
@@ -104,12 +119,7 @@ def main():
     options.add_argument("--libraries", type=int, default=100)
     given = options.parse_args()
     libraries = chosen(given.seed, given.libraries)
-    with tempfile.TemporaryDirectory() as folder:
-        copied(given.definition.resolve(), Path(folder))
-        write(Path(folder), libraries)
-        done = subprocess.run(["rt", "check", "cases"], cwd=folder, stdout=subprocess.PIPE, stderr=subprocess.STDOUT, check=False)
-    if done.returncode:
-        print(done.stdout.decode(errors="replace")[-6000:])
+    if not proved(given.definition, CRATES, lambda repository: stated(repository, libraries)):
         return 1
     print(f"seed {given.seed}: {len(libraries)} libraries under both rule sets, all as the definition computes")
     return 0

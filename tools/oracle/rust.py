@@ -44,6 +44,11 @@ def packed_to_collect(library):
     return asking(16, 0, 0, b"", library)
 
 
+def packed_to_search(image, library, check, minimum):
+    """Reading, collecting, and the two lists that the search leaves."""
+    return asking(32 | check, minimum, 0, image, library)
+
+
 def answers(program, asked):
     """One answer a case, the printed table beside it under "printed"."""
     said = subprocess.run([program], input=b"".join(asked), stdout=subprocess.PIPE, check=True).stdout

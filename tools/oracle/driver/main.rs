@@ -2,12 +2,13 @@
 //!
 //! stdin: any number of cases, each
 //!   flags u8 (1 = check, 2 = a skip amount is given, 4 = also print the table, 8 = only read the library,
-//!     16 = only read it and collect its segments)
+//!     16 = only read it and collect its segments, 32 = only search, and list nothing)
 //!   minimum, skip (u64 LE each), image length u32 LE, image, library length u32 LE, library
 //! stdout: per case one JSON line
 //!   {"case":n,"outcome":"ok","ns":..,"rows":[{location,name,goodness,description}..]}
 //!   {"case":n,"outcome":"read","ns":..,"text":".."} with flag 8: the Debug form of all that was read
 //!   {"case":n,"outcome":"collected","ns":..,"segments":[..]} with flag 16: the segments as shown.rs puts them
+//!   {"case":n,"outcome":"searched","ns":..,"placed":[..],"noted":[..]} with flag 32: what shown.rs shows of both lists
 //!   {"case":n,"outcome":"unread"|"convert error"|"panic","text":"..","stage":"read|convert|search|list"}
 //!   the text of "unread" is "incomplete" where a record's body passes the file's end, else "error .."
 //! and, if flag 4 is set and the outcome is ok, the very output of print_segrefs between the lines
@@ -15,7 +16,9 @@
 #![allow(dead_code)]
 mod libfind;
 
-use libfind::{aslink3::shown, omf51::Omf51Objects, print_segrefs, process_segrefs, SegmentCollection, Segref};
+use libfind::{
+    aslink3::shown, omf51::Omf51Objects, print_segrefs, process_segrefs, Pubsymref, RefHashMap, SegmentCollection, Segref,
+};
 use std::cell::Cell;
 use std::collections::HashMap;
 use std::convert::TryInto;
@@ -27,6 +30,7 @@ enum Outcome {
     Ok(Vec<Segref>),
     Read(String),
     Collected(Vec<serde_json::Value>),
+    Searched(serde_json::Value, serde_json::Value),
     Unread(String),
     Convert(&'static str),
 }
@@ -60,6 +64,23 @@ fn collect(library: &[u8], stage: &Cell<&'static str>) -> Result<SegmentCollecti
     let objects = Omf51Objects::new(library).map_err(|e| Outcome::Unread(unread(e, library)))?;
     stage.set("convert");
     objects.try_into().map_err(Outcome::Convert)
+}
+
+/// Searching alone. The list of positions is so much longer than the image that a symbol placed past the image's end has an
+/// entry too, where `find_segments` would else panic: an offset and an address have 16 bits each.
+fn search(
+    image: &[u8],
+    library: &[u8],
+    check: bool,
+    minimum: usize,
+    stage: &Cell<&'static str>,
+) -> Result<(Vec<Vec<Pubsymref>>, RefHashMap), Outcome> {
+    let collection = collect(library, stage)?;
+    stage.set("search");
+    let mut cslist = vec![Vec::new(); image.len() + 0x20000];
+    let mut rslist = HashMap::new();
+    collection.find_segments(image, &mut cslist, &mut rslist, check, minimum);
+    Ok((cslist, rslist))
 }
 
 fn run(
@@ -118,6 +139,11 @@ fn main() {
                     Ok(c) => Outcome::Collected(shown::segments(&c)),
                     Err(outcome) => outcome,
                 }
+            } else if flags & 32 != 0 {
+                match search(image, library, check, minimum, &stage) {
+                    Ok((cslist, rslist)) => Outcome::Searched(shown::placed(&cslist), shown::noted(&rslist)),
+                    Err(outcome) => outcome,
+                }
             } else {
                 run(image, library, check, minimum, skip, &stage)
             }
@@ -133,6 +159,9 @@ fn main() {
             }
             Ok(Outcome::Collected(segments)) => {
                 serde_json::json!({"case": case, "outcome": "collected", "ns": ns, "segments": segments})
+            }
+            Ok(Outcome::Searched(placed, noted)) => {
+                serde_json::json!({"case": case, "outcome": "searched", "ns": ns, "placed": placed, "noted": noted})
             }
             Ok(Outcome::Unread(t)) => {
                 serde_json::json!({"case": case, "outcome": "unread", "ns": ns, "text": t})

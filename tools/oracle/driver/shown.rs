@@ -1,5 +1,5 @@
-//! What the Rust collected, as JSON: all that its segments hold.
-use crate::libfind::{CodeRef, Fixup, RefType, SegType, Segment, SegmentCollection};
+//! What the Rust collected, as JSON: all that its segments hold; and what its search left in its two lists.
+use crate::libfind::{CodeRef, Fixup, Pubsymref, RefHashMap, RefKind, RefType, SegType, Segment, SegmentCollection};
 use serde_json::{json, Value};
 
 /// How a fixup makes an address is a function, so its kind is told by what that function makes of two bytes.
@@ -37,4 +37,22 @@ fn segment(s: &Segment) -> Value {
 
 pub fn segments(collection: &SegmentCollection) -> Vec<Value> {
     collection.segments.iter().map(segment).collect()
+}
+
+/// The positions that have symbols, ascending; of each symbol, in the order pushed, name, validity, and what its match noted
+/// (target and name).
+pub fn placed(cslist: &[Vec<Pubsymref>]) -> Value {
+    let symbol = |s: &Pubsymref| json!([s.name, s.valid, s.refs]);
+    let at = |(position, symbols): (usize, &Vec<Pubsymref>)| json!([position, symbols.iter().map(symbol).collect::<Vec<_>>()]);
+    let some = cslist.iter().enumerate().filter(|(_, symbols)| !symbols.is_empty());
+    Value::Array(some.map(at).collect())
+}
+
+/// The targets, ascending; of each name, in the order noted, its validity.
+pub fn noted(rslist: &RefHashMap) -> Value {
+    let mut targets: Vec<_> = rslist.iter().collect();
+    targets.sort_by_key(|(target, _)| **target);
+    let name = |(name, kind): &(String, RefKind)| json!([name, *kind == RefKind::Valid]);
+    let at = |(target, names): (&usize, &Vec<(String, RefKind)>)| json!([target, names.iter().map(name).collect::<Vec<_>>()]);
+    Value::Array(targets.into_iter().map(at).collect())
 }
