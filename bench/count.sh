@@ -6,6 +6,10 @@ set -eu
 [ $# -ge 3 ] || { echo "usage: count.sh EMULATOR PLUGIN PROGRAM ARGS.." >&2; exit 2; }
 emulator=$1 plugin=$2
 shift 2
+# The emulator counts an instruction for each byte of a `rep stosb`, where a processor counts one for all: so the C library is told to
+# fill and copy memory by vectors, in whichever program is counted.
+GLIBC_TUNABLES=glibc.cpu.x86_rep_stosb_threshold=1000000000:glibc.cpu.x86_rep_movsb_threshold=1000000000
+export GLIBC_TUNABLES
 counts=$(mktemp)
 trap 'rm -f "$counts"' EXIT
 status=0

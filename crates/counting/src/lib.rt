@@ -1,4 +1,5 @@
-// What bench/ counts the instructions of: a library read and gone over once, a library read only, and its segments collected.
+// What bench/ counts the instructions of: a library read and gone over once, a library read only, its segments collected, and an image searched
+// for them.
 mod items;
 mod passes;
 
@@ -8,8 +9,12 @@ use fixup::Rules;
 use lent::refusal::number;
 use lent::rows::put;
 use modules::Reading;
-use modules::file::read;
 use passes::over_modules;
+use pattern::Stretch;
+use reader::file::read;
+use search::Asked;
+use searching::Searched;
+use searching::entry::search;
 
 // A sum over all that the library says; 0 with a refusal.
 #[no_mangle]
@@ -64,5 +69,51 @@ pub extern "C" fn count_collecting(
             Collection::Refused(r) => number(r),
         },
         Reading::Refused(r) => number(r),
+    }
+}
+
+// The number that searching an image for the first n of the segments that were collected comes to, as found and with nothing withheld; 0 leaves
+// how many symbols are placed and names noted in `counts`.
+#[no_mangle]
+pub extern "C" fn count_searching(
+    image: &[u8],
+    check: bool,
+    minimum: usize,
+    library: &[u8],
+    n: usize,
+    counts: &mut [u64],
+    segments: &mut [u64],
+    references: &mut [u64],
+    symbols: &mut [u64],
+    bytes: &mut [u8],
+    masks: &mut [u8],
+    placed: &mut [u64],
+    noted: &mut [u64],
+) -> u8 {
+    let asked = Asked {
+        rules: Rules::Found,
+        check,
+        minimum,
+    };
+    match search(
+        image,
+        Stretch { start: 0, len: 0 },
+        asked,
+        library,
+        n,
+        segments,
+        references,
+        symbols,
+        bytes,
+        masks,
+        placed,
+        noted,
+    ) {
+        Searched::Done(rows) => {
+            let cells = [rows.placed as u64, rows.noted as u64];
+            put(counts, 0, &cells);
+            0
+        }
+        Searched::Refused(r) => number(r),
     }
 }

@@ -5,7 +5,6 @@ use crate::items::of_fixup;
 use crate::items::plus;
 use modules::ModuleAt;
 use modules::Places;
-use modules::module::module_at;
 use walk::Cursor;
 use walk::NextContent;
 use walk::NextDefinition;
@@ -14,6 +13,7 @@ use walk::contents::next_content;
 use walk::entries::start;
 use walk::items::next_definition;
 use walk::items::next_fixup;
+use whole::module::module_at;
 
 fn over_definitions(library: &[u8], definitions: usize) -> usize {
     let mut sum = 0;
