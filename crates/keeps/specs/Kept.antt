@@ -1,32 +1,18 @@
 -- The kept segments of a module, by its tables.
 use Prim.Native.Nat.{ℕ, _-_, _<_}
 use mathlib.Core.Path.{_≡_}
-use mathlib.Core.Bool.{Bool, false}
 use mathlib.Core.List.{List, map}
-use lib.Dec.{eqb}
-use lib.ListN.{length, getD}
-use Rattle.lent.specs.Choice.{if_then_else_}
+use lib.ListN.{length}
 use Rattle.lent.specs.Lists.{one, numbered}
-use Rattle.omf51.specs.declared.ModuleId.{ModuleId}
 use Rattle.omf51.specs.declared.Definition.{Definition}
 use Rattle.omf51.specs.Module.{Module, definitionsAt}
 use Rattle.modules.specs.Found.{found}
 use Rattle.segments.specs.Ids.{kept}
 use Rattle.segments.specs.Collect.{Collected, keptSegment}
-use Rattle.ids.specs.declared.KeptAs.{KeptAs}
-use Rattle.ids.specs.declared.KeptAs.the-variants.{None, Place}
-use Rattle.ids.specs.declared.IdRow.{IdRow}
 use Rattle.indexing.specs.Indexed.{Indexed}
 use Rattle.storing.specs.declared.Counts.{Counts}
 use Rattle.storing.specs.declared.Stored.{Stored}
 use Rattle.storing.specs.Stores.{Lists, Extends, SameLengths}
-
-abbrev pub isFirst : KeptAs → ℕ → Bool
-isFirst None place = false
-isFirst (Place p size) place = eqb p place
-
-abbrev pub linkAt : List ℕ → ModuleId → IdRow → ℕ → ℕ
-linkAt heads id row place = if isFirst (row .kept) place then getD heads (id .0) 0 else 0
 
 pub record StoresDefinition (library : List ℕ) (d : Definition) (number : ℕ) (table first next places heads onward entries : List ℕ) (c : Counts) (l : Lists) (apart : List ℕ) (after : Lists) (apart′ : List ℕ) (w : Stored) : Type 0 where
   pub long : SameLengths l after

@@ -29,7 +29,8 @@ use Rattle.storing.specs.Stores.{Lists, Room, Extends}
 use Rattle.storing.specs.Progress.{Progress}
 use Rattle.storing.specs.ProgressLaws.{progress-count, progress-begun, progress-on, progress-lacks}
 use Rattle.storing.specs.Segments.{sectionsFor}
-use Rattle.keeps.specs.Kept.{isFirst, linkAt, keptSegments}
+use Rattle.owning.specs.Owned.{isFirst, linkAt}
+use Rattle.keeps.specs.Kept.{keptSegments}
 
 none-past : {A : Type 0} (xs : List A) (k : ℕ) → getElem? xs k ≡ none → length xs ≤ k
 none-past [] k e = omega arith

@@ -1,20 +1,18 @@
 // The kept segments of a module, in the order of their definitions.
 ghost use mathlib.Core.Path.{_≡_};
 ghost use Prim.Native.Nat.{_≤_};
-ghost use lib.ListN.{length, getD};
+ghost use lib.ListN.{length};
 ghost use Rattle.segments.specs.Ids.{sizeOf};
 ghost use Rattle.chains.specs.Referring.{Placeable};
 ghost use Rattle.storing.specs.Segments.{lists};
-ghost use Rattle.keeps.specs.Kept.{isFirst, linkAt, StoresDefinition, StoresKeeps};
-use ids::IdRow;
-use ids::KeptAs;
+ghost use Rattle.keeps.specs.Kept.{StoresDefinition, StoresKeeps};
 use ids::row::id_row;
 use ids::table::id_of;
 use ids::table::is_kept;
 use kept::store_kept;
-use links::number_at;
 use omf51::Definition;
-use omf51::ModuleId;
+use owning::head_of;
+use owning::link_at;
 use storing::Counts;
 use storing::Stored;
 use storing::row::since;
@@ -36,32 +34,6 @@ fn size_of(d: Definition) -> usize
         Definition::Public { id, offset, name } => 0,
         Definition::External { id, info, name } => 0,
     }
-}
-
-pub fn head_of(heads: &[u32], id: ModuleId) -> u32
-    ensures { λ r. ⌜ r ≡ getD (now (heads .entry)) (id .0) 0 ⌝ }
-{
-    number_at(heads, id.0 as usize) as u32
-}
-
-// The contents of an id go to the first kept segment of it; another one of the same id has none.
-fn is_first(kept: KeptAs, place: usize) -> bool
-    ensures { λ r. ⌜ r ≡ isFirst kept place ⌝ }
-{
-    match kept {
-        KeptAs::None => false,
-        KeptAs::Place { place: p, size } => p == place,
-    }
-}
-
-fn link_at(heads: &[u32], id: ModuleId, row: IdRow, place: usize) -> u32
-    ensures { λ r. ⌜ r ≡ linkAt (now (heads .entry)) id row place ⌝ }
-{
-    let kept = row.kept;
-    if is_first(kept, place) {
-        return head_of(heads, id);
-    }
-    0
 }
 
 // One kept segment, `number` being that of its module's first.

@@ -14,8 +14,8 @@ use named::find;
 use named::head_at;
 use named::set_heads;
 use search::Noted;
-use search::rows::noted_at;
-use search::rows::put_noted;
+use sheets::noted_at;
+use sheets::put_noted;
 
 // One row more, behind those before, if there is room.
 fn append_noted(m: &mut [u64], f: Fill, row: Noted) -> Fill

@@ -1,7 +1,5 @@
--- The index of an image's bytes, and a search along its links.
+-- The index of an image's bytes, and the byte of a pattern whose links are followed.
 pub mod Index
 pub mod IndexLaws
-pub mod Cursor
-pub mod CursorLaws
-pub mod StepLaws
+pub mod Anchor
 pub mod OneOutcome

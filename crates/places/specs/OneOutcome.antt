@@ -1,39 +1,13 @@
--- Whatever byte is the anchor, a search starts with the same matches and steps through them alike, by the contracts alone; and there is one index. Assumes nothing.
+-- There is one index, by the contract alone. Assumes nothing.
 use Prim.Native.Nat.{ℕ, _<_}
-use mathlib.Core.Path.{_≡_, sym, _∙_}
-use mathlib.Core.List.{List, [], _∷_}
+use mathlib.Core.Path.{_≡_}
+use mathlib.Core.List.{List}
 use lib.ListN.{length, getD}
-use Rattle.pattern.specs.declared.Seat.{Seat}
-use Rattle.pattern.specs.declared.Stretch.{Stretch}
-use Rattle.pattern.specs.View.{view}
 use Rattle.links.specs.OneOutcome.{link-one}
-use Rattle.places.specs.declared.cursor.Cursor.{Cursor}
-use Rattle.places.specs.declared.cursor.Next.{Next}
-use Rattle.places.specs.declared.cursor.Next.the-variants.{At, Done}
 use Rattle.places.specs.Index.{Indexed}
 use Rattle.places.specs.IndexLaws.{linked-all}
-use Rattle.places.specs.Cursor.{placesLeft, Started, Stepped}
 
 -- `index`: the head of each byte, and the link of each place
 pub index-one : (image first next first′ next′ : List ℕ) → Indexed image first next → Indexed image first′ next′
     → ((byte : ℕ) → byte < 256 → getD first byte 0 ≡ getD first′ byte 0) × ((j : ℕ) → j < length image → getD next j 0 ≡ getD next′ j 0)
 index-one image first next first′ next′ p q = link-one image first next first′ next′ (linked-all p) (linked-all q)
-
--- `start`: the matches left
-pub start-one : (image : List ℕ) (seat : Seat) (bytes masks : List ℕ) (a b : Cursor) → Started image seat bytes masks a → Started image seat bytes masks b
-    → (s : Stretch) → placesLeft (view image s) bytes masks a ≡ placesLeft (view image s) bytes masks b
-start-one image seat bytes masks a b p q s = p .all s ∙ sym (q .all s)
-
--- `next_place`: the match and those left after it
-abbrev leaves : List ℕ → List ℕ → List ℕ → Next → List ℕ
-leaves cells bytes masks (At at rest) = at ∷ placesLeft cells bytes masks rest
-leaves cells bytes masks Done = []
-
-module _ (image : List ℕ) (s : Stretch) (bytes masks : List ℕ) (c : Cursor) where
-  stepped-leaves : (r : Next) → Stepped image s bytes masks c r → placesLeft (view image s) bytes masks c ≡ leaves (view image s) bytes masks r
-  stepped-leaves (At at rest) p = p .places
-  stepped-leaves Done p = p
-
-  pub next-place-one : (a b : Next) → Stepped image s bytes masks c a → Stepped image s bytes masks c b
-      → leaves (view image s) bytes masks a ≡ leaves (view image s) bytes masks b
-  next-place-one a b p q = sym (stepped-leaves a p) ∙ stepped-leaves b q

@@ -1,7 +1,7 @@
 // The byte of a pattern by whose links its matches are found.
 ghost use Prim.Native.Nat.{_≤_};
 ghost use lib.ListN.{length};
-ghost use Rattle.places.specs.Cursor.{Anchored};
+ghost use Rattle.places.specs.Anchor.{Anchored};
 use pattern::Found;
 
 fn lesser(a: usize, b: usize) -> usize

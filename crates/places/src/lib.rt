@@ -1,4 +1,3 @@
-// The places where a masked pattern matches an image, found by the links of one of its bytes.
-mod anchor;
-pub mod cursor;
+// The places of each byte of an image, by links, and the byte of a masked pattern whose links are followed.
+pub mod anchor;
 pub mod index;

@@ -13,10 +13,10 @@ use named::head_at;
 use named::set_heads;
 use recall::lies_within;
 use search::Placed;
-use search::rows::put_placed;
 use segments::SegmentNumber;
 use segments::Symbol;
 use segments::rows::symbol_at;
+use sheets::put_placed;
 
 // One row more, behind those before, if there is room.
 fn append_placed(m: &mut [u64], f: Fill, row: Placed) -> Fill

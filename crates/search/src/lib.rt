@@ -1,6 +1,4 @@
 // Searching an image for the segments: symbols placed, and names noted by references.
-pub mod rows;
-
 use fixup::Rules;
 use lent::part::Part;
 use segments::SegmentNumber;

@@ -14,9 +14,9 @@ use Rattle.lent.specs.Rows.{zeros}
 use Rattle.filling.specs.declared.Fill.{Fill}
 use Rattle.search.specs.declared.Asked.{Asked}
 use Rattle.search.specs.Search.{Placing, Noting, placed, noted}
-use Rattle.searching.specs.declared.Fills.{Fills}
+use Rattle.visiting.specs.declared.Fills.{Fills}
 use Rattle.searching.specs.declared.Searched.the-variants.{Done, Refused}
-use Rattle.searching.specs.Visits.{Stored, stored, segmentsIn}
+use Rattle.visiting.specs.Visits.{Stored, stored, segmentsIn}
 use Rattle.searching.specs.Outcome.{Lists, Outcome, tooFew, refusalOf, zeroed, filledWith, outcomeOf, searched}
 use Rattle.searching.specs.Fills.{Fitted, FillsRows}
 

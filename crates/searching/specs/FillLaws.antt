@@ -15,8 +15,8 @@ use Rattle.places.specs.Index.{Ready}
 use Rattle.search.specs.declared.Asked.{Asked}
 use Rattle.search.specs.Search.{placed, noted}
 use Rattle.search.specs.SearchRows.{placedSheet, notedSheet, placedNumbers, notedNumbers}
-use Rattle.searching.specs.declared.Fills.{Fills}
-use Rattle.searching.specs.Visits.{Stored, segmentsIn, VisitsAll}
+use Rattle.visiting.specs.declared.Fills.{Fills}
+use Rattle.visiting.specs.Visits.{Stored, segmentsIn, VisitsAll}
 use Rattle.searching.specs.Fills.{FillsRows}
 
 abbrev pub noRows : Fills

@@ -9,8 +9,8 @@ use Rattle.filling.specs.declared.Fill.{Fill}
 use Rattle.search.specs.declared.Asked.{Asked}
 use Rattle.search.specs.Search.{placed, noted}
 use Rattle.search.specs.SearchRows.{placedWidth, notedWidth, placedNumbers, notedNumbers}
-use Rattle.searching.specs.declared.Fills.{Fills}
-use Rattle.searching.specs.Visits.{Stored, segmentsIn}
+use Rattle.visiting.specs.declared.Fills.{Fills}
+use Rattle.visiting.specs.Visits.{Stored, segmentsIn}
 
 -- memory after: so many rows and then zeros, or they are too many for memory as it was
 pub record Fitted (width count : ℕ) (numbers before after : List ℕ) (f : Fill) : Type 0 where

@@ -1,9 +1,4 @@
 -- Searching an image for the segments that are stored in lent memory.
-pub mod Visits
-pub mod VisitLaws
-pub mod Leading
-pub mod LeadingLaws
-pub mod SegmentLaws
 pub mod Fills
 pub mod FillLaws
 pub mod Outcome

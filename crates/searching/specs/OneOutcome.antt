@@ -5,7 +5,7 @@ use mathlib.Core.Bool.{_||_}
 use mathlib.Core.List.{List}
 use Rattle.lent.specs.OneOutcome.{Determines, by-equation}
 use Rattle.search.specs.declared.Asked.{Asked}
-use Rattle.searching.specs.declared.Fills.{Fills}
+use Rattle.visiting.specs.declared.Fills.{Fills}
 use Rattle.searching.specs.Outcome.{Lists, Outcome, searched}
 
 pub search-one : (cells : List ℕ) (a : Asked) (library : List ℕ) (n : ℕ) (l : Lists) → Determines (λ (o : Outcome). o ≡ searched cells a library n l)

@@ -15,7 +15,7 @@ use Rattle.search.specs.Search.{Placing, Noting, placed, noted}
 use Rattle.search.specs.SearchRows.{placedWidth, notedWidth, placedNumbers, notedNumbers}
 use Rattle.searching.specs.declared.Searched.{Searched}
 use Rattle.searching.specs.declared.Searched.the-variants.{Done, Refused}
-use Rattle.searching.specs.Visits.{Stored, segmentsIn}
+use Rattle.visiting.specs.Visits.{Stored, segmentsIn}
 
 -- the lent lists: those in which the segments are stored, and those of the search's rows
 pub record Lists : Type 0 where

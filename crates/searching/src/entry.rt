@@ -1,7 +1,7 @@
 // The entry point of the search.
 ghost use mathlib.Core.Path.{_≡_};
 ghost use Rattle.pattern.specs.View.{view};
-ghost use Rattle.searching.specs.Visits.{stored};
+ghost use Rattle.visiting.specs.Visits.{stored};
 ghost use Rattle.searching.specs.Outcome.{zeroed, searched};
 use crate::Rows;
 use crate::Searched;
@@ -14,7 +14,7 @@ use pattern::Stretch;
 use search::Asked;
 
 // All that was lent is set to zero.
-fn clear_all(
+pub fn clear_all(
     segments: &mut [u64],
     references: &mut [u64],
     symbols: &mut [u64],

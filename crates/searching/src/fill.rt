@@ -4,10 +4,8 @@ ghost use mathlib.Core.Bool.{_||_};
 ghost use Prim.Native.Nat.{_≤_};
 ghost use lib.ListN.{length};
 ghost use Rattle.pattern.specs.View.{view};
-ghost use Rattle.searching.specs.Visits.{stored};
+ghost use Rattle.visiting.specs.Visits.{stored};
 ghost use Rattle.searching.specs.Fills.{FillsRows};
-use crate::Fills;
-use crate::all::search_all;
 use filling::Fill;
 use lent::rows::clear;
 use pattern::Stretch;
@@ -16,6 +14,8 @@ use rooms::bucket_heads;
 use rooms::byte_heads;
 use rooms::place_links;
 use search::Asked;
+use visiting::Fills;
+use visiting::all::search_all;
 
 // Whether there was no room for a row.
 pub fn lacks_room(f: Fills) -> bool

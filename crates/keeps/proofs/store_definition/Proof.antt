@@ -13,7 +13,7 @@ use Rattle.ids.specs.IdRows.{idRowAt}
 use Rattle.storing.specs.Stores.{After}
 use Rattle.storing.specs.Segments.{lists, keptOf, sectionsFor, publicsOf}
 use Rattle.storing.specs.SegmentLaws.{kept-by}
-use Rattle.keeps.specs.Kept.{linkAt}
+use Rattle.owning.specs.Owned.{linkAt}
 use Rattle.keeps.specs.KeptLaws.{sections-follow}
 use borrow.Author.Needs.{needs}
 use Rattle.keeps.proofs.store_definition.Statement.{statement}

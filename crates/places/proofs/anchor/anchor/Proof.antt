@@ -6,7 +6,7 @@ use mathlib.Core.Logic.{⊎-elim}
 use native.Mathlib.Omega.{arith}
 use lib.ListN.{length, getD}
 use denote.Ref.{now}
-use Rattle.places.specs.Cursor.{Anchor}
+use Rattle.places.specs.Anchor.{Anchor}
 use borrow.Author.Needs.{needs}
 use Rattle.places.proofs.anchor.anchor.Statement.{statement}
 use Rattle.places.proofs.anchor.anchor.Tie as tie

@@ -1,5 +1,5 @@
 -- `clear_all` clears one list after another. Assumes nothing.
-use Rattle.searching.specs.Visits.{stored}
+use Rattle.visiting.specs.Visits.{stored}
 use Rattle.searching.specs.EndLaws.{zeroed-is}
 use borrow.Author.Needs.{needs}
 use Rattle.searching.proofs.entry.clear_all.Statement.{statement}

@@ -1,14 +1,13 @@
 -- `search`: too long an image, too few rows, or all rows. Assumes nothing.
-use mathlib.Core.Path.{ap, _∙_}
+use mathlib.Core.Path.{refl, ap, _∙_}
 use native.Mathlib.Omega.{arith}
 use Rattle.lent.specs.declared.refusal.Refusal.the-variants.{TooFewRows}
 use Rattle.pattern.specs.View.{view}
 use Rattle.pattern.specs.ViewLaws.{view-length}
 use Rattle.searching.specs.declared.Searched.the-variants.{Refused}
-use Rattle.searching.specs.Visits.{Stored, stored}
+use Rattle.visiting.specs.Visits.{Stored, stored}
 use Rattle.searching.specs.Outcome.{Lists}
 use Rattle.searching.specs.EndLaws.{long-is, lacks-is, done-is, zeroed-same}
-use borrow.Author.Needs.{needs}
 use Rattle.searching.proofs.entry.search.Statement.{statement}
 use Rattle.searching.proofs.entry.search.Tie as tie
 
@@ -39,27 +38,55 @@ returns-3 c =
     let f = c .before .before .before .before .before .before .before .before .fill-rows in
     done-is (view (a .image .now) (a .s)) (a .asked) (a .library .now) (a .n) (lent (c .before .before .before .before .before .before .before .before .before .before .before .before .before .before .before .before .before .before .before .before .before .before .before .before .before .before)) (omega (arith, c .before .before .before .before .before .before .before .before .before .before .before .before .before .before .before .before .if1 .left, view-length (a .image .now) (a .s))) (f .last .1 .1 .1 .1 .1 .1 .1 .1 .1 .1 .0) (f .last .1 .1 .1 .1 .1 .1 .1 .1 .1 .1 .1 .0) (f .result) (f .ensures) (c .before .before .before .lacks-room .result) (c .before .before .before .lacks-room .ensures) (c .before .before .if2 .left)
 
+-- lists that were lent keep their lengths, cleared or not
+same-length : tie.Need-same-length
+same-length c = c .before .before .before .before .before .before .before .before .before .before .before .before .before .segments .given
+
+same-length-2 : tie.Need-same-length-2
+same-length-2 c = c .before .before .before .before .before .before .before .before .before .before .before .references .given
+
+same-length-3 : tie.Need-same-length-3
+same-length-3 c = c .before .before .before .before .before .before .before .before .before .symbols .given
+
+same-length-4 : tie.Need-same-length-4
+same-length-4 c = c .before .before .before .before .before .before .before .bytes .given
+
+same-length-5 : tie.Need-same-length-5
+same-length-5 c = c .before .before .before .before .before .masks .given
+
+same-length-6 : tie.Need-same-length-6
+same-length-6 c = c .before .before .before .placed2 .given ∙ c .before .before .before .before .before .before .before .before .before .before .before .before .before .before .before .before .before .before .before .before .before .before .before .before .before .before .before .placed .given
+
+same-length-7 : tie.Need-same-length-7
+same-length-7 c = c .before .noted2 .given ∙ c .before .before .before .before .before .before .before .before .before .before .before .before .before .before .before .before .before .before .before .before .before .before .before .before .before .noted .given
+
+same-length-13 : tie.Need-same-length-13
+same-length-13 c = c .before .before .before .before .before .before .before .placed .given
+
+same-length-14 : tie.Need-same-length-14
+same-length-14 c = c .before .before .before .before .before .noted .given
+
 pub search-spec : {M : Type 1} → statement M
 search-spec =
     tie.close
     (tie.spec
     returns
     fill-rows-requires
-    (λ c κs. search needs)
-    (λ c κs. search needs)
-    (λ c. search needs)
-    (λ c. search needs)
-    (λ c. search needs)
-    (λ c. search needs)
-    (λ c. search needs)
-    (λ c. search needs)
-    (λ c. search needs)
+    (λ c κs. tt)
+    (λ c κs. tt)
+    same-length
+    same-length-2
+    same-length-3
+    same-length-4
+    same-length-5
+    same-length-6
+    same-length-7
     returns-2
-    (λ c. search needs)
-    (λ c. search needs)
-    (λ c. search needs)
-    (λ c. search needs)
-    (λ c. search needs)
-    (λ c. search needs)
-    (λ c. search needs)
+    (λ c. refl)
+    (λ c. refl)
+    (λ c. refl)
+    (λ c. refl)
+    (λ c. refl)
+    same-length-13
+    same-length-14
     returns-3)

@@ -1,7 +1,7 @@
 -- `fill_rows`: rows are cleared, the image is indexed, and all segments are searched. Assumes nothing.
 use mathlib.Core.Path.{_∙_}
 use Rattle.pattern.specs.View.{view}
-use Rattle.searching.specs.Visits.{stored}
+use Rattle.visiting.specs.Visits.{stored}
 use Rattle.searching.specs.FillLaws.{rows-filled, zeros-ready}
 use borrow.Author.Needs.{needs}
 use Rattle.searching.proofs.fill.fill_rows.Statement.{statement}

@@ -1,0 +1,2 @@
+-- The kept segment that has the contents of an id.
+pub mod Owned

@@ -1,0 +1,5 @@
+-- A search along the links of an image's bytes.
+pub mod Cursor
+pub mod CursorLaws
+pub mod StepLaws
+pub mod OneOutcome
