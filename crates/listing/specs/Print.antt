@@ -47,5 +47,8 @@ printedLine library l =
     ++ column 22 (bracketed (l .grade) name) ++ text " "
     ++ remark (describe name) ++ text "\n"
 
+abbrev pub heading : List ℕ
+heading = text "Address | Name                 | Description\n"
+
 unfoldable pub printed : List ℕ → List Line → List ℕ
-printed library lines = text "Address | Name                 | Description\n" ++ joined (printedLine library) lines
+printed library lines = heading ++ joined (printedLine library) lines

@@ -15,4 +15,5 @@ pub mod GrowLaws
 pub mod TakeLaws
 pub mod OneLaws
 pub mod HeadLaws
+pub mod ChainLaws
 pub mod OneOutcome
