@@ -1,0 +1,11 @@
+-- Ordering: the lines of a position in byte order of their names; each file of laws stands behind its definitions.
+pub mod Sorting
+pub mod InsertLaws
+pub mod RisingLaws
+pub mod NameOrderLaws
+pub mod Order
+pub mod Passing
+pub mod OrderLaws
+pub mod RegionLaws
+pub mod SinkLaws
+pub mod PassLaws
