@@ -1,0 +1,17 @@
+-- Each of the three functions has one outcome, the answer and the buffer afterwards, by its contract alone. Assumes nothing.
+use Prim.Native.Nat.{ℕ}
+use mathlib.Core.Path.{_≡_}
+use mathlib.Core.List.{List}
+use Rattle.lent.specs.OneOutcome.{Determines, by-equation}
+use Rattle.listing.specs.declared.Line.{Line}
+use Rattle.listing.specs.Print.{heading, printedLine, printed}
+use Rattle.printing.specs.Printing.{fittedText, storedLines}
+
+pub print-heading-one : (out : List ℕ) → Determines (λ o. o ≡ fittedText heading out)
+print-heading-one out = by-equation (fittedText heading out)
+
+pub print-line-one : (library : List ℕ) (line : Line) (out : List ℕ) → Determines (λ o. o ≡ fittedText (printedLine library line) out)
+print-line-one library line out = by-equation (fittedText (printedLine library line) out)
+
+pub print-one : (library lines : List ℕ) (n : ℕ) (out : List ℕ) → Determines (λ o. o ≡ fittedText (printed library (storedLines lines n)) out)
+print-one library lines n out = by-equation (fittedText (printed library (storedLines lines n)) out)

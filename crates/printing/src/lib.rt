@@ -1,0 +1,90 @@
+// The list in its printed form, in a lent buffer: what is written is measured first, so that a buffer that is too small stays as it was.
+ghost use mathlib.Core.Path.{_≡_};
+ghost use Prim.Native.Nat.{_≤_};
+ghost use lib.Dec.{leb};
+ghost use lib.ListN.{length};
+ghost use Rattle.describe.specs.Described.{Put};
+ghost use Rattle.listing.specs.Print.{heading, printedLine, printed};
+ghost use Rattle.printing.specs.Printing.{fittedText, storedLines};
+
+mod pieces;
+mod sizes;
+
+use listing::Line;
+use listing::rows;
+
+// How many bytes were written, or that they do not fit.
+pub enum Printed {
+    Written(usize),
+    NoRoom,
+}
+
+const HEADING: usize = 45;
+
+fn put_heading(out: &mut [u8]) -> usize
+    requires { ⌜ length heading ≤ length (now out) ⌝ }
+    ensures { λ r. ⌜ Put (now (out .entry)) 0 heading (now (out .exit)) r ⌝ }
+{
+    pieces::put(out, 0, b"Address | Name                 | Description\n")
+}
+
+pub fn print_heading(out: &mut [u8]) -> Printed
+    ensures { λ r. ⌜ (r, now (out .exit)) ≡ fittedText heading (now (out .entry)) ⌝ }
+{
+    if out.len() < HEADING {
+        return Printed::NoRoom;
+    }
+    Printed::Written(put_heading(out))
+}
+
+pub fn print_line(library: &[u8], line: Line, out: &mut [u8]) -> Printed
+    ensures { λ r. ⌜ (r, now (out .exit)) ≡ fittedText (printedLine (now (library .entry)) line) (now (out .entry)) ⌝ }
+{
+    if out.len() < sizes::line(library, line) {
+        return Printed::NoRoom;
+    }
+    Printed::Written(pieces::put_line(out, 0, library, line))
+}
+
+// Whether the heading and the first n lines fit into so much room. Each line takes some of it, so that this ends soon.
+fn fits(library: &[u8], lines: &[u64], n: usize, room: usize) -> bool
+    ensures { λ r. ⌜ r ≡ leb (length (printed (now (library .entry)) (storedLines (now (lines .entry)) n))) room ⌝ }
+{
+    if room < HEADING {
+        return false;
+    }
+    let mut left = room - HEADING;
+    let mut i = 0;
+    while i < n {
+        let size = sizes::line(library, rows::line_at(lines, i));
+        if left < size {
+            return false;
+        }
+        left -= size;
+        i += 1;
+    }
+    true
+}
+
+fn put_all(library: &[u8], lines: &[u64], n: usize, out: &mut [u8]) -> usize
+    requires { ⌜ length (printed (now library) (storedLines (now lines) n)) ≤ length (now out) ⌝ }
+    ensures { λ r. ⌜ Put (now (out .entry)) 0 (printed (now (library .entry)) (storedLines (now (lines .entry)) n)) (now (out .exit)) r ⌝ }
+{
+    let mut at = put_heading(out);
+    let mut i = 0;
+    while i < n {
+        at = pieces::put_line(out, at, library, rows::line_at(lines, i));
+        i += 1;
+    }
+    at
+}
+
+// The heading and the lines that the first n rows hold.
+pub fn print(library: &[u8], lines: &[u64], n: usize, out: &mut [u8]) -> Printed
+    ensures { λ r. ⌜ (r, now (out .exit)) ≡ fittedText (printed (now (library .entry)) (storedLines (now (lines .entry)) n)) (now (out .entry)) ⌝ }
+{
+    if fits(library, lines, n, out.len()) {
+        return Printed::Written(put_all(library, lines, n, out));
+    }
+    Printed::NoRoom
+}
