@@ -53,28 +53,29 @@ def named(*names):
     return data, parts
 
 
+def stored_segment(pattern, references=(), symbols=(), address=None, masks=None):
+    return Stored(address, bytearray(pattern), bytearray(masks or b"\xff" * len(pattern)), list(references), list(symbols))
+
+
 def made_up(rng):
     """Segments that no library has: references to absolute ones and to numbers that are not searched, numbers of 64 bits, names that share bytes."""
     found = []
     data, (p, q, e) = named(b"PQ", b"Q", b"E")
     overlapping = Part(p.at + 1, 1)
 
-    def stored(pattern, references=(), symbols=(), address=None, masks=None):
-        return Stored(address, bytearray(pattern), bytearray(masks or b"\xff" * len(pattern)), list(references), list(symbols))
-
     goals = (0, 1, 2, 3, 4, 255, 65536, 2 ** 32, 2 ** 32 + 1, LARGE)
     for goal, aim, count in product(goals, (0, 3, 5), (4, 3, 2)):
-        segments = [stored(b"\x12\0\0", [Reference(1, WORD, 0, e), Reference(1, WORD, 0, goal)], [(p, 0)], masks=b"\xff\0\0"),
-                    stored(b"\3", [Reference(0, RELATIVE, 3, goal)], [(overlapping, 0)], address=3), stored(b"\3", [], [(q, 0)]), stored(b"\5", [], [(q, 2)])]
+        segments = [stored_segment(b"\x12\0\0", [Reference(1, WORD, 0, e), Reference(1, WORD, 0, goal)], [(p, 0)], masks=b"\xff\0\0"),
+                    stored_segment(b"\3", [Reference(0, RELATIVE, 3, goal)], [(overlapping, 0)], address=3), stored_segment(b"\3", [], [(q, 0)]), stored_segment(b"\5", [], [(q, 2)])]
         image = bytes((0x12, 0, aim, 3, 4, 5, 3, 3))
         found.append(Scene("made up", image, data, asked((rng.randrange(2),), (rng.random() < 0.7,), (1,)), segments, count))
     numbers = (0, 1, 7, 8, 65535, 65536, 2 ** 32, 2 ** 63, LARGE - 1, LARGE)
     for n in numbers:
-        segments = [stored(b"a", [Reference(n, RELATIVE, 0, e), Reference(0, RELATIVE, n, q)], [(p, n), (q, 1)]),
-                    stored(b"b", [Reference(0, WORD, n, q)], [(q, n)], address=n)]
+        segments = [stored_segment(b"a", [Reference(n, RELATIVE, 0, e), Reference(0, RELATIVE, n, q)], [(p, n), (q, 1)]),
+                    stored_segment(b"b", [Reference(0, WORD, n, q)], [(q, n)], address=n)]
         found.append(Scene("made up", b"abababab", data, asked((0,), BOTH_CHECKS, (1,)), segments))
     for masks in (b"\0\0\0", b"\x0f\xf0\x01", b"\x80\0\xff", b"\xfe\xff\0"):
-        segments = [stored(b"abc", [], [(p, 0)], masks=masks), stored(b"\x61\x02", [], [(q, 0)], masks=masks[:2])]
+        segments = [stored_segment(b"abc", [], [(p, 0)], masks=masks), stored_segment(b"\x61\x02", [], [(q, 0)], masks=masks[:2])]
         found.append(Scene("made up", b"abcqrsABC\xe1\xe2\xe3abd", data, asked((0,), (True,), (1, 2)), segments))
     found += [Scene("made up", image, data, asked((0,)), []) for image in (b"", b"abc")]
     return found

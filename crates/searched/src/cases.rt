@@ -1,14 +1,14 @@
 // The cases of a file, one after another: a header, and then what is searched, unless that is the scene of the case before.
-use crate::load::eight_at;
-use crate::load::four_at;
-use crate::scene::NextScene;
-use crate::scene::Scene;
-use crate::scene::next_scene;
 use crate::trial::Answer;
-use crate::trial::Seven;
 use crate::trial::Trial;
 use fixup::Rules;
 use pattern::Stretch;
+use scenes::load::eight_at;
+use scenes::load::four_at;
+use scenes::scene::NextScene;
+use scenes::scene::Scene;
+use scenes::scene::next_scene;
+use scenes::seven::seven_at;
 use search::Asked;
 use searching::Rows;
 
@@ -56,15 +56,7 @@ fn answer_of(header: &[u8; 64]) -> Answer {
             placed: length_at(header, 28),
             noted: length_at(header, 32),
         },
-        digests: Seven {
-            segments: four_at(header, 36),
-            references: four_at(header, 40),
-            symbols: four_at(header, 44),
-            bytes: four_at(header, 48),
-            masks: four_at(header, 52),
-            placed: four_at(header, 56),
-            noted: four_at(header, 60),
-        },
+        digests: seven_at(header, 36),
     }
 }
 

@@ -1,16 +1,16 @@
 // Case by case: whether the answers agree.
 use crate::cases::Case;
 use crate::cases::next_case;
-use crate::scene::Scene;
-use crate::scene::no_scene;
-use crate::show::cut_short;
 use crate::show::differ;
-use crate::show::limited;
 use crate::show::total;
 use crate::trial::Answer;
-use crate::trial::Seven;
 use crate::trial::Trial;
 use crate::trial::search_back;
+use scenes::scene::Scene;
+use scenes::scene::no_scene;
+use scenes::seven::same_seven;
+use scenes::show::cut_short;
+use scenes::show::limited;
 use searching::Rows;
 
 // Nothing says that a file ends, so the loop over its cases counts them; no file here has as many.
@@ -20,18 +20,8 @@ fn same_rows(a: Rows, b: Rows) -> bool {
     a.placed == b.placed && a.noted == b.noted
 }
 
-fn same_digests(a: Seven, b: Seven) -> bool {
-    a.segments == b.segments
-        && a.references == b.references
-        && a.symbols == b.symbols
-        && a.bytes == b.bytes
-        && a.masks == b.masks
-        && a.placed == b.placed
-        && a.noted == b.noted
-}
-
 fn same(a: Answer, b: Answer) -> bool {
-    a.number == b.number && same_rows(a.rows, b.rows) && same_digests(a.digests, b.digests)
+    a.number == b.number && same_rows(a.rows, b.rows) && same_seven(a.digests, b.digests)
 }
 
 // Whether the case agrees; it is shown if it does not.

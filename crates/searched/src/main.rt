@@ -2,8 +2,6 @@
 // against what is recorded (README.md, "What the search leaves").
 mod cases;
 mod compare;
-mod load;
-mod scene;
 mod show;
 mod trial;
 

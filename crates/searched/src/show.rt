@@ -1,40 +1,23 @@
-// What is written on standard output. Cases are numbered from 1 on.
+// What is written on standard output.
 use crate::trial::Answer;
 use libc::STDOUT_FILENO;
-
-fn say(text: &[u8], n: u64) {
-    io::write_all(STDOUT_FILENO, text);
-    io::print_decimal(STDOUT_FILENO, n);
-}
+use scenes::show::case_after;
+use scenes::show::digests;
+use scenes::show::end_line;
+use scenes::show::say;
 
 fn answer(text: &[u8], a: Answer) {
     say(text, a.number as u64);
     say(b", rows ", a.rows.placed as u64);
     say(b" ", a.rows.noted as u64);
-    say(b", digests ", a.digests.segments);
-    say(b" ", a.digests.references);
-    say(b" ", a.digests.symbols);
-    say(b" ", a.digests.bytes);
-    say(b" ", a.digests.masks);
-    say(b" ", a.digests.placed);
-    say(b" ", a.digests.noted);
+    digests(a.digests);
 }
 
 pub fn differ(passed: u64, recorded: Answer, searched: Answer) {
-    say(b"case ", std::num::wrapping_add_u64(passed, 1));
+    case_after(passed);
     answer(b": recorded number ", recorded);
     answer(b"; searched number ", searched);
-    io::write_all(STDOUT_FILENO, b"\n");
-}
-
-pub fn cut_short(passed: u64) {
-    say(b"case ", std::num::wrapping_add_u64(passed, 1));
-    io::write_all(STDOUT_FILENO, b" is cut short\n");
-}
-
-pub fn limited(passed: u64) {
-    say(b"no more cases are compared than ", passed);
-    io::write_all(STDOUT_FILENO, b"\n");
+    end_line();
 }
 
 pub fn total(agreed: u64, passed: u64) {

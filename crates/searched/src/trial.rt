@@ -1,14 +1,14 @@
 // A search with lent memory that is full of something else before, and a digest of each list of it afterwards.
 ghost use Prim.Native.Nat.{_≤_};
-use crate::load::load_bytes;
-use crate::load::load_numbers;
-use crate::scene::Scene;
-use digest::numbers::take_in_all;
-use digest::numbers::take_in_bytes;
 use lent::names::name;
 use lent::part::Part;
 use lent::refusal::number;
 use pattern::Stretch;
+use scenes::load::load_bytes;
+use scenes::load::load_numbers;
+use scenes::scene::Scene;
+use scenes::seven::Seven;
+use scenes::seven::seven_of;
 use search::Asked;
 use searching::Rows;
 use searching::Searched;
@@ -20,17 +20,6 @@ pub struct Trial {
     pub stretch: Stretch,
     pub placed: usize,
     pub noted: usize,
-}
-
-// A digest of each list.
-pub struct Seven {
-    pub segments: u64,
-    pub references: u64,
-    pub symbols: u64,
-    pub bytes: u64,
-    pub masks: u64,
-    pub placed: u64,
-    pub noted: u64,
 }
 
 // The number, 0 where the search was done; how many rows there are, none with a refusal; the digests of the lists.
@@ -55,26 +44,6 @@ fn answer_of(outcome: Searched, digests: Seven) -> Answer {
             },
             digests,
         },
-    }
-}
-
-fn digests_of(
-    segments: &[u64],
-    references: &[u64],
-    symbols: &[u64],
-    bytes: &[u8],
-    masks: &[u8],
-    placed: &[u64],
-    noted: &[u64],
-) -> Seven {
-    Seven {
-        segments: take_in_all(0, segments),
-        references: take_in_all(0, references),
-        symbols: take_in_all(0, symbols),
-        bytes: take_in_bytes(0, bytes),
-        masks: take_in_bytes(0, masks),
-        placed: take_in_all(0, placed),
-        noted: take_in_all(0, noted),
     }
 }
 
@@ -108,7 +77,7 @@ fn with_lists(
         placed,
         noted,
     );
-    let digests = digests_of(segments, references, symbols, bytes, masks, placed, noted);
+    let digests = seven_of(segments, references, symbols, bytes, masks, placed, noted);
     answer_of(outcome, digests)
 }
 

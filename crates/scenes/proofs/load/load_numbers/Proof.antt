@@ -3,8 +3,8 @@ use Prim.Native.Nat.{_-_}
 use mathlib.Core.Path.{_≡_}
 use lib.ListN.{length}
 use borrow.Author.Needs.{needs}
-use Rattle.searched.proofs.load.load_numbers.Statement.{statement}
-use Rattle.searched.proofs.load.load_numbers.Tie as tie
+use Rattle.scenes.proofs.load.load_numbers.Statement.{statement}
+use Rattle.scenes.proofs.load.load_numbers.Tie as tie
 
 abbrev Inv-loop : tie.InvT-loop
 Inv-loop bytes list₀ n i₀ list i = length list ≡ length list₀
