@@ -1,7 +1,7 @@
 #!/bin/sh
-# rust.sh SOURCE OUT: builds the reading of at51's libfind, unchanged, as an x86-64 program to be counted, and the collecting and the search as two others.
+# rust.sh SOURCE OUT: builds the reading of at51's libfind, unchanged, as an x86-64 program to be counted, and the collecting, the search and the list as three others.
 # SOURCE is the folder src of at51's repository: it holds libfind/mod.rs and libfind/omf51.rs.
-# Left: OUT/rust-reading, OUT/rust-collecting and OUT/rust-searching, static; rust/main.rs, collecting.rs and searching.rs say what they do.
+# Left: OUT/rust-reading, OUT/rust-collecting, OUT/rust-searching and OUT/rust-listing, static; rust/main.rs, collecting.rs, searching.rs and listing.rs say what they do.
 # README.md names the Debian packages.
 # On another machine than x86-64 the standard library for x86-64 is unpacked under OUT beside the machine's own;
 # nothing is installed.
@@ -15,7 +15,7 @@ target=x86_64-unknown-linux-gnu
 
 cp "$here/rust/Cargo.toml" "$out/Cargo.toml"
 cp "$here/../tools/oracle/driver/cargo-config.toml" "$out/.cargo/config.toml"
-cp "$here/rust/main.rs" "$here/rust/collecting.rs" "$here/rust/searching.rs" "$out/src/"
+cp "$here"/rust/*.rs "$out/src/"
 cp "$here/../tools/oracle/driver/aslink3.rs" "$out/src/libfind/aslink3.rs"
 cp "$source/libfind/mod.rs" "$source/libfind/omf51.rs" "$out/src/libfind/"
 cd "$out"
@@ -41,6 +41,6 @@ if [ "$(uname -m)" != x86_64 ]; then
 fi
 export RUSTC RUSTFLAGS="-C target-feature=+crt-static -L native=$out/lib"
 /usr/bin/cargo build --offline --release --target "$target"
-for each in rust-reading rust-collecting rust-searching; do
+for each in rust-reading rust-collecting rust-searching rust-listing; do
     cp "target/$target/release/$each" "$out/"
 done

@@ -294,12 +294,12 @@ LOADS = (("firmware", firmware), ("firmware-random", firmware_random), ("modules
          ("symbols-colliding", symbols(colliding(500))))
 
 
-def main():
-    options = argparse.ArgumentParser(description=__doc__, formatter_class=argparse.RawDescriptionHelpFormatter)
+def written(loads, options):
+    """Writes a folder for each load, as the command line asks."""
     options.add_argument("--out", type=Path, required=True)
     options.add_argument("--seed", type=int, default=1)
     given = options.parse_args()
-    for name, make, *asked in LOADS:
+    for name, make, *asked in loads:
         folder = given.out / name
         folder.mkdir(parents=True, exist_ok=True)
         image, data = make(random.Random(given.seed))
@@ -310,4 +310,4 @@ def main():
 
 
 if __name__ == "__main__":
-    main()
+    written(LOADS, argparse.ArgumentParser(description=__doc__, formatter_class=argparse.RawDescriptionHelpFormatter))

@@ -8,26 +8,10 @@
 //! Its status is 0, or 1 where the library is refused.
 #![allow(dead_code)]
 mod libfind;
+mod searched;
 
-use libfind::{omf51::Omf51Objects, Pubsymref, RefHashMap, SegmentCollection};
-use std::arch::asm;
-use std::convert::TryFrom;
-
-/// What `std::hint::black_box` is for, which Debian's compiler does not have yet: the value must be there.
-fn keep<T>(value: &T) {
-    unsafe { asm!("/* {0} */", in(reg) value, options(nostack, preserves_flags)) }
-}
-
-/// In the place of the C library's: a `HashMap` asks it for its keys, and how far it has to look for an entry depends on them. With one answer every run counts the same.
-#[no_mangle]
-pub unsafe extern "C" fn getrandom(buffer: *mut u8, length: usize, _flags: u32) -> isize {
-    std::ptr::write_bytes(buffer, 0x5a, length);
-    length as isize
-}
-
-fn collected(library: &[u8]) -> Option<SegmentCollection> {
-    SegmentCollection::try_from(Omf51Objects::new(library).ok()?).ok()
-}
+use libfind::{Pubsymref, RefHashMap};
+use searched::{collected, keep};
 
 fn main() {
     let words: Vec<String> = std::env::args().collect();

@@ -1,16 +1,20 @@
-// What bench/ counts the instructions of: a library read and gone over once, a library read only, its segments collected, and an image searched
-// for them.
+// What bench/ counts the instructions of: a library read and gone over once, a library read only, its segments collected, an image searched
+// for them, and what was found listed and printed.
 mod items;
 mod passes;
 
 use collecting::Collection;
 use collecting::entry::collect;
+use finding::list::list_rows;
 use fixup::Rules;
 use lent::refusal::number;
 use lent::rows::put;
+use listing::Skip;
 use modules::Reading;
 use passes::over_modules;
 use pattern::Stretch;
+use printing::Printed;
+use printing::print;
 use reader::file::read;
 use search::Asked;
 use searching::Searched;
@@ -115,5 +119,63 @@ pub extern "C" fn count_searching(
             0
         }
         Searched::Refused(r) => number(r),
+    }
+}
+
+fn skip_of(skips: bool, amount: usize) -> Skip {
+    if skips {
+        return Skip::Above(amount);
+    }
+    Skip::Never
+}
+
+// The number that listing the rows of a search comes to, as found and with nothing withheld: so many symbols placed and names noted. 0 leaves how many
+// lines there are in `counts`, 9 says that they are more than were lent.
+#[no_mangle]
+pub extern "C" fn count_listing(
+    image: &[u8],
+    skips: bool,
+    amount: usize,
+    library: &[u8],
+    n: usize,
+    counts: &mut [u64],
+    segments: &[u64],
+    references: &[u64],
+    placed: &[u64],
+    symbols: usize,
+    noted: &[u64],
+    names: usize,
+    lines: &mut [u64],
+) -> u8 {
+    let skip = skip_of(skips, amount);
+    let filled = list_rows(
+        image,
+        Stretch { start: 0, len: 0 },
+        Rules::Found,
+        skip,
+        library,
+        segments,
+        n,
+        references,
+        placed,
+        symbols,
+        noted,
+        names,
+        lines,
+    );
+    if filled.over {
+        return 9;
+    }
+    let cells = [filled.rows as u64];
+    put(counts, 0, &cells);
+    0
+}
+
+// How many bytes the printed form of n lines has; 0 without room for it.
+#[no_mangle]
+pub extern "C" fn count_printing(library: &[u8], lines: &[u64], n: usize, out: &mut [u8]) -> usize {
+    match print(library, lines, n, out) {
+        Printed::Written(size) => size,
+        Printed::NoRoom => 0,
     }
 }
