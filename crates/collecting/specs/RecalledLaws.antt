@@ -18,7 +18,7 @@ use Rattle.segments.specs.SegmentRowLaws.{segments-take, references-take, symbo
 use Rattle.recall.specs.Recall.{recalled}
 use Rattle.recall.specs.RecallLaws.{Filled, recalled-all}
 use Rattle.storing.specs.Stores.{Lists, referencesIn, symbolsIn}
-use Rattle.collecting.specs.Outcome.{countedIn, tooFew, filledWith}
+use Rattle.collecting.specs.Outcome.{countedIn, tooFew, zeroed, filledWith}
 
 -- none of five tests holds
 none-of : (a b c d e : Bool) → (a || (b || (c || (d || e)))) ≡ false → (a ≡ false) × (b ≡ false) × (c ≡ false) × (d ≡ false) × (e ≡ false)
@@ -39,31 +39,55 @@ module _ (rules : Rules) (library : List ℕ) (modules : List Module) (l : Lists
   abbrev left : Lists
   left = filledWith gs l
 
-  pub collection-filled : Filled gs (left .segments) (left .references) (left .symbols) (left .bytes) (left .masks)
-  unfolding filledWith countedIn
-  collection-filled =
+  -- there is room for all of it
+  record Fits : Type 0 where
+    segments : length (segmentNumbers gs) ≤ length (l .segments)
+    references : length (referenceNumbers gs) ≤ length (l .references)
+    symbols : length (symbolNumbers gs) ≤ length (l .symbols)
+    bytes : length (patternBytes gs) ≤ length (l .bytes)
+    masks : length (patternMasks gs) ≤ length (l .masks)
+
+  all-fits : Fits
+  unfolding countedIn
+  all-fits =
       let none = none-of _ _ _ _ _ fits in
-      let s = ltb-false (length (l .segments)) (length gs * segmentWidth) (none .0) in
-      let r = ltb-false (length (l .references)) _ (none .1) in
-      let y = ltb-false (length (l .symbols)) _ (none .2) in
-      let b = ltb-false (length (l .bytes)) _ (none .3) in
-      let m = ltb-false (length (l .masks)) _ (none .4) in
-      let s-fits : length (segmentNumbers gs) ≤ length (l .segments) = omega (arith, s, segments-take gs) in
-      let r-fits : length (referenceNumbers gs) ≤ length (l .references) = omega (arith, r, references-take gs) in
-      let y-fits : length (symbolNumbers gs) ≤ length (l .symbols) = omega (arith, y, symbols-take gs) in
-      let b-fits : length (patternBytes gs) ≤ length (l .bytes) = omega (arith, b, bytes-take gs) in
-      let m-fits : length (patternMasks gs) ≤ length (l .masks) = omega (arith, m, masks-take rules library modules) in
+      record {
+        segments = omega (arith, ltb-false (length (l .segments)) (length gs * segmentWidth) (none .0), segments-take gs);
+        references = omega (arith, ltb-false (length (l .references)) _ (none .1), references-take gs);
+        symbols = omega (arith, ltb-false (length (l .symbols)) _ (none .2), symbols-take gs);
+        bytes = omega (arith, ltb-false (length (l .bytes)) _ (none .3), bytes-take gs);
+        masks = omega (arith, ltb-false (length (l .masks)) _ (none .4), masks-take rules library modules);
+      }
+
+  pub collection-filled : Filled gs (left .segments) (left .references) (left .symbols) (left .bytes) (left .masks)
+  unfolding filledWith
+  collection-filled =
+      let h = all-fits in
       record {
         even = masks-like-bytes rules library modules;
-        segments-room = omega (arith, s, padded-length (length (l .segments)) (segmentNumbers gs) s-fits);
-        references-room = rw (joined-length (λ g. g .references) gs) (omega (arith, r, padded-length (length (l .references)) (referenceNumbers gs) r-fits));
-        symbols-room = rw (joined-length (λ g. g .symbols) gs) (omega (arith, y, padded-length (length (l .symbols)) (symbolNumbers gs) y-fits));
-        segments-are = again (length (l .segments)) (segmentNumbers gs) s-fits;
-        references-are = again (length (l .references)) (referenceNumbers gs) r-fits;
-        symbols-are = again (length (l .symbols)) (symbolNumbers gs) y-fits;
-        bytes-are = again (length (l .bytes)) (patternBytes gs) b-fits;
-        masks-are = again (length (l .masks)) (patternMasks gs) m-fits;
+        segments-room = omega (arith, segments-take gs, h .segments, padded-length (length (l .segments)) (segmentNumbers gs) (h .segments));
+        references-room = rw (joined-length (λ g. g .references) gs) (omega (arith, references-take gs, h .references, padded-length (length (l .references)) (referenceNumbers gs) (h .references)));
+        symbols-room = rw (joined-length (λ g. g .symbols) gs) (omega (arith, symbols-take gs, h .symbols, padded-length (length (l .symbols)) (symbolNumbers gs) (h .symbols)));
+        segments-are = again (length (l .segments)) (segmentNumbers gs) (h .segments);
+        references-are = again (length (l .references)) (referenceNumbers gs) (h .references);
+        symbols-are = again (length (l .symbols)) (symbolNumbers gs) (h .symbols);
+        bytes-are = again (length (l .bytes)) (patternBytes gs) (h .bytes);
+        masks-are = again (length (l .masks)) (patternMasks gs) (h .masks);
       }
+
+  -- each list keeps its length, so what is set to zero later is as much as was lent
+  pub collection-zeroed : zeroed left ≡ zeroed l
+  unfolding filledWith zeroed
+  collection-zeroed =
+      let h = all-fits in
+      rw (
+        padded-length (length (l .segments)) (segmentNumbers gs) (h .segments),
+        padded-length (length (l .references)) (referenceNumbers gs) (h .references),
+        padded-length (length (l .symbols)) (symbolNumbers gs) (h .symbols),
+        padded-length (length (l .bytes)) (patternBytes gs) (h .bytes),
+        padded-length (length (l .masks)) (patternMasks gs) (h .masks),
+      )
+      refl
 
   pub collection-recalled : recalled (left .segments) (left .references) (left .symbols) (left .bytes) (left .masks) (length gs) ≡ gs
   collection-recalled = recalled-all gs (left .segments) (left .references) (left .symbols) (left .bytes) (left .masks) collection-filled

@@ -1,10 +1,5 @@
--- The whole: the run, what is proved of it, and document 01's examples.
-pub mod Run
-pub mod Examples
-pub mod Withheld
-pub mod Order
-pub mod Given
-pub mod StageLaws
-pub mod Refused
-pub mod Answers
-pub mod OwnAddress
+-- The entry point: how its steps make up the run, and what its contract says.
+pub mod Begin
+pub mod BeginLaws
+pub mod Ends
+pub mod EndLaws

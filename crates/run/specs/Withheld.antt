@@ -4,8 +4,8 @@ use Prim.Native.Nat.{ℕ}
 use mathlib.Core.Path.{_≡_, ap}
 use mathlib.Core.List.{List}
 use Rattle.pattern.specs.ViewLaws.{Agree, same-view, view-empty}
-use Rattle.libfind.specs.declared.Settings.{Settings}
-use Rattle.libfind.specs.Run.{Lent, runSeen, run}
+use Rattle.run.specs.declared.Settings.{Settings}
+use Rattle.run.specs.Run.{Lent, runSeen, run}
 
 -- two images of one length that agree outside the stretch give one outcome: answer, counts, refusal, and every lent list
 pub same-run : (a b library : List ℕ) (s : Settings) (lent : Lent) → Agree a b (s .stretch) → run a library s lent ≡ run b library s lent

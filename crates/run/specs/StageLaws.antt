@@ -25,10 +25,10 @@ use Rattle.segments.specs.Refuse.{collectRefusal}
 use Rattle.segments.specs.RefuseLaws.{collect-late}
 use Rattle.segments.specs.SegmentRows.{segmentWidth, referenceWidth, symbolWidth}
 use Rattle.search.specs.SearchRows.{placedWidth, notedWidth}
-use Rattle.libfind.specs.declared.Counts.{Counts}
-use Rattle.libfind.specs.Run.{Lent, collectOver, searchOver}
-use Rattle.libfind.specs.Order.{Stage}
-use Rattle.libfind.specs.Given.{Over, CollectionOver, SearchOver, IsRead}
+use Rattle.run.specs.declared.Counts.{Counts}
+use Rattle.run.specs.Run.{Lent, collectOver, searchOver}
+use Rattle.run.specs.Order.{Stage}
+use Rattle.run.specs.Given.{Over, CollectionOver, SearchOver, IsRead}
 
 -- a test that refuses: with one refusal, exactly if it passes
 pub when-some : (t : Bool) (r : Refusal) → (when t r ≡ some r) ↔ (t ≡ true)

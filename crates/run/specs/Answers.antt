@@ -22,10 +22,10 @@ use Rattle.segments.specs.SegmentRowLaws.{segments-take, references-take, symbo
 use Rattle.search.specs.SearchRows.{placedWidth, notedWidth, placedNumbers, notedNumbers}
 use Rattle.search.specs.SearchRowLaws.{placed-take, noted-take}
 use Rattle.listing.specs.Listing.{lineWidth, lineCells, lineNumbers}
-use Rattle.libfind.specs.declared.Settings.{Settings}
-use Rattle.libfind.specs.Run.{Lent, Yield, Outcome, stages, counted, refusals, zeroed, filledWith, outcomeOf, runSeen, run, numberOf, noCounts, countsOf}
-use Rattle.libfind.specs.Given.{NothingRefused}
-use Rattle.libfind.specs.Refused.{done-exactly}
+use Rattle.run.specs.declared.Settings.{Settings}
+use Rattle.run.specs.Run.{Lent, Yield, Outcome, stages, counted, refusals, zeroed, filledWith, outcomeOf, runSeen, run, numberOf, noCounts, countsOf}
+use Rattle.run.specs.Given.{NothingRefused}
+use Rattle.run.specs.Refused.{done-exactly}
 
 -- two sets of lent lists are as long as one another
 pub record SameLengths (a b : Lent) : Type 0 where

@@ -22,10 +22,10 @@ use Rattle.search.specs.Search.{Placing, Noting, placed, noted}
 use Rattle.search.specs.SearchRows.{placedWidth, notedWidth, placedNumbers, notedNumbers}
 use Rattle.listing.specs.declared.Line.{Line}
 use Rattle.listing.specs.Listing.{listing, lineWidth, lineNumbers}
-use Rattle.libfind.specs.declared.Settings.{Settings}
-use Rattle.libfind.specs.declared.Counts.{Counts}
-use Rattle.libfind.specs.declared.Answer.{Answer}
-use Rattle.libfind.specs.declared.Answer.the-variants.{Done, Refused}
+use Rattle.run.specs.declared.Settings.{Settings}
+use Rattle.run.specs.declared.Counts.{Counts}
+use Rattle.run.specs.declared.Answer.{Answer}
+use Rattle.run.specs.declared.Answer.the-variants.{Done, Refused}
 
 -- the lent lists of numbers: rows of each stage, and the pattern memory
 pub record Lent : Type 0 where
@@ -37,6 +37,10 @@ pub record Lent : Type 0 where
   pub placed : List ℕ
   pub noted : List ℕ
   pub lines : List ℕ
+
+abbrev pub lentLists : List ℕ → List ℕ → List ℕ → List ℕ → List ℕ → List ℕ → List ℕ → List ℕ → Lent
+lentLists segments references symbols bytes masks placed noted lines =
+    record { segments = segments; references = references; symbols = symbols; bytes = bytes; masks = masks; placed = placed; noted = noted; lines = lines }
 
 -- what the stages yield
 pub record Yield : Type 0 where

@@ -36,9 +36,9 @@ use Rattle.listing.specs.declared.Skip.the-variants.{Never}
 use Rattle.listing.specs.Listing.{bestGrade, best, grade, gradedAt, linesAt, leftovers, listing, lineNumbers}
 use Rattle.describe.specs.Describe.{text, oneOf, description, describe}
 use Rattle.listing.specs.Print.{digits, moreDigits, printedLine, printed}
-use Rattle.libfind.specs.declared.Settings.{Settings}
-use Rattle.libfind.specs.declared.Answer.the-variants.{Done}
-use Rattle.libfind.specs.Run.{Lent, Outcome, stages, counted, refusals, filledWith, runSeen, run}
+use Rattle.run.specs.declared.Settings.{Settings}
+use Rattle.run.specs.declared.Answer.the-variants.{Done}
+use Rattle.run.specs.Run.{Lent, Outcome, stages, counted, refusals, filledWith, runSeen, run}
 
 -- a row of the table: its number, what is computed, and the result that the document gives
 pub record Example : Type 0 where

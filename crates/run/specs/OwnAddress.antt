@@ -28,8 +28,8 @@ use Rattle.listing.specs.declared.Line.{Line}
 use Rattle.listing.specs.declared.Skip.{Skip}
 use Rattle.listing.specs.Listing.{listing}
 use Rattle.listing.specs.ListingLaws.{listed-of}
-use Rattle.libfind.specs.declared.Settings.{Settings}
-use Rattle.libfind.specs.Run.{stages}
+use Rattle.run.specs.declared.Settings.{Settings}
+use Rattle.run.specs.Run.{stages}
 
 -- a public definition of that very name, of a kept segment (d, at its place among the kept ones) whose pattern matches at address - offset
 pub record OfKept (library cells : List ℕ) (modules : List Module) (name : Part) (address : ℕ) : Type 0 where

@@ -16,9 +16,9 @@ use Rattle.segments.specs.RefuseLaws.{KindAbove, BlockAbove, PastSegment, Nowhe
 use Rattle.segments.specs.SegmentRows.{segmentWidth, referenceWidth, symbolWidth}
 use Rattle.search.specs.SearchRows.{placedWidth, notedWidth}
 use Rattle.listing.specs.Listing.{lineWidth}
-use Rattle.libfind.specs.declared.Settings.{Settings}
-use Rattle.libfind.specs.declared.Counts.{Counts}
-use Rattle.libfind.specs.Run.{Lent, stages, counted}
+use Rattle.run.specs.declared.Settings.{Settings}
+use Rattle.run.specs.declared.Counts.{Counts}
+use Rattle.run.specs.Run.{Lent, stages, counted}
 
 -- n rows of a width do not fit into what was lent
 abbrev pub Over : ℕ → List ℕ → ℕ → Type 0

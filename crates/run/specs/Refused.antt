@@ -22,11 +22,11 @@ use Rattle.omf51.specs.File.{file, fileRefusal, modulesIn}
 use Rattle.segments.specs.Refuse.{Test, testRefusal, tests, collectRefusal}
 use Rattle.segments.specs.RefuseLaws.{KindAbove, BlockAbove, PastSegment, NowhereKept, gives-10, gives-11, gives-12, gives-13, collect-gives}
 use Rattle.listing.specs.Listing.{lineWidth}
-use Rattle.libfind.specs.declared.Settings.{Settings}
-use Rattle.libfind.specs.Run.{Lent, Yield, stages, counted, collectOver, searchOver, listOver, refusals, outcomeOf, runSeen, run, numberOf}
-use Rattle.libfind.specs.Order.{Stage, firstOf, Silent, silent-both, Beyond, or-else, after-none, at-stage}
-use Rattle.libfind.specs.Given.{CollectionOver, SearchOver, ListOver, Accepted, IsRead, Reached, FirstTest, TooLittle, Given, NothingRefused}
-use Rattle.libfind.specs.StageLaws.{when-some, when-none, when-stage, reading-stage, collecting-stage, file-stops, file-refuses, file-is-read, over, or-true-iff, not-over, collection-over, search-over, less, not-less}
+use Rattle.run.specs.declared.Settings.{Settings}
+use Rattle.run.specs.Run.{Lent, Yield, stages, counted, collectOver, searchOver, listOver, refusals, outcomeOf, runSeen, run, numberOf}
+use Rattle.run.specs.Order.{Stage, firstOf, Silent, silent-both, Beyond, or-else, after-none, at-stage}
+use Rattle.run.specs.Given.{CollectionOver, SearchOver, ListOver, Accepted, IsRead, Reached, FirstTest, TooLittle, Given, NothingRefused}
+use Rattle.run.specs.StageLaws.{when-some, when-none, when-stage, reading-stage, collecting-stage, file-stops, file-refuses, file-is-read, over, or-true-iff, not-over, collection-over, search-over, less, not-less}
 
 module _ (image library : List ℕ) (s : Settings) (lent : Lent) where
   abbrev cells : List ℕ

@@ -1,0 +1,60 @@
+-- `find_names`: refused by what begins the run, or the rest of it. Assumes nothing.
+use borrow.Author.Needs.{needs}
+use Rattle.libfind.proofs.entry.find_names.Statement.{statement}
+use Rattle.libfind.proofs.entry.find_names.Tie as tie
+use mathlib.Core.Path.{sym, _∙_}
+use Rattle.run.specs.Run.{Lent, lentLists}
+use Rattle.libfind.specs.BeginLaws.{begun, never-begun}
+use Rattle.libfind.specs.EndLaws.{refused-early}
+
+abbrev lent : tie.Start → Lent
+lent c = let a = c .args in lentLists (a .segments .now) (a .references .now) (a .symbols .now) (a .bytes .now) (a .masks .now) (a .placed .now) (a .noted .now) (a .lines .now)
+
+same-length : tie.Need-same-length
+same-length c = c .before .before .before .before .before .before .before .before .before .before .before .before .before .before .before .segments .given
+
+same-length-2 : tie.Need-same-length-2
+same-length-2 c = c .before .before .before .before .before .before .before .before .before .before .before .before .before .references .given
+
+same-length-3 : tie.Need-same-length-3
+same-length-3 c = c .before .before .before .before .before .before .before .before .before .before .before .symbols .given
+
+same-length-4 : tie.Need-same-length-4
+same-length-4 c = c .before .before .before .before .before .before .before .before .before .bytes .given
+
+same-length-5 : tie.Need-same-length-5
+same-length-5 c = c .before .before .before .before .before .before .before .masks .given
+
+same-length-6 : tie.Need-same-length-6
+same-length-6 c = c .before .before .before .before .before .placed .given
+
+same-length-7 : tie.Need-same-length-7
+same-length-7 c = c .before .before .before .noted .given
+
+same-length-8 : tie.Need-same-length-8
+same-length-8 c = c .before .lines .given
+
+returns : tie.Need-returns
+returns c = let a = c .before .before .before .before .before .before .before .before .before .before .before .before .before .before .before .before .before .before .before .before .before .before .before .before .before .before .before .before .before .before .before .before .before .before .before .before .before .before .before .args in c .before .before .before .before .before .before .before .before .before .before .before .before .before .before .before .before .find-from .ensures (begun (a .image .now) (a .library .now) (a .settings) (sym (c .before .before .before .before .before .before .before .before .before .before .before .before .before .before .before .before .before .before .before .before .before .before .before .before .before .before .first .given .1) ∙ c .before .before .before .before .before .before .before .before .before .before .before .before .before .before .before .before .before .before .before .before .before .before .before .before .before .before .before .before .begin .ensures))
+
+returns-2 : tie.Need-returns-2
+returns-2 c = let a = c .before .before .before .before .before .before .before .before .before .before .before .before .before .before .args in refused-early (a .image .now) (a .library .now) (a .settings) (lent (c .before .before .before .before .before .before .before .before .before .before .before .before .before .before)) (never-begun (a .image .now) (a .library .now) (a .settings) (sym (c .before .r .given .1) ∙ c .before .before .before .begin .ensures))
+
+pub find-names-spec : {M : Type 1} → statement M
+find-names-spec =
+    tie.close
+    (tie.spec
+    (λ c κs. search needs)
+    (λ c. search needs)
+    (λ c κs. search needs)
+    (λ c. search needs)
+    same-length
+    same-length-2
+    same-length-3
+    same-length-4
+    same-length-5
+    same-length-6
+    same-length-7
+    same-length-8
+    returns
+    returns-2)

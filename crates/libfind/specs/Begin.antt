@@ -1,0 +1,48 @@
+-- What is looked at before anything is written: the first of 1 to 8, and where the library's modules start.
+use Prim.Native.Nat.{ℕ, _+_}
+use mathlib.Core.Path.{_≡_}
+use mathlib.Core.List.{List, [], _∷_}
+use mathlib.Core.Option.{Option, none, some}
+use lib.Dec.{ltb}
+use lib.ListN.{length}
+use Rattle.lent.specs.declared.refusal.Refusal.{Refusal}
+use Rattle.lent.specs.declared.refusal.Refusal.the-variants.{RuleSet, ImageTooLong, LibraryTooLong, StretchPastEnd}
+use Rattle.lent.specs.Choice.{when, orElse, leading}
+use Rattle.omf51.specs.Module.{moduleAt}
+use Rattle.omf51.specs.File.{file, fileRefusal, modulesIn}
+use Rattle.modules.specs.Found.{found}
+use Rattle.modules.specs.Reading.{firstAt}
+use Rattle.run.specs.declared.Settings.{Settings}
+use Rattle.run.specs.Given.{Accepted}
+use Rattle.libfind.specs.declared.begin.Checked.{Checked}
+use Rattle.libfind.specs.declared.begin.Checked.the-variants as Checked
+use Rattle.libfind.specs.declared.begin.Beginning.{Beginning}
+use Rattle.libfind.specs.declared.begin.Beginning.the-variants as Beginning
+
+-- the first of 1 to 4, by the lengths of the image and of the library
+unfoldable pub settingsRefusal : ℕ → ℕ → Settings → Option Refusal
+settingsRefusal image library s =
+    leading
+    (when (ltb 1 (s .rules)) RuleSet
+    ∷ when (ltb 65536 image) ImageTooLong
+    ∷ when (ltb 1048576 library) LibraryTooLong
+    ∷ when (ltb image (s .stretch .start + s .stretch .len)) StretchPastEnd
+    ∷ [])
+
+abbrev pub checked : Option Refusal → Checked
+checked none = Checked.Accepted
+checked (some r) = Checked.Refused r
+
+-- the first of 1 to 8, or the place of the first module
+abbrev pub beginsAt : ℕ → Option Refusal → Beginning
+beginsAt first none = Beginning.At first
+beginsAt first (some r) = Beginning.Refused r
+
+unfoldable pub beginning : List ℕ → List ℕ → Settings → Beginning
+beginning image library s = beginsAt (firstAt library) (orElse (settingsRefusal (length image) (length library) s) (fileRefusal (file library)))
+
+-- none of 1 to 8 applies, and the modules start at a place
+pub record Begun (image library : List ℕ) (s : Settings) (first : ℕ) : Type 0 where
+  pub accepted : Accepted image library s
+  pub is-read : fileRefusal (file library) ≡ none
+  pub there : modulesIn (file library) ≡ found library (moduleAt library) first

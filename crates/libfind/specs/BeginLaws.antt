@@ -1,0 +1,143 @@
+-- What the beginning of a run says of it. Assumes nothing.
+use Prim.Native.Nat.{ℕ, _+_, _-_, _<_, _≤_}
+use mathlib.Core.Path.{_≡_, refl, sym, ap, _∙_}
+use mathlib.Core.Bool.{Bool, true, false}
+use mathlib.Core.List.{List, [], _∷_}
+use mathlib.Core.Option.{Option, none, some}
+use native.Mathlib.Omega.{arith}
+use borrow.Author.Tests.{ltb-true, ltb-false, lt-ltb, le-ltb}
+use lib.Dec.{ltb}
+use lib.ListN.{length}
+use Rattle.lent.specs.declared.refusal.Refusal.{Refusal}
+use Rattle.lent.specs.declared.refusal.Refusal.the-variants.{RuleSet, ImageTooLong, LibraryTooLong, StretchPastEnd}
+use Rattle.lent.specs.Choice.{when, orElse, leading}
+use Rattle.lent.specs.Leading.{none≢some}
+use Rattle.omf51.specs.Reader.{Outcome, read, stop, refused}
+use Rattle.omf51.specs.Module.{Module}
+use Rattle.omf51.specs.File.{file, fileRefusal}
+use Rattle.modules.specs.declared.Reading.{Reading}
+use Rattle.modules.specs.declared.Reading.the-variants as Reading
+use Rattle.modules.specs.Reading.{firstAt, readingOf, reading}
+use Rattle.modules.specs.StandLaws.{modules-stand, reading-refused}
+use Rattle.run.specs.declared.Settings.{Settings}
+use Rattle.run.specs.Given.{Accepted}
+use Rattle.libfind.specs.declared.begin.Checked.{Checked}
+use Rattle.libfind.specs.declared.begin.Checked.the-variants as Checked
+use Rattle.libfind.specs.declared.begin.Beginning.{Beginning}
+use Rattle.libfind.specs.declared.begin.Beginning.the-variants as Beginning
+use Rattle.libfind.specs.Begin.{settingsRefusal, checked, beginsAt, beginning, Begun}
+
+-- a sum and a difference, compared
+pub past-end : (len start more : ℕ) → start ≤ len → ltb (len - start) more ≡ ltb len (start + more)
+past-end len start more h = go (ltb (len - start) more) refl
+  where
+    go : (t : Bool) → ltb (len - start) more ≡ t → t ≡ ltb len (start + more)
+    go true e = sym (lt-ltb len (start + more) (omega (arith, ltb-true (len - start) more e)))
+    go false e = sym (le-ltb len (start + more) (omega (arith, ltb-false (len - start) more e)))
+
+-- 1 to 4, one after another
+module _ (image library : ℕ) (s : Settings) where
+  pub refused-1 : 1 < s .rules → Checked.Refused RuleSet ≡ checked (settingsRefusal image library s)
+  unfolding settingsRefusal leading
+  refused-1 h = rw (lt-ltb 1 (s .rules) h) refl
+
+  module _ (a : s .rules ≤ 1) where
+    pub refused-2 : 65536 < image → Checked.Refused ImageTooLong ≡ checked (settingsRefusal image library s)
+    unfolding settingsRefusal leading
+    refused-2 h = rw (le-ltb 1 (s .rules) a, lt-ltb 65536 image h) refl
+
+    module _ (b : image ≤ 65536) where
+      pub refused-3 : 1048576 < library → Checked.Refused LibraryTooLong ≡ checked (settingsRefusal image library s)
+      unfolding settingsRefusal leading
+      refused-3 h = rw (le-ltb 1 (s .rules) a, le-ltb 65536 image b, lt-ltb 1048576 library h) refl
+
+      module _ (c : library ≤ 1048576) where
+        pub refused-4 : ltb image (s .stretch .start + s .stretch .len) ≡ true → Checked.Refused StretchPastEnd ≡ checked (settingsRefusal image library s)
+        unfolding settingsRefusal leading
+        refused-4 h = rw (le-ltb 1 (s .rules) a, le-ltb 65536 image b, le-ltb 1048576 library c, h) refl
+
+        pub is-accepted : ltb image (s .stretch .start + s .stretch .len) ≡ false → Checked.Accepted ≡ checked (settingsRefusal image library s)
+        unfolding settingsRefusal leading
+        is-accepted h = rw (le-ltb 1 (s .rules) a, le-ltb 65536 image b, le-ltb 1048576 library c, h) refl
+
+none-of : (a b c d : Bool) → leading (when a RuleSet ∷ when b ImageTooLong ∷ when c LibraryTooLong ∷ when d StretchPastEnd ∷ []) ≡ none
+    → (a ≡ false) × (b ≡ false) × (c ≡ false) × (d ≡ false)
+unfolding leading
+none-of false false false false e = (refl, refl, refl, refl)
+none-of false false false true e = absurd (none≢some (sym e))
+none-of false false true d e = absurd (none≢some (sym e))
+none-of false true c d e = absurd (none≢some (sym e))
+none-of true b c d e = absurd (none≢some (sym e))
+
+-- what the check and the reader said
+placeIn : Beginning → ℕ
+placeIn (Beginning.At first) = first
+placeIn (Beginning.Refused r) = 0
+
+module _ (image library : List ℕ) (s : Settings) where
+  abbrev settings : Option Refusal
+  settings = settingsRefusal (length image) (length library) s
+
+  accepted : settings ≡ none → Accepted image library s
+  unfolding settingsRefusal
+  accepted e =
+      let n = none-of _ _ _ _ e in
+      record {
+        rule-set = ltb-false 1 (s .rules) (n .0);
+        image-fits = ltb-false 65536 (length image) (n .1);
+        library-fits = ltb-false 1048576 (length library) (n .2);
+        stretch-fits = ltb-false (length image) (s .stretch .start + s .stretch .len) (n .3);
+      }
+
+  fine : (o : Option Refusal) → Checked.Accepted ≡ checked o → o ≡ none
+  fine none e = refl
+  fine (some r) e = let z : _≡_ {A = ℕ} 0 1 = cc in absurd (omega arith)
+
+  by-check : (o : Option Refusal) {r : Refusal} → Checked.Refused r ≡ checked o → o ≡ some r
+  by-check none e = let z : _≡_ {A = ℕ} 0 1 = cc in absurd (omega arith)
+  by-check (some q) e = cc
+
+  pub begin-refused : {r : Refusal} → Checked.Refused r ≡ checked settings → Beginning.Refused r ≡ beginning image library s
+  unfolding beginning
+  begin-refused e = rw (by-check settings e) refl
+
+  module _ (ok : Checked.Accepted ≡ checked settings) where
+    pub begin-unread : {r : Refusal} → Reading.Refused r ≡ reading library → Beginning.Refused r ≡ beginning image library s
+    unfolding beginning
+    begin-unread e = rw (fine settings ok, reading-refused library (sym e)) refl
+
+    pub begin-at : {first count : ℕ} → Reading.Modules first count ≡ reading library → Beginning.At first ≡ beginning image library s
+    unfolding beginning reading
+    begin-at {first} {count} e = rw (fine settings ok, modules-stand library (sym e) .unrefused) (go (file library) e)
+      where
+        go : (o : Outcome (List Module)) → Reading.Modules first count ≡ readingOf (firstAt library) o → Beginning.At first ≡ Beginning.At (firstAt library)
+        go (read modules next) q = cc
+        go stop q = let z : _≡_ {A = ℕ} 0 1 = cc in absurd (omega arith)
+        go (refused r) q = let z : _≡_ {A = ℕ} 0 1 = cc in absurd (omega arith)
+
+  -- and what it says of the run
+  two : (a b : Option Refusal) {first first′ : ℕ} → Beginning.At first ≡ beginsAt first′ (orElse a b) → (a ≡ none) × (b ≡ none) × (first ≡ first′)
+  two none none e = (refl, refl, cc)
+  two none (some r) e = let z : _≡_ {A = ℕ} 0 1 = cc in absurd (omega arith)
+  two (some r) b e = let z : _≡_ {A = ℕ} 0 1 = cc in absurd (omega arith)
+
+  pub begun : {first : ℕ} → Beginning.At first ≡ beginning image library s → Begun image library s first
+  unfolding beginning reading
+  begun {first} e = let p = two settings (fileRefusal (file library)) e in go (file library) refl p
+    where
+      go : (o : Outcome (List Module)) → file library ≡ o → (settings ≡ none) × (fileRefusal (file library) ≡ none) × (first ≡ firstAt library) → Begun image library s first
+      go (read modules next) q p = record {
+        accepted = accepted (p .0);
+        is-read = p .1;
+        there = modules-stand library {count = length modules} (ap (readingOf (firstAt library)) q ∙ ap (λ at. Reading.Modules at (length modules)) (sym (p .2))) .there;
+      }
+      go stop q p = absurd (none≢some (sym (sym (ap fileRefusal q) ∙ p .1)))
+      go (refused r) q p = absurd (none≢some (sym (sym (ap fileRefusal q) ∙ p .1)))
+
+  pub never-begun : {r : Refusal} → Beginning.Refused r ≡ beginning image library s → orElse settings (fileRefusal (file library)) ≡ some r
+  unfolding beginning
+  never-begun {r} e = go (orElse settings (fileRefusal (file library))) e
+    where
+      go : (o : Option Refusal) → Beginning.Refused r ≡ beginsAt (firstAt library) o → o ≡ some r
+      go none q = let z : _≡_ {A = ℕ} 0 1 = cc in absurd (omega arith)
+      go (some q) p = cc

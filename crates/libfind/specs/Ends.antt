@@ -1,0 +1,65 @@
+-- What a run comes to once the library is read: by the collection, and then by what is found.
+use Prim.Native.Nat.{ℕ}
+use mathlib.Core.Path.{_≡_}
+use mathlib.Core.List.{List}
+use Rattle.visiting.specs.Visits.{stored}
+use Rattle.storing.specs.declared.Counts.{Counts as Stored}
+use Rattle.storing.specs.Stores.{Lists as Collectable}
+use Rattle.finding.specs.declared.Found.{Found}
+use Rattle.finding.specs.declared.Found.the-variants as Found
+use Rattle.finding.specs.Outcome.{Lists, Outcome as Finding}
+use Rattle.run.specs.declared.Settings.{Settings}
+use Rattle.run.specs.declared.Answer.{Answer}
+use Rattle.run.specs.declared.Answer.the-variants.{Done, Refused}
+use Rattle.run.specs.Run.{Lent, Outcome, run}
+use Rattle.libfind.specs.Begin.{Begun}
+
+-- the lists that are lent to the collection, and what finding is lent once they are filled
+abbrev pub collectable : Lent → Collectable
+collectable l = record { segments = l .segments; references = l .references; symbols = l .symbols; bytes = l .bytes; masks = l .masks }
+
+abbrev pub findable : Collectable → Lent → Lists
+findable filled l = record {
+  searched = record {
+    stored = stored (filled .segments) (filled .references) (filled .symbols) (filled .bytes) (filled .masks);
+    placed = l .placed;
+    noted = l .noted;
+  };
+  lines = l .lines;
+}
+
+abbrev pub givenLists : Lent → Lists
+givenLists l = findable (collectable l) l
+
+-- all lists, by those of finding; the answer, by the counts of the collection and what was found
+abbrev pub allOf : Lists → Lent
+allOf l = record {
+  segments = l .searched .stored .segments;
+  references = l .searched .stored .references;
+  symbols = l .searched .stored .symbols;
+  bytes = l .searched .stored .bytes;
+  masks = l .searched .stored .masks;
+  placed = l .searched .placed;
+  noted = l .searched .noted;
+  lines = l .lines;
+}
+
+abbrev pub answerBy : Stored → Found → Answer
+answerBy c (Found.Done f) =
+    Done (record {
+      segments = c .segments;
+      references = c .references;
+      symbols = c .symbols;
+      pattern = c .pattern;
+      placed = f .placed;
+      noted = f .noted;
+      lines = f .lines;
+    })
+answerBy c (Found.Refused r) = Refused r
+
+abbrev pub concluded : Stored → Finding → Outcome
+concluded c o = record { answer = answerBy c (o .answer); left = allOf (o .left) }
+
+-- the run, from the place of the first module on
+abbrev pub FindsFrom : List ℕ → List ℕ → Settings → ℕ → Lent → Answer → Lent → Type 0
+FindsFrom image library s first before r after = Begun image library s first → record { answer = r; left = after } ≡ run image library s before

@@ -1,0 +1,64 @@
+// What is looked at before anything is written: the settings, the lengths, and whether the library can be read.
+ghost use mathlib.Core.Path.{_≡_};
+ghost use Prim.Native.Nat.{_+_};
+ghost use lib.Dec.{ltb};
+ghost use Rattle.libfind.specs.Begin.{settingsRefusal, checked, beginning};
+use lent::refusal::Refusal;
+use modules::Reading;
+use pattern::Stretch;
+use reader::file::read;
+use run::Settings;
+
+// Whether the settings and lengths are accepted: the first of 1 to 4, if there is one.
+pub enum Checked {
+    Accepted,
+    Refused(Refusal),
+}
+
+// Where the library's modules start, or the first of 1 to 8.
+pub enum Beginning {
+    At(usize),
+    Refused(Refusal),
+}
+
+// Whether the stretch passes the end of an image, without a sum that could be too large.
+fn passes_end(s: Stretch, len: usize) -> bool
+    ensures { λ r. ⌜ r ≡ ltb len (s .start + s .len) ⌝ }
+{
+    if len < s.start {
+        return true;
+    }
+    len - s.start < s.len
+}
+
+// The settings, and the lengths of the image and of the library.
+fn check(image: usize, library: usize, settings: Settings) -> Checked
+    ensures { λ r. ⌜ r ≡ checked (settingsRefusal image library settings) ⌝ }
+{
+    if 1 < settings.rules {
+        return Checked::Refused(Refusal::RuleSet);
+    }
+    if 65536 < image {
+        return Checked::Refused(Refusal::ImageTooLong);
+    }
+    if 1048576 < library {
+        return Checked::Refused(Refusal::LibraryTooLong);
+    }
+    if passes_end(settings.stretch, image) {
+        return Checked::Refused(Refusal::StretchPastEnd);
+    }
+    Checked::Accepted
+}
+
+// The settings and lengths, and then the reading of the library.
+pub fn begin(image: &[u8], library: &[u8], settings: Settings) -> Beginning
+    ensures { λ r. ⌜ r ≡ beginning (now (image .entry)) (now (library .entry)) settings ⌝ }
+{
+    match check(image.len(), library.len(), settings) {
+        Checked::Accepted => match read(library) {
+            Reading::Modules { first, count } => Beginning::At(first),
+            Reading::Refused(r) => Beginning::Refused(r),
+        },
+        Checked::Refused(r) => Beginning::Refused(r),
+    }
+}

@@ -1,0 +1,10 @@
+-- The whole: the run, what is proved of it, and document 01's examples.
+pub mod Run
+pub mod Examples
+pub mod Withheld
+pub mod Order
+pub mod Given
+pub mod StageLaws
+pub mod Refused
+pub mod Answers
+pub mod OwnAddress
