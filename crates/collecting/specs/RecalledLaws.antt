@@ -1,11 +1,10 @@
 -- WHAT WAS COLLECTED IS WHAT IS SEARCHED FOR: rows that the collection leaves tell of its segments. Assumes nothing.
 use Prim.Native.Nat.{ℕ, _*_, _≤_}
-use mathlib.Core.Path.{_≡_, refl, sym, ap, _∙_}
+use mathlib.Core.Path.{_≡_, refl, sym, ap}
 use mathlib.Core.Bool.{Bool, true, false, _||_, false≢true}
 use mathlib.Core.List.{List}
 use native.Mathlib.Omega.{arith}
 use borrow.Author.Tests.{ltb-false}
-use lib.Dec.{ltb}
 use lib.ListN.{length}
 use Rattle.lent.specs.ListLaws.{joined-length}
 use Rattle.lent.specs.Rows.{padded}
@@ -13,11 +12,11 @@ use Rattle.lent.specs.RowLaws.{padded-length}
 use Rattle.fixup.specs.declared.Rules.{Rules}
 use Rattle.omf51.specs.Module.{Module}
 use Rattle.segments.specs.Collect.{Collected, collect}
-use Rattle.segments.specs.SegmentRows.{segmentWidth, referenceWidth, symbolWidth, segmentNumbers, referenceNumbers, symbolNumbers, patternBytes, patternMasks}
+use Rattle.segments.specs.SegmentRows.{segmentWidth, segmentNumbers, referenceNumbers, symbolNumbers, patternBytes, patternMasks}
 use Rattle.segments.specs.SegmentRowLaws.{segments-take, references-take, symbols-take, bytes-take, masks-take, masks-like-bytes}
 use Rattle.recall.specs.Recall.{recalled}
 use Rattle.recall.specs.RecallLaws.{Filled, recalled-all}
-use Rattle.storing.specs.Stores.{Lists, referencesIn, symbolsIn}
+use Rattle.storing.specs.Stores.{Lists}
 use Rattle.collecting.specs.Outcome.{countedIn, tooFew, zeroed, filledWith}
 
 -- none of five tests holds

@@ -1,16 +1,16 @@
 -- THE STEPS MAKE UP THE RUN: what begins it, what is collected, and what is found then. Assumes nothing.
 use Prim.Native.Nat.{ℕ, _+_, _≤_, _<_}
-use mathlib.Core.Path.{_≡_, refl, sym, ap, subst, _∙_}
+use mathlib.Core.Path.{_≡_, refl, sym, ap, _∙_}
 use mathlib.Core.Bool.{Bool, true, false, false≢true}
 use mathlib.Core.List.{List, [], _∷_}
 use mathlib.Core.Option.{Option, none, some}
 use native.Mathlib.Omega.{arith}
 use borrow.Author.Tests.{le-ltb, le-leb, lt-leb}
-use lib.Dec.{leb, ltb}
+use lib.Dec.{ltb}
 use lib.ListN.{length}
 use Rattle.lent.specs.declared.refusal.Refusal.{Refusal}
 use Rattle.lent.specs.declared.refusal.Refusal.the-variants.{RuleSet, ImageTooLong, LibraryTooLong, StretchPastEnd, TooFewRows}
-use Rattle.lent.specs.Choice.{if_then_else_, when, orElse, leading}
+use Rattle.lent.specs.Choice.{when, orElse, leading}
 use Rattle.lent.specs.Leading.{none≢some}
 use Rattle.lent.specs.Refusals.{refusalNumber}
 use Rattle.lent.specs.RefusalLaws.{same-number}
@@ -34,10 +34,9 @@ use Rattle.visiting.specs.Visits.{segmentsIn}
 use Rattle.searching.specs.Outcome.{zeroed as zeroedSearch, filledWith as filledSearch}
 use Rattle.finding.specs.Outcome.{Yield as Findings, yields, refusalOf as refusalOfFinding, outcomeOf as findingOf, found}
 use Rattle.run.specs.declared.Settings.{Settings}
-use Rattle.run.specs.declared.Counts.{Counts}
 use Rattle.run.specs.declared.Answer.the-variants.{Done, Refused}
-use Rattle.run.specs.Run.{Lent, lentLists, Yield, Outcome, askedOf, stages, counted, collectOver, searchOver, listOver, refusals, zeroed, filledWith, leftBy, outcomeOf, runSeen, run}
-use Rattle.run.specs.StageLaws.{when-stage, reading-stage}
+use Rattle.run.specs.Run.{Lent, lentLists, Yield, askedOf, stages, counted, collectOver, searchOver, listOver, refusals, zeroed, filledWith, outcomeOf, runSeen, run}
+use Rattle.run.specs.StageLaws.{reading-stage}
 use Rattle.libfind.specs.Begin.{settingsRefusal, Begun}
 use Rattle.libfind.specs.Ends.{collectable, findable, allOf, concluded}
 

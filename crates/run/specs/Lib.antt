@@ -8,3 +8,5 @@ pub mod StageLaws
 pub mod Refused
 pub mod Answers
 pub mod OwnAddress
+pub mod ListedRows
+pub mod Demands

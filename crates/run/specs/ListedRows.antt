@@ -1,0 +1,51 @@
+-- The rows of the list, read back as lines. Assumes nothing.
+use Prim.Native.Nat.{ℕ, zero, suc, _*_, _≤_, _<_}
+use mathlib.Core.Path.{_≡_, refl}
+use mathlib.Core.Bool.{Bool, true, false, not}
+use mathlib.Core.List.{List, [], _∷_, List·Memᴰ·head, List·Memᴰ·tail}
+use native.Mathlib.Decide.{decLt}
+use native.Mathlib.Omega.{arith}
+use lib.ListN.{length, getD}
+use Rattle.lent.specs.Choice.{if_then_else_}
+use Rattle.lent.specs.Members.{_among_}
+use Rattle.lent.specs.Rows.{padded}
+use Rattle.lent.specs.RowLaws.{get-filled}
+use Rattle.segments.specs.Collect.{Collected}
+use Rattle.search.specs.declared.Asked.{Asked}
+use Rattle.search.specs.Search.{Placing, Noting, isNoted}
+use Rattle.listing.specs.declared.Line.{Line}
+use Rattle.listing.specs.declared.Skip.{Skip}
+use Rattle.listing.specs.Listing.{borneOut, grade, listing, lineWidth, lineNumbers}
+use Rattle.listing.specs.ListingLaws.{listed-of}
+use Rattle.listing.specs.LineLayout.{lineLayout, lineAt}
+use Rattle.listing.specs.LineLayoutLaws.{line-width, line-back}
+
+pub at-among : {A : Type 0} (xs : List A) (d : A) (i : ℕ) → i < length xs → getD xs i d among xs
+at-among [] d i h = absurd (omega arith)
+at-among (x ∷ xs) d zero h = List·Memᴰ·head refl
+at-among (x ∷ xs) d (suc i) h = List·Memᴰ·tail (at-among xs d i (omega arith))
+
+-- a line has one of the grades 0 to 3
+module _ (library cells : List ℕ) (a : Asked) (segments : List Collected) (placed : List Placing) (noted : List Noting) where
+  at-most-3 : (p : Placing) → grade library cells a segments placed noted p ≤ 3
+  unfolding grade
+  at-most-3 p = go (borneOut library cells a segments placed noted p) (isNoted library noted (p .position) (p .name))
+    where
+      go : (t u : Bool) → (if not t then 1 else if u then 3 else 2) ≤ 3
+      go false u = omega arith
+      go true true = omega arith
+      go true false = omega arith
+
+  pub grades : (skip : Skip) {l : Line} → l among listing library cells a skip segments placed noted → l .grade ≤ 3
+  grades skip {l} i = go (decLt 0 (l .grade))
+    where
+      go : Dec (0 < l .grade) → l .grade ≤ 3
+      go (yes h) = let o = listed-of library cells a segments placed noted skip i h in omega (arith, o .grade-is, at-most-3 (o .p))
+      go (no h) = omega arith
+
+-- where the lines fit, row i is line i
+pub row-is-line : (lines : List Line) (d : Line) (room i : ℕ) → ((l : Line) → l among lines → l .grade ≤ 3) → length lines * lineWidth ≤ room → i < length lines
+    → lineAt (padded room (lineNumbers lines)) i ≡ getD lines i d
+unfolding lineNumbers
+row-is-line lines d room i small h b =
+    get-filled lineLayout line-width room lines d i h b (line-back (getD lines i d) (omega (arith, small (getD lines i d) (at-among lines d i b))))
