@@ -64,9 +64,6 @@ module _ {A R : Type 0} (s : Sheet A R) (library : List ℕ) where
       → isNamed s library key name x ≡ true
   named-if key name x k n = rw (k, n, eq-eqb key key refl, same-self (bytesOf library name))
 
-  pub named-itself : (x : A) → isNamed s library (s .key x) (s .name x) x ≡ true
-  named-itself x = named-if (s .key x) (s .name x) x refl refl
-
   -- so it is in the bucket of both
   pub named-bucket : (key : ℕ) (name : Part) (x : A) → isNamed s library key name x ≡ true
       → inName s library (nameBucket key (bytesOf library name)) x ≡ true

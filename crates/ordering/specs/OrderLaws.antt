@@ -2,15 +2,15 @@
 use Prim.Native.Nat.{ℕ}
 use mathlib.Core.Path.{_≡_, sym, ap, _∙_}
 use mathlib.Core.Bool.{Bool}
-use mathlib.Core.List.{List, _∷_, reverse}
+use mathlib.Core.List.{List, reverse}
 use lib.ListN.{length}
-use Rattle.lent.specs.Lists.{insert, sorted}
+use Rattle.lent.specs.Lists.{sorted}
 use Rattle.lent.specs.Members.{_among_}
 use Rattle.lent.specs.Parts.{bytesOf, before}
 use Rattle.listing.specs.declared.Line.{Line}
 use Rattle.ordering.specs.Sorting.{Strict, Comparable, Rising}
 use Rattle.ordering.specs.NameOrderLaws.{before-never, before-through, before-neither}
-use Rattle.ordering.specs.InsertLaws.{every-mine, front, turned}
+use Rattle.ordering.specs.InsertLaws.{every-mine, turned}
 use Rattle.ordering.specs.RisingLaws.{in-order}
 use Rattle.ordering.specs.Order.{byName, Apart}
 use Rattle.ordering.specs.Passing.{noLine, placed}
@@ -30,9 +30,6 @@ pub apart-compare : (library : List ℕ) (lines : List Line) → Apart library l
 apart-compare library lines apart x y i j p q = apart x y i j (before-neither (bytesOf library (x .name)) (bytesOf library (y .name)) p q)
 
 module _ (library : List ℕ) where
-  pub sorted-front : (x : Line) (xs : List Line) → Apart library (x ∷ xs) → insert (byName library) x (sorted (byName library) xs) ≡ sorted (byName library) (x ∷ xs)
-  sorted-front x xs apart = front (byName library) (by-name library) (λ y. y among (x ∷ xs)) (apart-compare library (x ∷ xs) apart) x xs (every-mine (x ∷ xs))
-
   pub sorted-reverse : (xs : List Line) → Apart library xs → sorted (byName library) (reverse xs) ≡ sorted (byName library) xs
   sorted-reverse xs apart = turned (byName library) (by-name library) (λ y. y among xs) (apart-compare library xs apart) xs (every-mine xs)
 

@@ -1,6 +1,6 @@
 -- A table of zeros has its length, and 0 at every place. Assumes nothing.
 use Prim.Native.Nat.{ℕ, _<_}
-use mathlib.Core.Path.{_≡_, refl, sym, ap}
+use mathlib.Core.Path.{_≡_, sym, ap}
 use native.Mathlib.Decide.{decLt}
 use native.Mathlib.Omega.{arith}
 use lib.ListN.{length, getD, length-replicate, getD-replicate, List·getD-eq-default}
@@ -10,10 +10,6 @@ use Rattle.rooms.specs.Zeros.{zeroList}
 pub zero-length : (n : ℕ) → length (zeroList n) ≡ n
 unfolding zeroList
 zero-length n = length-replicate n 0
-
-pub zero-is : (n : ℕ) → zeroList n ≡ zeros n
-unfolding zeroList
-zero-is n = refl
 
 pub zero-list : (n : ℕ) → zeroList n ≡ zeros (length (zeroList n))
 unfolding zeroList
