@@ -1,0 +1,3 @@
+-- Numbers on the command line.
+pub mod Numbers
+pub mod NumberLaws

@@ -1,0 +1,31 @@
+// Lists where a library's routines and tables stand in an image: the arguments are taken apart, both files read, the run made, and its list printed.
+// A program has no exit status, so what it came to stands on standard error: nothing where a list or the help was printed, else one line that begins
+// with `refused (N): `, `usage: `, `unreadable: ` or `unwritten: `. The script sillmarble, in the repository's root, makes a status of it.
+mod arguments;
+mod file;
+mod find;
+mod help;
+mod memory;
+mod number;
+mod option;
+mod say;
+mod text;
+mod value;
+
+use arguments::Scanned;
+use arguments::scan;
+use find::list;
+use help::help;
+use value::Wanted;
+use value::settings_of;
+
+fn main() {
+    match scan() {
+        Scanned::Given(g) => match settings_of(g) {
+            Wanted::Settings(s) => list(g.image, g.library, s),
+            Wanted::Wrong(w) => say::wrong(w),
+        },
+        Scanned::Help => help(),
+        Scanned::Wrong(w) => say::wrong(w),
+    }
+}

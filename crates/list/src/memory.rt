@@ -1,0 +1,58 @@
+// What the program lends. Each list is made by a function of its own, so that the checker never writes one out.
+//
+// How many rows: a library of 65,536 bytes has at most 9,362 segments (an absolute content takes 7 bytes at least, the definition of a segment 9), 9,362
+// references (a fixup takes 7) and 10,922 public definitions (6 each). So these never run out, unless a public definition belongs to many segments: to
+// several of one id, or to absolute contents that overlap. Pattern bytes are as many as the segments say they are long: twice the file's length is lent,
+// where an ordinary library takes less than once. How many symbols are placed and names noted depends on the image too. For each there is a row for every
+// eight bytes of the longest image, and lines for one and a half times as many; ordinary firmware takes some hundreds.
+//
+// The stack: the lists take 2,883,536 bytes and the two files 131,074. Beside them stand the tables of one stage at a time, of which those of the collection
+// are the largest (3,960,262 bytes, crates/rooms). The compiler puts everything into one frame, where the stages' tables do not share all of their room:
+// 7,757,824 bytes and some, which leaves 600,000 of 8 MiB for all else.
+pub const SEGMENTS: usize = 9362;
+
+pub const REFERENCES: usize = 9362;
+
+pub const SYMBOLS: usize = 10922;
+
+pub const PATTERN: usize = 131072;
+
+pub const PLACED: usize = 8192;
+
+pub const NOTED: usize = 8192;
+
+pub const LINES: usize = 12288;
+
+// Longer than any file that is accepted by one byte, so that a longer file is known by its length.
+pub fn file_room() -> [u8; 65537] {
+    [0u8; 65537]
+}
+
+pub fn segments() -> [u64; 74896] {
+    [0u64; 74896]
+}
+
+pub fn references() -> [u64; 56172] {
+    [0u64; 56172]
+}
+
+pub fn symbols() -> [u64; 32766] {
+    [0u64; 32766]
+}
+
+// Twice: the bytes, and their masks.
+pub fn pattern() -> [u8; 131072] {
+    [0u8; 131072]
+}
+
+pub fn placed() -> [u64; 65536] {
+    [0u64; 65536]
+}
+
+pub fn noted() -> [u64; 49152] {
+    [0u64; 49152]
+}
+
+pub fn lines() -> [u64; 49152] {
+    [0u64; 49152]
+}
