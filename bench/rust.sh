@@ -1,7 +1,7 @@
 #!/bin/sh
-# rust.sh SOURCE OUT: builds the reading of at51's libfind, unchanged, as an x86-64 program to be counted, and the collecting, the search and the list as three others.
+# rust.sh SOURCE OUT: builds the reading of at51's libfind, unchanged, as an x86-64 program to be counted, and the collecting, the search, the list and the whole run as four others.
 # SOURCE is the folder src of at51's repository: it holds libfind/mod.rs and libfind/omf51.rs.
-# Left: OUT/rust-reading, OUT/rust-collecting, OUT/rust-searching and OUT/rust-listing, static; rust/main.rs, collecting.rs, searching.rs and listing.rs say what they do.
+# Left: OUT/rust-reading, OUT/rust-collecting, OUT/rust-searching, OUT/rust-listing and OUT/rust-whole, static; rust/main.rs, collecting.rs, searching.rs, listing.rs and whole.rs say what they do.
 # README.md names the Debian packages.
 # On another machine than x86-64 the standard library for x86-64 is unpacked under OUT beside the machine's own;
 # nothing is installed.
@@ -41,6 +41,6 @@ if [ "$(uname -m)" != x86_64 ]; then
 fi
 export RUSTC RUSTFLAGS="-C target-feature=+crt-static -L native=$out/lib"
 /usr/bin/cargo build --offline --release --target "$target"
-for each in rust-reading rust-collecting rust-searching rust-listing; do
+for each in rust-reading rust-collecting rust-searching rust-listing rust-whole; do
     cp "target/$target/release/$each" "$out/"
 done

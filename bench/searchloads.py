@@ -227,15 +227,15 @@ def halves(rng):
     return alike(bytes(image), [bytes(n - 1) + b"\1" for n in LENGTHS[1:]])
 
 
-def colliding(key):
-    """Names that differ, of different lengths, that share a bucket with each other for each key of this rest modulo 16,384."""
+def colliding(key, buckets=16384):
+    """Names that differ, of different lengths, that share a bucket with each other for each key of this rest modulo so many, at most 65,536."""
     def make(number):
         name = mixed_name(number)
         hashed = key
         for byte in name:
-            hashed = (hashed * 31 + byte) % 16384
+            hashed = (hashed * 31 + byte) % buckets
         # what three letters from the space on have to add, so that the hash comes to 0
-        lacking = (-hashed * 31 ** 3 - 32 * (31 * 31 + 31 + 1)) % 16384
+        lacking = (-hashed * 31 ** 3 - 32 * (31 * 31 + 31 + 1)) % buckets
         high, rest = divmod(lacking, 31 * 31)
         return name + bytes((32 + high, 32 + rest // 31, 32 + rest % 31))
     return make

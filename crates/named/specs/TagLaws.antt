@@ -1,18 +1,24 @@
 -- What is looked at of a row, made of its numbers. Assumes nothing.
 use Prim.Native.Nat.{ℕ, _+_, _-_, _*_, _<_, _≤_}
-use mathlib.Core.Path.{_≡_, sym, ap, _∙_}
-use mathlib.Core.Bool.{Bool, true, false, _&&_}
-use mathlib.Core.List.{List}
+use mathlib.Core.Path.{_≡_, refl, sym, ap, _∙_}
+use mathlib.Core.Logic.{_⊎_, inl, inr}
+use mathlib.Core.Bool.{Bool, true, false, _&&_, not}
+use mathlib.Core.List.{List, []}
 use native.Mathlib.Omega.{arith}
-use lib.Dec.{eqb}
-use lib.ListN.{length, getD}
+use borrow.Author.Tests.{leb-true, eqb-false, not-true}
+use lib.Dec.{eqb, leb}
+use lib.ListN.{length, getD, take, drop, length-drop}
+use lib.Seq.{length-take-le}
+use Rattle.lent.specs.Choice.{if_then_else_}
+use Rattle.lent.specs.ChoiceLaws.{both}
 use Rattle.lent.specs.declared.part.Part.{Part}
 use Rattle.lent.specs.Parts.{bytesOf, same}
+use Rattle.lent.specs.PartLaws.{same-lengths}
 use Rattle.lent.specs.Rows.{cellOf}
 use Rattle.lent.specs.RowLaws.{cell-there, cell-past}
 use Rattle.named.specs.declared.Tag.{Tag}
 use Rattle.named.specs.Tables.{rowIs, followedFor}
-use Rattle.named.specs.Tags.{tagAt}
+use Rattle.named.specs.Tags.{tagAt, otherLength}
 use Rattle.named.specs.FollowLaws.{follow-hit, follow-on, follow-end}
 
 module _ (width : ℕ) (m : List ℕ) (i : ℕ) where
@@ -60,3 +66,21 @@ module _ (library : List ℕ) (width : ℕ) (m : List ℕ) (key : ℕ) (name : P
 
   pub tag-end : is ≡ false → link ≤ tag .next → followedFor library width m key name n link ≡ 0
   tag-end e l = follow-end library width m key name n link some enough (row-is ∙ e) (omega (arith, next-is, l))
+
+-- NAMES OF OTHER LENGTHS are not the same
+length-of : (library : List ℕ) (p : Part) → (length (bytesOf library p) ≡ p .len) ⊎ (length (bytesOf library p) ≡ 0)
+length-of library p = go (leb (p .at + p .len) (length library)) refl
+  where
+    go : (t : Bool) → leb (p .at + p .len) (length library) ≡ t → (length (if t then take (p .len) (drop (p .at) library) else []) ≡ p .len) ⊎ (length (if t then take (p .len) (drop (p .at) library) else []) ≡ 0)
+    go true e = let fits = leb-true (p .at + p .len) (length library) e in inl (length-take-le (p .len) (drop (p .at) library) (rw (length-drop (p .at) library) (omega arith)))
+    go false e = inr refl
+
+pub other-length : (library : List ℕ) (p : Part) (bytes : List ℕ) → otherLength (p .len) (length bytes) ≡ true → same (bytesOf library p) bytes ≡ false
+other-length library p bytes e = same-lengths (bytesOf library p) bytes (λ q. go (length-of library p) q)
+  where
+    parts : (not (eqb (length bytes) 0) ≡ true) × (not (eqb (p .len) (length bytes)) ≡ true)
+    parts = both (not (eqb (length bytes) 0)) (not (eqb (p .len) (length bytes))) e
+
+    go : (length (bytesOf library p) ≡ p .len) ⊎ (length (bytesOf library p) ≡ 0) → length (bytesOf library p) ≡ length bytes → ⊥
+    go (inl h) q = eqb-false (p .len) (length bytes) (not-true (eqb (p .len) (length bytes)) (parts .1)) (sym h ∙ q)
+    go (inr h) q = eqb-false (length bytes) 0 (not-true (eqb (length bytes) 0) (parts .0)) (sym q ∙ h)

@@ -1,6 +1,8 @@
 -- What is looked at of a row when one is sought, and heads made from rows.
 use Prim.Native.Nat.{ℕ, zero, suc, _+_, _-_, _/_, _≤_, _<_}
+use mathlib.Core.Bool.{Bool, _&&_, not}
 use mathlib.Core.List.{List}
+use lib.Dec.{eqb}
 use lib.ListN.{length}
 use Rattle.lent.specs.Parts.{bytesOf}
 use Rattle.lent.specs.Rows.{cellOf}
@@ -10,6 +12,10 @@ use Rattle.named.specs.Tables.{headsWith}
 
 abbrev pub tagAt : ℕ → List ℕ → ℕ → Tag
 tagAt width m i = let n = cellOf width m i in record { key = n 0; name = record { at = n 1; len = n 2 }; next = n (width - 1) }
+
+-- a name of a length can't have so many bytes; one that is no part of the library has none
+abbrev pub otherLength : ℕ → ℕ → Bool
+otherLength len wanted = not (eqb wanted 0) && not (eqb len wanted)
 
 -- so many rows are whole, and if there is one it is wide enough for all of that
 pub record Whole (width : ℕ) (m : List ℕ) (rows : ℕ) : Type 0 where

@@ -7,7 +7,7 @@ ghost use lib.ListN.{getD, set};
 ghost use Rattle.lent.specs.Parts.{bytesOf, same as sameBytes};
 ghost use Rattle.named.specs.Sheet.{nameBucket};
 ghost use Rattle.named.specs.Tables.{followed, headsWith};
-ghost use Rattle.named.specs.Tags.{Whole, tagAt, headedBy};
+ghost use Rattle.named.specs.Tags.{Whole, tagAt, otherLength, headedBy};
 use lent::names;
 use lent::part::Part;
 use lent::rows::cell;
@@ -74,11 +74,24 @@ fn tag_by_cells(m: &[u64], width: usize, i: usize) -> Tag
     }
 }
 
+// Whether a name's bytes can't be these, by its length alone. A name that is no part of the library has no bytes.
+fn is_other_length(len: usize, wanted: usize) -> bool
+    ensures { λ r. ⌜ r ≡ otherLength len wanted ⌝ }
+{
+    if wanted == 0 {
+        return false;
+    }
+    len != wanted
+}
+
 // Whether a row has this key, and a name of these bytes.
 fn is_tagged(library: &[u8], tag: Tag, key: u64, bytes: &[u8]) -> bool
     ensures { λ r. ⌜ r ≡ (eqb (tag .key) key && sameBytes (bytesOf (now (library .entry)) (tag .name)) (now (bytes .entry))) ⌝ }
 {
     if tag.key != key {
+        return false;
+    }
+    if is_other_length(tag.name.len, bytes.len()) {
         return false;
     }
     names::same(names::name(library, tag.name), bytes)
