@@ -30,14 +30,12 @@ pub enum Wrong {
 
 pub enum Scanned {
     Given(Given),
-    Help,
     Wrong(Wrong),
 }
 
 enum Step {
     Plain(Given),
     WithValue(Given),
-    Help,
     Wrong(Wrong),
 }
 
@@ -120,7 +118,6 @@ fn take_in(before: Given, i: usize) -> Step {
         return Step::Wrong(Wrong::TooLong(i));
     }
     match kind_of(&room[..n]) {
-        Kind::Help => Step::Help,
         Kind::NoCheck => with_no_check(before, i),
         Kind::Minimum => with_minimum(before, i),
         Kind::Skip => with_skip(before, i),
@@ -162,9 +159,6 @@ pub fn scan() -> Scanned {
                 Step::WithValue(next) => {
                     g = next;
                     is_value = true;
-                }
-                Step::Help => {
-                    return Scanned::Help;
                 }
                 Step::Wrong(w) => {
                     return Scanned::Wrong(w);

@@ -1,10 +1,9 @@
 // Lists where a library's routines and tables stand in an image: the arguments are taken apart, both files read, the run made, and its list printed.
-// A program has no exit status, so what it came to stands on standard error: nothing where a list or the help was printed, else one line that begins
+// A program has no exit status, so what it came to stands on standard error: nothing where a list was printed, else one line that begins
 // with `refused (N): `, `usage: `, `unreadable: ` or `unwritten: `. The script sillmarble, in the repository's root, makes a status of it.
 mod arguments;
 mod file;
 mod find;
-mod help;
 mod memory;
 mod number;
 mod option;
@@ -15,7 +14,6 @@ mod value;
 use arguments::Scanned;
 use arguments::scan;
 use find::list;
-use help::help;
 use value::Wanted;
 use value::settings_of;
 
@@ -25,7 +23,6 @@ fn main() {
             Wanted::Settings(s) => list(g.image, g.library, s),
             Wanted::Wrong(w) => say::wrong(w),
         },
-        Scanned::Help => help(),
         Scanned::Wrong(w) => say::wrong(w),
     }
 }

@@ -2,7 +2,6 @@
 use lent::names::same;
 
 pub enum Kind {
-    Help,
     NoCheck,
     Minimum,
     Skip,
@@ -13,9 +12,6 @@ pub enum Kind {
 }
 
 fn option(word: &[u8]) -> Kind {
-    if same(word, b"--help") {
-        return Kind::Help;
-    }
     if same(word, b"--no-check") {
         return Kind::NoCheck;
     }

@@ -28,6 +28,7 @@ fn about(before: &[u8], i: usize, behind: &[u8]) {
     say(behind);
 }
 
+// A file or an option that is too much, or not there.
 fn wrong_words(w: Wrong) {
     match w {
         Wrong::TooLong(i) => {
@@ -37,6 +38,12 @@ fn wrong_words(w: Wrong) {
         Wrong::Unknown(i) => about(b"there is no option ", i, b""),
         Wrong::Twice(i) => about(b"the option ", i, b" is given twice"),
         Wrong::NoValue(i) => about(b"the option ", i, b" lacks its value"),
+        _ => file_words(w),
+    }
+}
+
+fn file_words(w: Wrong) {
+    match w {
         Wrong::ThirdFile(i) => about(
             b"only an image and a library are taken, and there is also ",
             i,
@@ -44,6 +51,13 @@ fn wrong_words(w: Wrong) {
         ),
         Wrong::NoImage => say(b"an image and a library are to be named"),
         Wrong::NoLibrary => say(b"a library is to be named behind the image"),
+        _ => value_words(w),
+    }
+}
+
+// A value that is none.
+fn value_words(w: Wrong) {
+    match w {
         Wrong::NotANumber(i) => about(
             b"a number is decimal, or hexadecimal behind 0x, and not ",
             i,
@@ -56,6 +70,7 @@ fn wrong_words(w: Wrong) {
         ),
         Wrong::NoSuchRules(i) => about(b"the rules are found or documented, and not ", i, b""),
         Wrong::NotAStretch(i) => about(b"what is withheld is START:LENGTH, and not ", i, b""),
+        _ => {}
     }
 }
 
@@ -66,12 +81,18 @@ pub fn wrong(w: Wrong) {
 }
 
 // Document 01's words.
-fn reading_words(r: Refusal) {
+fn settings_words(r: Refusal) {
     match r {
         Refusal::RuleSet => say(b"rule set not 0 or 1"),
         Refusal::ImageTooLong => say(b"image too long (more than 65536 bytes)"),
         Refusal::LibraryTooLong => say(b"library too long (more than 65536 bytes)"),
         Refusal::StretchPastEnd => say(b"withheld start + length passes the image's end"),
+        _ => library_words(r),
+    }
+}
+
+fn library_words(r: Refusal) {
+    match r {
         Refusal::NoModule => say(
             b"no first module can be read, or a 2Ch library lacks its 28h, 26h, 2Ah records in that order after its modules",
         ),
@@ -118,7 +139,7 @@ pub fn refused(r: Refusal) {
     say(b"refused (");
     say_number(number(r) as u64);
     say(b"): ");
-    reading_words(r);
+    settings_words(r);
     say(b"\n");
 }
 
