@@ -4,6 +4,7 @@ pub mod ChoiceLaws
 pub mod Leading
 pub mod Lists
 pub mod ListLaws
+pub mod RunLaws
 pub mod Members
 pub mod Parts
 pub mod PartLaws

@@ -1,17 +1,21 @@
 -- Comparing strings of bytes from the front. Assumes nothing.
-use Prim.Native.Nat.{ℕ, suc, _+_, _-_, _≤_, _<_}
-use mathlib.Core.Path.{_≡_, refl, ap}
+use Prim.Native.Nat.{ℕ, zero, suc, _+_, _-_, _≤_, _<_}
+use mathlib.Core.Path.{_≡_, refl, sym, ap, _∙_}
 use mathlib.Core.Bool.{Bool, true, false, _&&_, _||_}
 use mathlib.Core.List.{List, [], _∷_}
 use native.Mathlib.Nat.{add-sub-cancel-left}
 use native.Mathlib.Numerals.{add-one}
 use native.Mathlib.Omega.{arith}
-use borrow.Author.Tests.{eq-eqb, ne-eqb, le-ltb, le-leb, lt-leb}
+use borrow.Author.Tests.{eqb-true, eq-eqb, ne-eqb, le-ltb, le-leb, lt-leb}
+use lib.Bits.{bitOr, bitXor}
 use lib.Dec.{eqb, ltb}
 use lib.ListN.{length, getD, take, drop, drop-of-length-le}
 use lib.Seq.{drop-cons}
 use Rattle.lent.specs.declared.part.Part.{Part}
-use Rattle.lent.specs.Parts.{bytesOf, same, before}
+use Rattle.lent.specs.Lists.{all, from}
+use Rattle.lent.specs.ListLaws.{every}
+use Rattle.lent.specs.RunLaws.{or-none, xor-none, run-turn, run-fewer, run-joins}
+use Rattle.lent.specs.Parts.{bytesOf, same, before, partAlike}
 
 -- a loop over a list by its places
 pub drop-turn : {A : Type 0} (xs : List A) (i : ℕ) (d : A) → i < length xs → drop i xs ≡ getD xs i d ∷ drop (i + 1) xs
@@ -75,3 +79,38 @@ module _ (a b : List ℕ) (i : ℕ) where
       go : (xs : List ℕ) → before xs [] ≡ false
       go [] = refl
       go (x ∷ xs) = refl
+
+-- bytes compared many at a time: what differs in a part and in the byte after it, put together; a part behind bytes that are alike
+module _ (a b : List ℕ) where
+  abbrev alikeAt : ℕ → Bool
+  alikeAt k = eqb (getD a k 0) (getD b k 0)
+
+  pub alike-none : (i : ℕ) → partAlike a b i 0 ≡ true
+  unfolding all from
+  alike-none i = refl
+
+  pub alike-turn : (i n d : ℕ) → eqb d 0 ≡ partAlike a b i n → eqb (bitOr d (bitXor (getD a (i + n) 0) (getD b (i + n) 0))) 0 ≡ partAlike a b i (n + 1)
+  alike-turn i n d e =
+      let x = getD a (i + n) 0 in
+      let y = getD b (i + n) 0 in
+      rw (or-none d (bitXor x y), e, xor-none x y, run-turn alikeAt i n)
+
+  pub alike-joins : (i at m n : ℕ) → at ≤ i → i ≤ n → at + m ≡ n → partAlike a b 0 i ≡ true → partAlike a b at m ≡ partAlike a b 0 n
+  alike-joins i at m n l h e before = run-joins alikeAt i at m n l h e before
+
+  -- what is left of two strings decides as the whole does
+  pub same-rest : (r : ℕ) → r ≤ length a → r ≤ length b → partAlike a b 0 r ≡ true → same (drop r a) (drop r b) ≡ same a b
+  same-rest zero l m e = refl
+  same-rest (suc r) l m e =
+      let next : suc r ≡ r + 1 = omega arith in
+      let byte = eqb-true (getD a r 0) (getD b r 0) (every alikeAt 0 (suc r) e r (omega arith) (omega arith)) in
+      let rest = run-fewer alikeAt r (suc r) (omega arith) e in
+      rw next (sym (same-turn a b r (omega arith) (omega arith) byte) ∙ same-rest r (omega arith) (omega arith) rest)
+
+  pub before-rest : (r : ℕ) → r ≤ length a → r ≤ length b → partAlike a b 0 r ≡ true → before (drop r a) (drop r b) ≡ before a b
+  before-rest zero l m e = refl
+  before-rest (suc r) l m e =
+      let next : suc r ≡ r + 1 = omega arith in
+      let byte = eqb-true (getD a r 0) (getD b r 0) (every alikeAt 0 (suc r) e r (omega arith) (omega arith)) in
+      let rest = run-fewer alikeAt r (suc r) (omega arith) e in
+      rw next (sym (before-turn a b r (omega arith) (omega arith) byte) ∙ before-rest r (omega arith) (omega arith) rest)

@@ -1,6 +1,8 @@
 // Names are parts of the library: their bytes, whether two are the same, and which comes first in byte order.
+ghost use Prim.Native.Nat.{_+_, _≤_, min};
 ghost use mathlib.Core.Path.{_≡_};
-ghost use Rattle.lent.specs.Parts.{bytesOf, same as sameBytes, before as beforeBytes, sameName, nameBefore};
+ghost use lib.ListN.{length};
+ghost use Rattle.lent.specs.Parts.{bytesOf, same as sameBytes, before as beforeBytes, partAlike, AlikeUpTo, sameName, nameBefore};
 use crate::part::Part;
 
 // That very part of the library; one that does not fit is empty.
@@ -19,6 +21,47 @@ pub fn name<'a>(library: &'a [u8], p: Part) -> &'a [u8]
     &library[at..end]
 }
 
+fn shorter(a: usize, b: usize) -> usize
+    ensures { λ r. ⌜ r ≡ min a b ⌝ }
+{
+    if a < b { a } else { b }
+}
+
+// Whether the 8 bytes of two strings from i on are alike: with no test between them they are compared at once.
+fn part_alike(a: &[u8], b: &[u8], i: usize) -> bool
+    requires { ⌜ (i + 8 ≤ length (now a)) × (i + 8 ≤ length (now b)) ⌝ }
+    ensures { λ r. ⌜ r ≡ partAlike (now (a .entry)) (now (b .entry)) i 8 ⌝ }
+{
+    let mut differ = 0;
+    let mut j = 0;
+    while j < 8 {
+        differ = differ | (a[i + j] ^ b[i + j]);
+        j += 1;
+    }
+    differ == 0
+}
+
+// How many of the first n bytes are alike, by parts of 8: all of them, or those before a part that is not. The last part begins in the
+// one before it where 8 does not divide n. Fewer than 8 are not looked at.
+fn parts_alike(a: &[u8], b: &[u8], n: usize) -> usize
+    requires { ⌜ (n ≤ length (now a)) × (n ≤ length (now b)) ⌝ }
+    ensures { λ r. ⌜ AlikeUpTo (now (a .entry)) (now (b .entry)) n r ⌝ }
+{
+    if n < 8 {
+        return 0;
+    }
+    let last = n - 8;
+    let mut i = 0;
+    while i < n {
+        let part = shorter(i, last);
+        if !part_alike(a, b, part) {
+            return i;
+        }
+        i = part + 8;
+    }
+    i
+}
+
 // Whether two strings of bytes are the same.
 pub fn same(a: &[u8], b: &[u8]) -> bool
     ensures { λ r. ⌜ r ≡ sameBytes (now (a .entry)) (now (b .entry)) ⌝ }
@@ -26,7 +69,7 @@ pub fn same(a: &[u8], b: &[u8]) -> bool
     if a.len() != b.len() {
         return false;
     }
-    let mut i = 0;
+    let mut i = parts_alike(a, b, a.len());
     while i < a.len() {
         if a[i] != b[i] {
             return false;
@@ -40,7 +83,7 @@ pub fn same(a: &[u8], b: &[u8]) -> bool
 pub fn before(a: &[u8], b: &[u8]) -> bool
     ensures { λ r. ⌜ r ≡ beforeBytes (now (a .entry)) (now (b .entry)) ⌝ }
 {
-    let mut i = 0;
+    let mut i = parts_alike(a, b, shorter(a.len(), b.len()));
     while i < b.len() {
         if a.len() <= i {
             return true;

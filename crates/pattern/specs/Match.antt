@@ -1,6 +1,7 @@
 -- Where a pattern, bytes with masks, matches a view.
-use Prim.Native.Nat.{ℕ, _+_}
-use mathlib.Core.Bool.{Bool, _&&_}
+use Prim.Native.Nat.{ℕ, _+_, _≤_}
+use mathlib.Core.Path.{_≡_}
+use mathlib.Core.Bool.{Bool, true, _&&_}
 use mathlib.Core.List.{List}
 use lib.Bits.{bitAnd, bitXor}
 use lib.Dec.{eqb, leb}
@@ -19,6 +20,20 @@ unfoldable pub matchesAt : List ℕ → List ℕ → List ℕ → ℕ → Bool
 matchesAt cells bytes masks at =
     leb (at + length bytes) (length cells)
     && all (λ i. agrees (cellAt cells (at + i)) (getD bytes i 0) (getD masks i 0)) (from 0 (length bytes))
+
+-- n bytes of the pattern from its byte i on agree there; and they may be asked for: image, bytes and masks reach that far
+abbrev pub partAgrees : List ℕ → List ℕ → List ℕ → ℕ → ℕ → ℕ → Bool
+partAgrees cells bytes masks at i n = all (λ k. agrees (cellAt cells (at + k)) (getD bytes k 0) (getD masks k 0)) (from i n)
+
+pub record Reaches (image bytes masks : List ℕ) (at n : ℕ) : Type 0 where
+  pub cells : at + n ≤ length image
+  pub bytes-long : n ≤ length bytes
+  pub masks-long : n ≤ length masks
+
+-- of n bytes the first r agree
+pub record Agreeing (cells bytes masks : List ℕ) (at n r : ℕ) : Type 0 where
+  pub inside : r ≤ n
+  pub agree : partAgrees cells bytes masks at 0 r ≡ true
 
 -- the places to try: all, up to the end itself (where only an empty pattern fits), or the address alone
 abbrev pub tried : List ℕ → Seat → List ℕ

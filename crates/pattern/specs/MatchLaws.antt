@@ -1,22 +1,24 @@
 -- Where a pattern matches, in words, and what the stretch takes away. Assumes nothing.
 use Prim.Native.Nat.{ℕ, _+_, _-_, _≤_, _<_, min}
-use mathlib.Core.Path.{_≡_}
+use mathlib.Core.Path.{_≡_, refl}
 use mathlib.Core.Logic.{_↔_}
 use mathlib.Core.Bool.{Bool, true, false, and-eq-true-iff, false≢true}
 use mathlib.Core.List.{List}
 use native.Mathlib.Omega.{arith}
-use native.Mathlib.Nat.{sub-zero}
+use native.Mathlib.Decide.{decLt}
+use native.Mathlib.Nat.{zero-add}
 use borrow.Author.Tests.{leb-true, le-leb, lt-leb, ltb-true, lt-ltb, eq-eqb, ne-eqb}
-use lib.Bits.{bitAnd, bitXor, and-zero-r}
-use lib.Dec.{leb}
+use lib.Bits.{bitAnd, bitOr, bitXor, and-zero-r}
+use lib.Dec.{eqb, leb}
 use lib.ListN.{length, getD, List·getD-eq-default}
 use Rattle.lent.specs.ChoiceLaws.{same-test}
 use Rattle.lent.specs.Lists.{all, from}
-use Rattle.lent.specs.ListLaws.{from-turn, every, if-every}
+use Rattle.lent.specs.ListLaws.{every, if-every}
+use Rattle.lent.specs.RunLaws.{or-none, run-turn, run-fails, run-fewer, run-joins}
 use Rattle.pattern.specs.declared.Stretch.{Stretch}
 use Rattle.pattern.specs.View.{view, cellAt, isByte}
 use Rattle.pattern.specs.ViewLaws.{Inside, view-length, view-inside, view-outside}
-use Rattle.pattern.specs.Match.{agrees, matchesAt}
+use Rattle.pattern.specs.Match.{agrees, matchesAt, partAgrees, Agreeing}
 
 -- all of it fits, and each byte agrees
 pub record Matches (cells bytes masks : List ℕ) (at : ℕ) : Type 0 where
@@ -35,34 +37,66 @@ matches-at cells bytes masks at =
       (λ m. iff .1 (le-leb (at + length bytes) (length cells) (m .fits), if-every p 0 (length bytes) (λ i l h. m .agree i (omega arith)))),
     )
 
--- one that does not fit matches nowhere; the rest of a match, from the pattern's byte i on, by which a loop goes
+-- one that does not fit matches nowhere; parts of a pattern, by which loops go
 module _ (cells bytes masks : List ℕ) (at : ℕ) where
-  abbrev pub restAgrees : ℕ → Bool
-  restAgrees i = all (λ k. agrees (cellAt cells (at + k)) (getD bytes k 0) (getD masks k 0)) (from i (length bytes - i))
+  abbrev byteAgrees : ℕ → Bool
+  byteAgrees k = agrees (cellAt cells (at + k)) (getD bytes k 0) (getD masks k 0)
 
   pub match-past : length cells < at + length bytes → matchesAt cells bytes masks at ≡ false
   unfolding matchesAt
   match-past h = rw (lt-leb (at + length bytes) (length cells) h)
 
-  pub match-fits : at + length bytes ≤ length cells → restAgrees 0 ≡ matchesAt cells bytes masks at
-  unfolding matchesAt
-  match-fits h = rw (le-leb (at + length bytes) (length cells) h, sub-zero)
+  -- what differs in a part and in the byte after it, put together
+  pub part-turn : (i n d : ℕ) → cellAt cells (at + (i + n)) < 256 → eqb d 0 ≡ partAgrees cells bytes masks at i n
+      → eqb (bitOr d (bitAnd (bitXor (cellAt cells (at + (i + n))) (getD bytes (i + n) 0)) (getD masks (i + n) 0))) 0 ≡ partAgrees cells bytes masks at i (n + 1)
+  part-turn i n d b e =
+      let x = bitAnd (bitXor (cellAt cells (at + (i + n))) (getD bytes (i + n) 0)) (getD masks (i + n) 0) in
+      rw (or-none d x, e, run-turn byteAgrees i n, lt-ltb (cellAt cells (at + (i + n))) 256 b)
 
-  pub rest-fails : (i : ℕ) → i < length bytes → cellAt cells (at + i) < 256
-      → (bitAnd (bitXor (cellAt cells (at + i)) (getD bytes i 0)) (getD masks i 0) ≡ 0 → ⊥) → restAgrees i ≡ false
-  unfolding all
-  rest-fails i h b ne = rw (from-turn i (length bytes) h, lt-ltb (cellAt cells (at + i)) 256 b, ne-eqb _ 0 ne)
+  -- no byte, and the first i bytes and one more, which agrees or does not
+  pub part-none : (i : ℕ) → partAgrees cells bytes masks at i 0 ≡ true
+  unfolding all from
+  part-none i = refl
 
-  pub rest-turn : (i : ℕ) → i < length bytes → cellAt cells (at + i) < 256
-      → bitAnd (bitXor (cellAt cells (at + i)) (getD bytes i 0)) (getD masks i 0) ≡ 0 → restAgrees i ≡ restAgrees (i + 1)
-  unfolding all
-  rest-turn i h b e = rw (from-turn i (length bytes) h, lt-ltb (cellAt cells (at + i)) 256 b, eq-eqb _ 0 e)
+  pub none-agreeing : (n : ℕ) → Agreeing cells bytes masks at n 0
+  none-agreeing n = record { inside = omega arith; agree = part-none 0 }
 
-  -- where the pattern or its masks end, nothing disagrees any more
-  pub rest-ends : (i : ℕ) → min (length bytes) (length masks) ≤ i → ((k : ℕ) → cellAt cells k < 256) → restAgrees i ≡ true
-  rest-ends i h b = if-every _ i (length bytes - i) λ k l m.
-      let mask : getD masks k 0 ≡ 0 = List·getD-eq-default masks 0 (omega arith) in
-      rw (lt-ltb (cellAt cells (at + k)) 256 (b (at + k)), mask, and-zero-r)
+  pub part-next : (i : ℕ) → cellAt cells (at + i) < 256 → bitAnd (bitXor (cellAt cells (at + i)) (getD bytes i 0)) (getD masks i 0) ≡ 0
+      → partAgrees cells bytes masks at 0 i ≡ true → partAgrees cells bytes masks at 0 (i + 1) ≡ true
+  part-next i b e before = rw (run-turn byteAgrees 0 i, zero-add i, before, lt-ltb (cellAt cells (at + i)) 256 b, eq-eqb _ 0 e)
+
+  pub part-fails : (i n : ℕ) → i < n → cellAt cells (at + i) < 256
+      → (bitAnd (bitXor (cellAt cells (at + i)) (getD bytes i 0)) (getD masks i 0) ≡ 0 → ⊥) → partAgrees cells bytes masks at 0 n ≡ false
+  unfolding all from
+  part-fails i n h b ne = run-fails byteAgrees i 1 0 n (omega arith) (omega arith) (rw (lt-ltb (cellAt cells (at + i)) 256 b, ne-eqb _ 0 ne))
+
+  -- a part that does not agree; fewer bytes that do; a part behind bytes that all agree
+  pub part-within : (i m n : ℕ) → i + m ≤ n → partAgrees cells bytes masks at i m ≡ false → partAgrees cells bytes masks at 0 n ≡ false
+  part-within i m n h e = run-fails byteAgrees i m 0 n (omega arith) (omega arith) e
+
+  pub part-fewer : (r i : ℕ) → r ≤ i → partAgrees cells bytes masks at 0 i ≡ true → partAgrees cells bytes masks at 0 r ≡ true
+  part-fewer r i h e = run-fewer byteAgrees r i h e
+
+  pub part-joins : (i a m n : ℕ) → a ≤ i → i ≤ n → a + m ≡ n → partAgrees cells bytes masks at 0 i ≡ true
+      → partAgrees cells bytes masks at a m ≡ partAgrees cells bytes masks at 0 n
+  part-joins i a m n l h e before = run-joins byteAgrees i a m n l h e before
+
+  -- up to where the pattern or its masks end is all of it: behind that nothing disagrees
+  pub part-whole : (n : ℕ) → at + length bytes ≤ length cells → n ≡ min (length bytes) (length masks) → ((k : ℕ) → cellAt cells k < 256)
+      → partAgrees cells bytes masks at 0 n ≡ matchesAt cells bytes masks at
+  part-whole n fits e b = same-test (partAgrees cells bytes masks at 0 n) (matchesAt cells bytes masks at) there back
+    where
+      there : partAgrees cells bytes masks at 0 n ≡ true → matchesAt cells bytes masks at ≡ true
+      there t = matches-at cells bytes masks at .1 (record { fits = fits; agree = λ k l. go k l (decLt k n) })
+        where
+          go : (k : ℕ) → k < length bytes → Dec (k < n) → byteAgrees k ≡ true
+          go k l (yes h) = every byteAgrees 0 n t k (omega arith) (omega arith)
+          go k l (no h) =
+              let mask : getD masks k 0 ≡ 0 = List·getD-eq-default masks 0 (omega arith) in
+              rw (lt-ltb (cellAt cells (at + k)) 256 (b (at + k)), mask, and-zero-r)
+
+      back : matchesAt cells bytes masks at ≡ true → partAgrees cells bytes masks at 0 n ≡ true
+      back t = if-every byteAgrees 0 n (λ k l h. matches-at cells bytes masks at .0 t .agree k (omega arith))
 
 -- n bytes from a place on share none with the stretch
 abbrev pub Apart : ℕ → ℕ → Stretch → Type 0

@@ -1,78 +1,58 @@
--- `stands_at` goes along the pattern. The invariant: what is left of it decides as the whole did. Assumes nothing.
-use Prim.Native.Nat.{ℕ, _+_, _-_, _≤_, min}
-use mathlib.Core.Path.{_≡_, sym, _∙_}
-use mathlib.Core.List.{List}
-use native.Mathlib.Omega.{arith}
-use lib.ListN.{length}
+-- `stands_at` asks for all that has a mask, at once or after the first bytes. Assumes nothing.
 use borrow.Author.Needs.{needs}
-use Rattle.pattern.specs.Match.{matchesAt}
-use Rattle.pattern.specs.MatchLaws.{restAgrees, match-past, match-fits, rest-fails, rest-turn, rest-ends}
 use Rattle.pattern.proofs.stands_at.Statement.{statement}
 use Rattle.pattern.proofs.stands_at.Tie as tie
+use mathlib.Core.Path.{sym, _∙_}
+use native.Mathlib.Omega.{arith}
+use borrow.Author.Tests.{not-true}
+use Rattle.pattern.specs.MatchLaws.{none-agreeing, match-past, part-within, part-whole}
 
-record Inv (image bytes masks : List ℕ) (at n i : ℕ) : Type 0 where
-  inside : i ≤ n
-  most : n ≡ min (length bytes) (length masks)
-  fits : at + length bytes ≤ length image
-  same : restAgrees image bytes masks at i ≡ matchesAt image bytes masks at
-
-abbrev Inv-loop : tie.InvT-loop
-Inv-loop image bytes masks at n i₀ i = Inv image bytes masks at n i
-
-abbrev μ-loop : tie.MeasureT-loop
-μ-loop image bytes masks at n i₀ i = n - i
-
-returns : tie.Need-returns Inv-loop μ-loop
+returns : tie.Need-returns
 returns c = sym (match-past _ _ _ _ (omega arith))
 
-returns-2 : tie.Need-returns-2 Inv-loop μ-loop
+returns-2 : tie.Need-returns-2
 returns-2 c = sym (match-past _ _ _ _ (omega arith))
 
-loop-holds : tie.Need-loop-holds Inv-loop μ-loop
-loop-holds c = record { inside = search needs; most = search needs; fits = search needs; same = match-fits _ _ _ _ (omega arith) }
+rest-agrees-requires : tie.Need-rest-agrees-requires
+rest-agrees-requires c κs = (none-agreeing _ _ _ _ _, search needs)
 
-returns-3 : tie.Need-returns-3 Inv-loop μ-loop
+returns-3 : tie.Need-returns-3
 returns-3 c =
-    let a = c .before .before .before .before .before .before .before .before .before .before .before .before .args in
-    let l = c .before .before .before .before .before .loop in
-    let byte = c .before .before .before .shared-slice-known4 .given (a .at + l .i) in
-    sym (rest-fails (a .image .now) (a .bytes .now) (a .masks .now) (a .at) (l .i) (omega arith) (omega (arith, byte)) (c .if3 .taken)) ∙ l .inv .same
-
-loop-again : tie.Need-loop-again Inv-loop μ-loop
-loop-again c =
-    let a = c .before .before .before .before .before .before .before .before .before .before .before .before .args in
-    let l = c .before .before .before .before .before .loop in
-    let byte = c .before .before .before .shared-slice-known4 .given (a .at + l .i) in
-    record {
-      inside = search needs;
-      most = l .inv .most;
-      fits = l .inv .fits;
-      same = sym (rest-turn (a .image .now) (a .bytes .now) (a .masks .now) (a .at) (l .i) (omega arith) (omega (arith, byte)) (c .if3 .left)) ∙ l .inv .same;
-    }
-
-returns-4 : tie.Need-returns-4 Inv-loop μ-loop
-returns-4 c =
     let a = c .before .before .before .before .before .before .before .before .args in
-    let l = c .before .loop in
-    sym (rest-ends (a .image .now) (a .bytes .now) (a .masks .now) (a .at) (l .i) (omega arith) (λ k. omega (arith, c .before .before .before .before .before .before .before .shared-slice-known .given k))) ∙ l .inv .same
+    let n = c .before .before .shorter in
+    c .rest-agrees .ensures
+    ∙ part-whole (a .image .now) (a .bytes .now) (a .masks .now) (a .at) (n .result) (omega arith) (n .ensures) (λ k. omega (arith, c .before .before .before .before .before .before .before .shared-slice-known .given k))
+
+rest-agrees-requires-2 : tie.Need-rest-agrees-requires-2
+rest-agrees-requires-2 c κs = (none-agreeing _ _ _ _ _, search needs)
+
+returns-4 : tie.Need-returns-4
+returns-4 c =
+    let a = c .before .before .before .before .before .before .before .before .before .args in
+    let n = c .before .before .before .shorter in
+    let first = sym (c .before .rest-agrees2 .ensures) ∙ not-true (c .before .rest-agrees2 .result) (c .if4 .taken) in
+    sym (part-within (a .image .now) (a .bytes .now) (a .masks .now) (a .at) 0 4 (n .result) (omega arith) first)
+    ∙ part-whole (a .image .now) (a .bytes .now) (a .masks .now) (a .at) (n .result) (omega arith) (n .ensures) (λ k. omega (arith, c .before .before .before .before .before .before .before .before .shared-slice-known .given k))
+
+returns-5 : tie.Need-returns-5
+returns-5 c =
+    let a = c .before .before .before .before .before .before .before .before .before .before .before .args in
+    let n = c .before .before .before .before .before .shorter in
+    c .rest-agrees3 .ensures
+    ∙ part-whole (a .image .now) (a .bytes .now) (a .masks .now) (a .at) (n .result) (omega arith) (n .ensures) (λ k. omega (arith, c .before .before .before .before .before .before .before .before .before .before .shared-slice-known .given k))
 
 pub stands-at-spec : {M : Type 1} → statement M
 stands-at-spec =
     tie.close
     (tie.spec
-    Inv-loop
-    μ-loop
     returns
     (λ c. search needs)
     returns-2
     (λ c κs. search needs)
-    loop-holds
-    (λ c. search needs)
-    (λ c. search needs)
-    (λ c. search needs)
-    (λ c. search needs)
+    rest-agrees-requires
     returns-3
-    (λ c. search needs)
-    (λ c. search needs)
-    loop-again
-    returns-4)
+    rest-agrees-requires-2
+    returns-4
+    (λ c κs. search needs)
+    (λ c κs. search needs)
+    returns-5)

@@ -1,14 +1,14 @@
--- `same` goes along both strings. The invariant: what is left of them decides as the whole did. Assumes nothing.
+-- `same` passes over parts that are alike, then goes along both strings. The invariant: what is left of them decides as the whole did. Assumes nothing.
+use Rattle.lent.proofs.names.same.Statement.{statement}
+use Rattle.lent.proofs.names.same.Tie as tie
 use Prim.Native.Nat.{ℕ, _-_, _≤_}
-use mathlib.Core.Path.{_≡_, refl, sym, _∙_}
+use mathlib.Core.Path.{_≡_, sym, _∙_}
 use mathlib.Core.List.{List}
 use native.Mathlib.Omega.{arith}
 use lib.ListN.{length, drop}
 use borrow.Author.Needs.{needs}
 use Rattle.lent.specs.Parts.{same}
-use Rattle.lent.specs.PartLaws.{same-lengths, same-turn, same-differs, same-ends}
-use Rattle.lent.proofs.names.same.Statement.{statement}
-use Rattle.lent.proofs.names.same.Tie as tie
+use Rattle.lent.specs.PartLaws.{same-lengths, same-turn, same-differs, same-ends, same-rest}
 
 record Inv (a b : List ℕ) (i : ℕ) : Type 0 where
   inside : i ≤ length a
@@ -22,20 +22,27 @@ abbrev μ-loop : tie.MeasureT-loop
 μ-loop a b i₀ i = length a - i
 
 returns : tie.Need-returns Inv-loop μ-loop
-returns c = sym (same-lengths (c .before .args .a .now) (c .before .args .b .now) (c .if1 .taken))
+returns c = let a = c .before .before .before .args in sym (same-lengths (a .a .now) (a .b .now) (c .if1 .taken))
 
 loop-holds : tie.Need-loop-holds Inv-loop μ-loop
-loop-holds c = record { inside = search needs; long = c .if1 .left; alike = refl }
+loop-holds c =
+    let a = c .before .before .before .before .args in
+    let known = c .parts-alike .ensures in
+    record {
+      inside = known .inside;
+      long = c .before .if1 .left;
+      alike = same-rest (a .a .now) (a .b .now) (c .parts-alike .result) (omega (arith, known .inside)) (omega (arith, known .inside)) (known .alike);
+    }
 
 returns-2 : tie.Need-returns-2 Inv-loop μ-loop
 returns-2 c =
-    let a = c .before .before .before .before .before .before .args in
+    let a = c .before .before .before .before .before .before .before .before .before .args in
     let l = c .before .before .before .before .loop in
     sym (same-differs (a .a .now) (a .b .now) (l .i) (omega arith) (omega arith) (c .if2 .taken)) ∙ l .inv .alike
 
 loop-again : tie.Need-loop-again Inv-loop μ-loop
 loop-again c =
-    let a = c .before .before .before .before .before .before .args in
+    let a = c .before .before .before .before .before .before .before .before .before .args in
     let l = c .before .before .before .before .loop in
     record {
       inside = search needs;
@@ -45,7 +52,7 @@ loop-again c =
 
 returns-3 : tie.Need-returns-3 Inv-loop μ-loop
 returns-3 c =
-    let a = c .before .before .before .args in
+    let a = c .before .before .before .before .before .before .args in
     let l = c .before .loop in
     sym (same-ends (a .a .now) (a .b .now) (l .i) (omega arith) (omega arith)) ∙ l .inv .alike
 
@@ -56,6 +63,7 @@ same-spec =
     Inv-loop
     μ-loop
     returns
+    (λ c κs. search needs)
     loop-holds
     (λ c. search needs)
     (λ c. search needs)
