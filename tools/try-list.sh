@@ -158,6 +158,32 @@ PATH=$work/bin "$program" list aid.img routines.lib >out 2>err || got=$?
 [ "$got" -eq 2 ] && [ ! -s out ] && grep -q 'there is no rt on the path' err && was=0 || was=1
 count $was 'without rt on the path'
 
+# a kit that does not prove, and something else that is called rt
+for tool in mkdir mv; do ln -s "$(command -v $tool)" "bin/$tool"; done
+unbuilt() { # WORDS LABEL, and the script on standard input
+    cat >bin/rt
+    chmod +x bin/rt
+    got=0
+    PATH=$work/bin "$program" list aid.img routines.lib >out 2>err || got=$?
+    [ "$got" -eq 2 ] && [ ! -s out ] && [ "$(tail -n 1 err)" = "sillmarble: $1" ] && was=0 || was=1
+    count $was "$2"
+}
+unbuilt "list was not built: 'rt check list' says why" 'with a kit that does not prove' <<'EOF'
+#!/bin/sh
+[ "$1" != version ] || { echo another; exit 0; }
+echo 'rt: list NOT PROVED'
+exit 1
+EOF
+unbuilt "'rt version' fails: is that the Rattle kit's rt?" 'with another rt' <<'EOF'
+#!/bin/sh
+exit 1
+EOF
+
+# a reader that goes away ends it quietly
+"$program" list many.img many.lib 2>err | head -n 1 >out
+[ ! -s err ] && [ "$(cat out)" = 'Address | Name                 | Description' ] && was=0 || was=1
+count $was 'a reader that goes away'
+
 # the example's files are what examples/make.py makes, here and where the gate has them
 cmp -s aid.img "$root/examples/aid.img" && cmp -s routines.lib "$root/examples/routines.lib" && was=0 || was=1
 cmp -s aid.img "$root/crates/list/data/aid.img" && cmp -s routines.lib "$root/crates/list/data/routines.lib" || was=1

@@ -1,0 +1,83 @@
+/* libfind.h: what the static library of the crate libfind_c exports. Each function is proved to end, to touch no memory but what it is handed, and to give what
+   crates/libfind_c/specs/Exported.antt defines, for all inputs.
+
+   A list that is lent is a pointer to its first element and then its length, in elements and not in bytes. Lists that are written must overlap nothing else
+   that is handed over. An empty list may have any pointer but NULL. sillmarble_find takes 7,600,000 bytes of stack: the 8 MiB that a program usually has are
+   enough, the 2 MiB that a further thread often has are not. */
+#ifndef SILLMARBLE_LIBFIND_H
+#define SILLMARBLE_LIBFIND_H
+
+#include <stdbool.h>
+#include <stddef.h>
+#include <stdint.h>
+
+/* How many numbers a row of each list has. */
+enum {
+    SILLMARBLE_SEGMENT = 8,
+    SILLMARBLE_REFERENCE = 6,
+    SILLMARBLE_SYMBOL = 3,
+    SILLMARBLE_PLACED = 8,
+    SILLMARBLE_NOTED = 6,
+    SILLMARBLE_LINE = 4
+};
+
+/* What the seven counts are, in their order. */
+enum {
+    SILLMARBLE_SEGMENTS,
+    SILLMARBLE_REFERENCES,
+    SILLMARBLE_SYMBOLS,
+    SILLMARBLE_PATTERN_BYTES,
+    SILLMARBLE_PLACED_SYMBOLS,
+    SILLMARBLE_NOTED_NAMES,
+    SILLMARBLE_LINES,
+    SILLMARBLE_COUNTS
+};
+
+/* Lists where the names of a library stand in an image.
+
+   Returns 0 if that was done, and otherwise the number of the refusal:
+     1  rule set not 0 or 1                        2  image longer than 65,536 bytes         3  library longer than 1,048,576 bytes
+     4  what is withheld passes the image's end    5  no first module can be read, or a 2Ch library lacks its closing records
+     6  a record's body passes the file's end      7  a record has length 0                  8  a module's header and end have different names
+     9  more rows or pattern bytes than were lent 10  a fixup kind above 7                  11  a fixup block above 3
+    12  a content passes its segment's end        13  a fixup to a segment that is not kept
+   Refusals 1 to 8 leave all lent lists as they were, 9 to 13 set them to zero. On 0 each list begins with its rows, and the rest of it is zero.
+
+   image, library       the bytes of both files
+   rules                1: as documented, where AJMP and ACALL keep the top three bits of their targets and a symbol of an absolute content stands at its own
+                        address. 0: as at51 has it
+   check                whether a match counts only if the segments that it refers to stand where it says
+   minimum              so many bytes of a pattern must be fixed, in whole or in part, for a match to count by itself
+   skips, amount        whether addresses with more than `amount` names are left out; if not, `amount` has no influence
+   withheld, withheld_length
+                        the bytes of the image that have no influence on anything that comes out, from `withheld` on; a length of 0 withholds nothing
+   counts               seven numbers: how many rows, and pattern bytes, there are; all zero with every refusal. If fewer than seven are lent, none is written;
+                        those behind the seventh stay as they were
+   segments, references, symbols, bytes, masks
+                        for the segments of the library: rows of 8, 6 and 3 numbers, and pattern bytes with as many masks
+   placed, noted        for what was found: symbols that are placed, rows of 8, and names that are referred to, rows of 6
+   lines                for the list, rows of 4, by address: the address, the grade, and the place and the length of the name in the library.
+                        Grade 3: it stands there, is referred to there, and what it refers to by name stands where it should. 2: the same, but not referred to.
+                        1: something that it refers to by name does not stand where it should. 0: it is only referred to there */
+uint8_t sillmarble_find(const uint8_t *image, size_t in_image, const uint8_t *library, size_t in_library, uint64_t rules, bool check, size_t minimum,
+                        bool skips, size_t amount, size_t withheld, size_t withheld_length, uint64_t *counts, size_t in_counts, uint64_t *segments,
+                        size_t in_segments, uint64_t *references, size_t in_references, uint64_t *symbols, size_t in_symbols, uint8_t *bytes,
+                        size_t in_bytes, uint8_t *masks, size_t in_masks, uint64_t *placed, size_t in_placed, uint64_t *noted, size_t in_noted,
+                        uint64_t *lines, size_t in_lines);
+
+/* Prints the heading and the first n lines into `out`, in at51's layout, each with its line end and with no 0 behind the last. `library` is the one that the
+   lines were made of. Returns how many bytes that are; 0 if `out` is too short, which then stays as it was. */
+size_t sillmarble_print(const uint8_t *library, size_t in_library, const uint64_t *lines, size_t in_lines, size_t n, uint8_t *out, size_t in_out);
+
+/* The heading alone (45 bytes), and line number i alone, from 0 on (368 bytes at most): to print a list of any length through a small buffer. */
+size_t sillmarble_print_heading(uint8_t *out, size_t in_out);
+size_t sillmarble_print_line(const uint8_t *library, size_t in_library, const uint64_t *lines, size_t in_lines, size_t i, uint8_t *out, size_t in_out);
+
+/* Puts the description of a name into `out`. Returns how many bytes that are; 0 if the name has none, and SIZE_MAX if `out` is too short, which in both
+   cases stays as it was. 88 bytes are always enough. */
+size_t sillmarble_describe(const uint8_t *name, size_t in_name, uint8_t *out, size_t in_out);
+
+/* How many numbers or bytes a row of a list has: 0 segments, 1 references, 2 symbols, 3 bytes, 4 masks, 5 placed, 6 noted, 7 lines; 0 for any other. */
+size_t sillmarble_row_width(size_t list);
+
+#endif

@@ -1,0 +1,70 @@
+#!/bin/sh
+# run.sh OUT: builds the static library and both examples for x86-64, runs them on the files of examples/ and on one that is refused, and compares what they
+# print with what `./sillmarble list` prints. Left: OUT/example-c, OUT/example-rs. The last line is 'N passed, 0 failed', and then the status is 0.
+# README.md names what has to be installed. On another machine than x86-64 Debian's emulator runs them (a program of Rust's ends that of the kit, QEMU 8.2.2, as it
+# starts), and Rust's standard library for x86-64 is unpacked under OUT; nothing is installed.
+set -eu
+[ $# -eq 1 ] || { echo "usage: run.sh OUT" >&2; exit 2; }
+root=$(cd "$(dirname "$0")/.." && pwd)
+mkdir -p "$1"
+out=$(cd "$1" && pwd)
+cd "$root"
+rt staticlib libfind_c >"$out/staticlib.log" 2>&1 || { cat "$out/staticlib.log"; exit 1; }
+library=$root/target/staticlib/liblibfind_c.a
+
+build_here() {
+    cc -O2 -std=c99 -Wall -Wextra -o "$out/example-c" callers/example.c "$library"
+    rustc -O --edition 2021 -o "$out/example-rs" -L "native=$root/target/staticlib" -l static=libfind_c callers/example.rs
+}
+
+# Debian's own compiler, with the standard library for x86-64 beside the machine's own (as bench/rust.sh does)
+build_across() {
+    target=x86_64-unknown-linux-gnu
+    x86_64-linux-gnu-gcc -O2 -std=c99 -Wall -Wextra -static -o "$out/example-c" callers/example.c "$library"
+    if [ ! -d "$out/std/usr" ]; then
+        mkdir -p "$out/std"
+        (cd "$out/std" && apt-get download libstd-rust-dev:amd64 && dpkg -x libstd-rust-dev_*_amd64.deb .)
+    fi
+    mkdir -p "$out/sysroot/lib/rustlib" "$out/lib"
+    for each in /usr/lib/rustlib/*-linux-gnu "$out/std/usr/lib/rustlib/$target"; do
+        ln -sfn "$each" "$out/sysroot/lib/rustlib/$(basename "$each")"
+    done
+    # the cross package's libm.a names a folder that only an x86-64 machine has
+    ln -sf /usr/x86_64-linux-gnu/lib/libm-2.*.a "$out/lib/libm.a"
+    /usr/bin/rustc --sysroot "$out/sysroot" --target "$target" -C linker=x86_64-linux-gnu-gcc -C target-feature=+crt-static -L "native=$out/lib" \
+        -O --edition 2021 -o "$out/example-rs" -L "native=$root/target/staticlib" -l static=libfind_c callers/example.rs
+}
+
+if [ "$(uname -m)" = x86_64 ]; then
+    build_here
+    emulator=
+else
+    build_across
+    emulator=/usr/bin/qemu-x86_64
+fi
+
+passed=0 failed=0
+# Runs an example and the listing program on the same files: status and standard output must be the same, and the refusal's number.
+try() { # EXAMPLE IMAGE LIBRARY RULES
+    was=0 got=0
+    ./sillmarble list "$2" "$3" --rules "$4" >"$out/was" 2>"$out/was.err" || was=$?
+    $emulator "$out/$1" "$2" "$3" "$4" >"$out/got" 2>"$out/got.err" || got=$?
+    if [ "$was" -eq "$got" ] && cmp -s "$out/was" "$out/got" && [ "$(sed 's/:.*//' "$out/was.err")" = "$(cat "$out/got.err")" ]; then
+        passed=$((passed + 1))
+    else
+        failed=$((failed + 1))
+        echo "failed: $1 $2 $3 $4 (status $got and $was)"
+    fi
+}
+
+./sillmarble list examples/aid.img examples/routines.lib >"$out/was"
+for example in example-c example-rs; do
+    for rules in found documented; do
+        try "$example" examples/aid.img examples/routines.lib "$rules"
+        # an image is no library: refusal 5
+        try "$example" examples/aid.img examples/aid.img "$rules"
+    done
+done
+$emulator "$out/example-c" examples/aid.img examples/routines.lib documented
+printf '%s passed, %s failed\n' "$passed" "$failed"
+[ "$failed" -eq 0 ]

@@ -1,0 +1,70 @@
+-- What the exported functions hand over: numbers in the place of settings, answers and counts.
+use Prim.Native.Nat.{ℕ}
+use mathlib.Core.Bool.{Bool}
+use mathlib.Core.List.{List, [], _∷_}
+use lib.ListN.{getD}
+use Rattle.lent.specs.Choice.{if_then_else_}
+use Rattle.lent.specs.Rows.{putRow}
+use Rattle.segments.specs.SegmentRows.{segmentWidth, referenceWidth, symbolWidth}
+use Rattle.search.specs.SearchRows.{placedWidth, notedWidth}
+use Rattle.describe.specs.declared.Described.{Described}
+use Rattle.describe.specs.declared.Described.the-variants.{Written as Said, NoRoom as NoRoomToSay, Nothing}
+use Rattle.listing.specs.declared.Skip.{Skip}
+use Rattle.listing.specs.declared.Skip.the-variants.{Never, Above}
+use Rattle.listing.specs.Listing.{lineWidth}
+use Rattle.printing.specs.declared.Printed.{Printed}
+use Rattle.printing.specs.declared.Printed.the-variants.{Written, NoRoom}
+use Rattle.run.specs.declared.Settings.{Settings}
+use Rattle.run.specs.declared.Counts.{Counts}
+use Rattle.run.specs.declared.Answer.{Answer}
+use Rattle.run.specs.Run.{Lent, Outcome, run, numberOf, countsOf}
+
+-- the settings: rule set, check, minimum, whether there is a skip amount, and which, what is withheld
+abbrev pub skipOf : Bool → ℕ → Skip
+skipOf skips amount = if skips then Above amount else Never
+
+abbrev pub settingsOf : ℕ → Bool → ℕ → Bool → ℕ → ℕ → ℕ → Settings
+settingsOf rules check minimum skips amount start len =
+    record { rules = rules; check = check; minimum = minimum; skip = skipOf skips amount; stretch = record { start = start; len = len } }
+
+-- the seven counts, and where they are left: in the first seven places, if there are as many
+abbrev pub countNumbers : Counts → List ℕ
+countNumbers c = c .segments ∷ c .references ∷ c .symbols ∷ c .pattern ∷ c .placed ∷ c .noted ∷ c .lines ∷ []
+
+unfoldable pub countsIn : List ℕ → Answer → List ℕ
+countsIn counts a = putRow 7 counts 0 (countNumbers (countsOf a))
+
+-- what the caller of the whole run gets: the number, the counts, and the lent lists
+pub record Handed : Type 0 where
+  pub number : ℕ
+  pub counts : List ℕ
+  pub left : Lent
+
+unfoldable pub handed : List ℕ → Outcome → Handed
+handed counts o = record { number = numberOf (o .answer); counts = countsIn counts (o .answer); left = o .left }
+
+unfoldable pub found : List ℕ → List ℕ → Settings → List ℕ → Lent → Handed
+found image library s counts lent = handed counts (run image library s lent)
+
+-- how long a text is, 0 without room for it; how long a description is, 0 where there is none, and the largest number without room for it
+abbrev pub sizeOf : Printed → ℕ
+sizeOf (Written n) = n
+sizeOf NoRoom = 0
+
+abbrev pub writtenIn : Printed × List ℕ → ℕ × List ℕ
+writtenIn p = (sizeOf (p .0), p .1)
+
+abbrev pub lengthOf : Described → ℕ
+lengthOf (Said n) = n
+lengthOf NoRoomToSay = 0xFFFFFFFFFFFFFFFF
+lengthOf Nothing = 0
+
+abbrev pub saidIn : Described × List ℕ → ℕ × List ℕ
+saidIn p = (lengthOf (p .0), p .1)
+
+-- how many numbers or bytes a row of each lent list has, in the order in which they are lent; 0 for a list that is not lent
+abbrev pub widths : List ℕ
+widths = segmentWidth ∷ referenceWidth ∷ symbolWidth ∷ 1 ∷ 1 ∷ placedWidth ∷ notedWidth ∷ lineWidth ∷ []
+
+abbrev pub widthOf : ℕ → ℕ
+widthOf list = getD widths list 0

@@ -1,0 +1,4 @@
+-- What the exported functions hand over.
+pub mod Exported
+pub mod ExportedLaws
+pub mod OneOutcome

@@ -1,0 +1,111 @@
+// Numbers in the place of settings, answers and counts.
+ghost use mathlib.Core.Path.{_≡_};
+ghost use Rattle.run.specs.Run.{numberOf, countsOf};
+ghost use Rattle.libfind_c.specs.Exported.{skipOf, settingsOf, countsIn, sizeOf, lengthOf};
+use describe::Described;
+use lent::refusal;
+use lent::rows::put;
+use listing::Skip;
+use pattern::Stretch;
+use printing::Printed;
+use run::Answer;
+use run::Counts;
+use run::Settings;
+
+fn skip_of(skips: bool, amount: usize) -> Skip
+    ensures { λ r. ⌜ r ≡ skipOf skips amount ⌝ }
+{
+    if skips {
+        return Skip::Above(amount);
+    }
+    Skip::Never
+}
+
+pub fn settings_of(
+    rules: u64,
+    check: bool,
+    minimum: usize,
+    skips: bool,
+    amount: usize,
+    start: usize,
+    len: usize,
+) -> Settings
+    ensures { λ r. ⌜ r ≡ settingsOf rules check minimum skips amount start len ⌝ }
+{
+    Settings {
+        rules,
+        check,
+        minimum,
+        skip: skip_of(skips, amount),
+        stretch: Stretch { start, len },
+    }
+}
+
+fn number_of(answer: Answer) -> u8
+    ensures { λ r. ⌜ r ≡ numberOf answer ⌝ }
+{
+    match answer {
+        Answer::Done(c) => 0,
+        Answer::Refused(r) => refusal::number(r),
+    }
+}
+
+fn counts_of(answer: Answer) -> Counts
+    ensures { λ r. ⌜ r ≡ countsOf answer ⌝ }
+{
+    match answer {
+        Answer::Done(c) => c,
+        Answer::Refused(r) => Counts {
+            segments: 0,
+            references: 0,
+            symbols: 0,
+            pattern: 0,
+            placed: 0,
+            noted: 0,
+            lines: 0,
+        },
+    }
+}
+
+fn put_counts(answer: Answer, counts: &mut [u64])
+    ensures { λ _. ⌜ now (counts .exit) ≡ countsIn (now (counts .entry)) answer ⌝ }
+{
+    let c = counts_of(answer);
+    let cells = [
+        c.segments as u64,
+        c.references as u64,
+        c.symbols as u64,
+        c.pattern as u64,
+        c.placed as u64,
+        c.noted as u64,
+        c.lines as u64,
+    ];
+    put(counts, 0, &cells);
+}
+
+// The number of an answer; its counts are left where there is room for them.
+pub fn hand_over(answer: Answer, counts: &mut [u64]) -> u8
+    ensures { λ r. ⌜ (r ≡ numberOf answer) × (now (counts .exit) ≡ countsIn (now (counts .entry)) answer) ⌝ }
+{
+    put_counts(answer, counts);
+    number_of(answer)
+}
+
+pub fn size_of(printed: Printed) -> usize
+    ensures { λ r. ⌜ r ≡ sizeOf printed ⌝ }
+{
+    match printed {
+        Printed::Written(n) => n,
+        Printed::NoRoom => 0,
+    }
+}
+
+pub fn length_of(described: Described) -> usize
+    ensures { λ r. ⌜ r ≡ lengthOf described ⌝ }
+{
+    match described {
+        Described::Written(n) => n,
+        Described::NoRoom => 0xffff_ffff_ffff_ffff,
+        Described::Nothing => 0,
+    }
+}

@@ -1,0 +1,108 @@
+// The exported functions of a static library. callers/libfind.h says what each parameter is, for who calls them.
+ghost use mathlib.Core.Path.{_≡_};
+ghost use Rattle.describe.specs.Described.{described};
+ghost use Rattle.listing.specs.LineLayout.{lineAt};
+ghost use Rattle.listing.specs.Print.{heading, printedLine, printed};
+ghost use Rattle.printing.specs.Printing.{fittedText, storedLines};
+ghost use Rattle.run.specs.Run.{lentLists};
+ghost use Rattle.libfind_c.specs.Exported.{settingsOf, found, writtenIn, saidIn, widthOf};
+
+mod handing;
+
+use handing::hand_over;
+use handing::length_of;
+use handing::settings_of;
+use handing::size_of;
+use libfind::entry::find_names;
+use listing::rows::line_at;
+
+// The whole run.
+#[no_mangle]
+pub extern "C" fn sillmarble_find(
+    image: &[u8],
+    library: &[u8],
+    rules: u64,
+    check: bool,
+    minimum: usize,
+    skips: bool,
+    amount: usize,
+    start: usize,
+    len: usize,
+    counts: &mut [u64],
+    segments: &mut [u64],
+    references: &mut [u64],
+    symbols: &mut [u64],
+    bytes: &mut [u8],
+    masks: &mut [u8],
+    placed: &mut [u64],
+    noted: &mut [u64],
+    lines: &mut [u64],
+) -> u8
+    ensures { λ r. ⌜ record { number = r; counts = now (counts .exit); left = lentLists (now (segments .exit)) (now (references .exit)) (now (symbols .exit)) (now (bytes .exit)) (now (masks .exit)) (now (placed .exit)) (now (noted .exit)) (now (lines .exit)) }
+        ≡ found (now (image .entry)) (now (library .entry)) (settingsOf rules check minimum skips amount start len) (now (counts .entry))
+        (lentLists (now (segments .entry)) (now (references .entry)) (now (symbols .entry)) (now (bytes .entry)) (now (masks .entry)) (now (placed .entry)) (now (noted .entry)) (now (lines .entry))) ⌝ }
+{
+    let settings = settings_of(rules, check, minimum, skips, amount, start, len);
+    let answer = find_names(
+        image,
+        library,
+        settings,
+        segments,
+        references,
+        symbols,
+        bytes,
+        masks,
+        placed,
+        noted,
+        lines,
+    );
+    hand_over(answer, counts)
+}
+
+// The printed form of n lines: how long it is, 0 without room for it.
+#[no_mangle]
+pub extern "C" fn sillmarble_print(library: &[u8], lines: &[u64], n: usize, out: &mut [u8]) -> usize
+    ensures { λ r. ⌜ (r, now (out .exit)) ≡ writtenIn (fittedText (printed (now (library .entry)) (storedLines (now (lines .entry)) n)) (now (out .entry))) ⌝ }
+{
+    size_of(printing::print(library, lines, n, out))
+}
+
+// Its heading alone, and line i alone.
+#[no_mangle]
+pub extern "C" fn sillmarble_print_heading(out: &mut [u8]) -> usize
+    ensures { λ r. ⌜ (r, now (out .exit)) ≡ writtenIn (fittedText heading (now (out .entry))) ⌝ }
+{
+    size_of(printing::print_heading(out))
+}
+
+#[no_mangle]
+pub extern "C" fn sillmarble_print_line(
+    library: &[u8],
+    lines: &[u64],
+    i: usize,
+    out: &mut [u8],
+) -> usize
+    ensures { λ r. ⌜ (r, now (out .exit)) ≡ writtenIn (fittedText (printedLine (now (library .entry)) (lineAt (now (lines .entry)) i)) (now (out .entry))) ⌝ }
+{
+    size_of(printing::print_line(library, line_at(lines, i), out))
+}
+
+// The description of a name: how long it is, 0 where there is none, the largest number without room for it.
+#[no_mangle]
+pub extern "C" fn sillmarble_describe(name: &[u8], out: &mut [u8]) -> usize
+    ensures { λ r. ⌜ (r, now (out .exit)) ≡ saidIn (described (now (name .entry)) (now (out .entry))) ⌝ }
+{
+    length_of(describing::describe(name, out))
+}
+
+// How many numbers or bytes a row of a lent list has; the lists are numbered from 0 on, in the order in which they are lent.
+#[no_mangle]
+pub extern "C" fn sillmarble_row_width(list: usize) -> usize
+    ensures { λ r. ⌜ r ≡ widthOf list ⌝ }
+{
+    let widths = [8usize, 6, 3, 1, 1, 8, 6, 4];
+    if list < 8 {
+        return widths[list];
+    }
+    0
+}
