@@ -49,7 +49,7 @@ pub fn no_scene() -> Scene {
 }
 
 // Whether so many bytes are there, and then the room begins with them.
-fn fill(fd: i32, room: &mut [u8], length: usize) -> bool {
+pub fn fill(fd: i32, room: &mut [u8], length: usize) -> bool {
     if room.len() < length {
         return false;
     }

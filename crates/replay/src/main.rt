@@ -1,0 +1,28 @@
+// Runs the whole of libfind on each case of the file that the first argument names, from an image and a library file to the list, and holds what came of it
+// and its printed form against what is recorded (README.md, "What whole runs come to").
+mod answer;
+mod cases;
+mod compare;
+mod header;
+mod show;
+mod tally;
+mod trial;
+
+fn main() {
+    let mut path = io::buffer();
+    let n = os::arg(1, &mut path);
+    if os::errno() != 0 {
+        os::fail(b"the file of cases");
+        return;
+    }
+    let fd = os::open_read(&path[..n]);
+    if fd < 0 {
+        os::fail(&path[..n]);
+        return;
+    }
+    let mut image = [0u8; 65792];
+    let mut library = [0u8; 65792];
+    let mut tally = tally::no_case();
+    compare::compare_all(fd, &mut image, &mut library, &mut tally);
+    libc::close(fd);
+}

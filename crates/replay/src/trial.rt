@@ -1,0 +1,123 @@
+// A whole run with lent memory that is full of something else before.
+ghost use Prim.Native.Nat.{_≤_};
+use crate::answer::answer_of;
+use crate::answer::take_in_collected;
+use crate::answer::take_in_found;
+use crate::header::length_at;
+use crate::header::settings_of;
+use lent::names::name;
+use lent::part::Part;
+use libfind::entry::find_names;
+use run::Settings;
+
+// With lists that are lent whole.
+fn with_lists(
+    image: &[u8],
+    library: &[u8],
+    settings: Settings,
+    segments: &mut [u64],
+    references: &mut [u64],
+    symbols: &mut [u64],
+    bytes: &mut [u8],
+    masks: &mut [u8],
+    placed: &mut [u64],
+    noted: &mut [u64],
+    lines: &mut [u64],
+    text: &mut [u8],
+) -> [u64; 12] {
+    let came = find_names(
+        image,
+        library,
+        settings,
+        segments,
+        references,
+        symbols,
+        bytes,
+        masks,
+        placed,
+        noted,
+        lines,
+    );
+    let collected = take_in_collected(segments, references, symbols, bytes, masks);
+    let left = take_in_found(collected, placed, noted, lines);
+    answer_of(library, lines, came, left, text)
+}
+
+fn at_most(most: usize, n: usize) -> usize
+    ensures { λ r. ⌜ r ≤ most ⌝ }
+{
+    if n < most {
+        return n;
+    }
+    most
+}
+
+// With as much as is to be lent for what is found. The rooms are full of numbers that no row has, so that what is to be zero afterwards was set to it. A
+// case that asks for more than a room gets the room, and differs.
+fn with_rows(
+    image: &[u8],
+    library: &[u8],
+    header: &[u8],
+    segments: &mut [u64],
+    references: &mut [u64],
+    symbols: &mut [u64],
+    bytes: &mut [u8],
+    masks: &mut [u8],
+) -> [u64; 12] {
+    let mut placed = [0xa5a5_a5a5_a5a5_a5a5u64; 8192];
+    let mut noted = [0xa5a5_a5a5_a5a5_a5a5u64; 4096];
+    let mut lines = [0xa5a5_a5a5_a5a5_a5a5u64; 4096];
+    let mut text = [0xa5u8; 32768];
+    let p = at_most(8192, length_at(header, 9));
+    let n = at_most(4096, length_at(header, 10));
+    let l = at_most(4096, length_at(header, 11));
+    with_lists(
+        image,
+        library,
+        settings_of(header),
+        segments,
+        references,
+        symbols,
+        bytes,
+        masks,
+        &mut placed[0..p],
+        &mut noted[0..n],
+        &mut lines[0..l],
+        &mut text,
+    )
+}
+
+// With as much as is to be lent for the collection.
+fn with_rooms(image: &[u8], library: &[u8], header: &[u8]) -> [u64; 12] {
+    let mut segments = [0xa5a5_a5a5_a5a5_a5a5u64; 1024];
+    let mut references = [0xa5a5_a5a5_a5a5_a5a5u64; 1024];
+    let mut symbols = [0xa5a5_a5a5_a5a5_a5a5u64; 1024];
+    let mut bytes = [0xa5u8; 65792];
+    let mut masks = [0xa5u8; 65792];
+    let s = at_most(1024, length_at(header, 4));
+    let r = at_most(1024, length_at(header, 5));
+    let y = at_most(1024, length_at(header, 6));
+    let b = at_most(65792, length_at(header, 7));
+    let m = at_most(65792, length_at(header, 8));
+    with_rows(
+        image,
+        library,
+        header,
+        &mut segments[0..s],
+        &mut references[0..r],
+        &mut symbols[0..y],
+        &mut bytes[0..b],
+        &mut masks[0..m],
+    )
+}
+
+fn start(room: &[u8], len: usize) -> &[u8] {
+    name(room, Part { at: 0, len })
+}
+
+// What a run on what image and library begin with comes to.
+pub fn run_back(image: &[u8], library: &[u8], header: &[u8]) -> [u64; 12] {
+    let own_image = start(image, length_at(header, 1));
+    let own_library = start(library, length_at(header, 3));
+    with_rooms(own_image, own_library, header)
+}
