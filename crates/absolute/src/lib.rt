@@ -18,7 +18,7 @@ use storing::row::finish;
 use storing::row::fits;
 use walk::Cursor;
 
-// The public definitions of id 0 that lie inside are its symbols; `own` says whether they are placed from its start on.
+// The public definitions of id 0 that lie inside are its symbols; `own` says whether a symbol stands at its own address, so that its offset counts from the content's start.
 pub fn store_absolute(
     library: &[u8],
     table: &[u64],

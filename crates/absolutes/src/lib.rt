@@ -12,7 +12,7 @@ use storing::Stored;
 use walk::NextContent;
 use walk::contents::next_content;
 
-// `number` is that of the module's first segment; `own` says whether symbols are placed from the content's start on.
+// `number` is that of the module's first segment; `own` says whether a symbol stands at its own address, so that its offset counts from the content's start.
 pub fn store_absolutes(
     library: &[u8],
     own: bool,

@@ -2,7 +2,7 @@
 use Prim.Native.Nat.{ℕ, _+_, _-_, _≤_, _<_, min}
 use mathlib.Core.Path.{_≡_, refl}
 use mathlib.Core.Logic.{_↔_}
-use mathlib.Core.Bool.{Bool, true, false, and-eq-true-iff, false≢true}
+use mathlib.Core.Bool.{Bool, true, false, and-eq-true-iff}
 use mathlib.Core.List.{List}
 use native.Mathlib.Omega.{arith}
 use native.Mathlib.Decide.{decLt}
@@ -136,7 +136,3 @@ module _ (image : List ℕ) (s : Stretch) (bytes masks : List ℕ) (at : ℕ) wh
   seen-apart out =
       same-test (matchesAt (view image s) bytes masks at) (matchesAt image bytes masks at)
       (λ e. matches-seen .0 e .0) (λ e. matches-seen .1 (e, out))
-
-  pub seen-shared : (i : ℕ) → at ≤ i → i < at + length bytes → Inside s i → matchesAt (view image s) bytes masks at ≡ false
-  seen-shared i a b h =
-      same-test (matchesAt (view image s) bytes masks at) false (λ e. absurd (matches-seen .0 e .1 i a b h)) (λ e. absurd (false≢true e))

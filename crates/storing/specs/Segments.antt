@@ -60,7 +60,7 @@ publicsOf m id = keep (λ d. eqb (publicKey d) (id .0)) (keep isPublicDefinition
 abbrev pub sectionsFor : Module → ModuleId → ℕ → List Section
 sectionsFor m id place = if eqb (keptPlace m id) place then sectionsOf m id else []
 
--- as documented, symbols of an absolute content are placed from its start on
+-- as documented, a symbol of an absolute content stands at its own address: its offset counts from the content's start
 abbrev pub ownBy : Rules → Bool
 ownBy Found = false
 ownBy Documented = true
