@@ -131,7 +131,7 @@ module _ (image : List ℕ) (s : Stretch) (bytes masks : List ℕ) (at : ℕ) wh
             agree = λ k l. rw (view-outside image s (at + k) (out (at + k) (omega arith) (omega arith))) (m .agree k l);
           })
 
-  -- as two equations, for the code's two branches
+  -- as an equation, for the code where the window is apart
   pub seen-apart : Apart at (length bytes) s → matchesAt (view image s) bytes masks at ≡ matchesAt image bytes masks at
   seen-apart out =
       same-test (matchesAt (view image s) bytes masks at) (matchesAt image bytes masks at)
