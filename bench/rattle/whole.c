@@ -5,11 +5,8 @@
      find   the library is also read, its segments collected, the image searched for them, and what was found listed, once
      show   as find, and the counts are printed, in the order of COUNTS, or the number of a refusal
    What `find` executes more than `load` is the run without its printing. The words are equally long and told apart by a letter, as in main.c.
-   It links a static library with
-     #[no_mangle] pub extern "C" fn count_whole(image: &[u8], library: &[u8], rules: u64, check: bool, minimum: usize, skips: bool, amount: usize,
-         counts: &mut [u64], segments: &mut [u64], references: &mut [u64], symbols: &mut [u64], bytes: &mut [u8], masks: &mut [u8], placed: &mut [u64],
-         noted: &mut [u64], lines: &mut [u64]) -> u8
-   A lent slice is a pointer and a length. */
+   It links the static library of the crate libfind_c, as any caller does. */
+#include "../../callers/libfind.h"
 #include "loaded.h"
 #include <stdbool.h>
 #include <string.h>
@@ -18,20 +15,15 @@ enum { SEGMENTS, REFERENCES, SYMBOLS, PATTERN, PLACED, NOTED, LINES, COUNTS };
 /* What is lent without COUNTS, and at most. */
 static const size_t most[COUNTS] = {1 << 17, 1 << 18, 1 << 18, 1 << 21, 21 << 16, 1 << 18, 21 << 16};
 
-uint8_t count_whole(const uint8_t *image, size_t in_image, const uint8_t *library, size_t length, uint64_t rules, bool check, size_t minimum, bool skips,
-                    size_t amount, uint64_t *counts, size_t seven, uint64_t *segments, size_t in_segments, uint64_t *references, size_t in_references,
-                    uint64_t *symbols, size_t in_symbols, uint8_t *bytes, size_t in_bytes, uint8_t *masks, size_t in_masks, uint64_t *placed,
-                    size_t in_placed, uint64_t *noted, size_t in_noted, uint64_t *lines, size_t in_lines);
-
 static uint64_t segments[8 << 17], references[6 << 18], symbols[3 << 18], placed[8 * (21 << 16)], noted[6 << 18], lines[4 * (21 << 16)];
 static uint8_t bytes[1 << 21], masks[1 << 21];
 
 static int found(char **words, const uint8_t *image, size_t in_image, const uint8_t *library, size_t length, const size_t *lent, uint64_t *counts)
 {
-    return count_whole(image, in_image, library, length, 0, words[2][0] == '1', strtoul(words[3], NULL, 10), strcmp(words[4], "none") != 0,
-                       strtoul(words[4], NULL, 10), counts, COUNTS, segments, 8 * lent[SEGMENTS], references, 6 * lent[REFERENCES], symbols,
-                       3 * lent[SYMBOLS], bytes, lent[PATTERN], masks, lent[PATTERN], placed, 8 * lent[PLACED], noted, 6 * lent[NOTED], lines,
-                       4 * lent[LINES]);
+    return sillmarble_find(image, in_image, library, length, 0, words[2][0] == '1', strtoul(words[3], NULL, 10), strcmp(words[4], "none") != 0,
+                           strtoul(words[4], NULL, 10), 0, 0, counts, COUNTS, segments, 8 * lent[SEGMENTS], references, 6 * lent[REFERENCES], symbols,
+                           3 * lent[SYMBOLS], bytes, lent[PATTERN], masks, lent[PATTERN], placed, 8 * lent[PLACED], noted, 6 * lent[NOTED], lines,
+                           4 * lent[LINES]);
 }
 
 static void show(int number, const uint64_t *counts)

@@ -1,5 +1,5 @@
 // What bench/ counts the instructions of: a library read and gone over once, a library read only, its segments collected, an image searched
-// for them, what was found listed and printed, and the whole run.
+// for them, and what was found listed and printed.
 mod items;
 mod passes;
 
@@ -9,7 +9,6 @@ use finding::list::list_rows;
 use fixup::Rules;
 use lent::refusal::number;
 use lent::rows::put;
-use libfind::entry::find_names;
 use listing::Skip;
 use modules::Reading;
 use passes::over_modules;
@@ -17,9 +16,6 @@ use pattern::Stretch;
 use printing::Printed;
 use printing::print;
 use reader::file::read;
-use run::Answer;
-use run::Counts;
-use run::Settings;
 use search::Asked;
 use searching::Searched;
 use searching::entry::search;
@@ -181,71 +177,5 @@ pub extern "C" fn count_printing(library: &[u8], lines: &[u64], n: usize, out: &
     match print(library, lines, n, out) {
         Printed::Written(size) => size,
         Printed::NoRoom => 0,
-    }
-}
-
-fn settings_of(rules: u64, check: bool, minimum: usize, skip: Skip) -> Settings {
-    Settings {
-        rules,
-        check,
-        minimum,
-        skip,
-        stretch: Stretch { start: 0, len: 0 },
-    }
-}
-
-fn put_counts(counts: &mut [u64], c: Counts) {
-    let cells = [
-        c.segments as u64,
-        c.references as u64,
-        c.symbols as u64,
-        c.pattern as u64,
-        c.placed as u64,
-        c.noted as u64,
-        c.lines as u64,
-    ];
-    put(counts, 0, &cells);
-}
-
-// The number that the whole run comes to, from the bytes of an image and a library to the list, with nothing withheld; 0 leaves how many segments, references,
-// symbols and pattern bytes were collected, symbols placed, names noted and lines listed in `counts`.
-#[no_mangle]
-pub extern "C" fn count_whole(
-    image: &[u8],
-    library: &[u8],
-    rules: u64,
-    check: bool,
-    minimum: usize,
-    skips: bool,
-    amount: usize,
-    counts: &mut [u64],
-    segments: &mut [u64],
-    references: &mut [u64],
-    symbols: &mut [u64],
-    bytes: &mut [u8],
-    masks: &mut [u8],
-    placed: &mut [u64],
-    noted: &mut [u64],
-    lines: &mut [u64],
-) -> u8 {
-    let settings = settings_of(rules, check, minimum, skip_of(skips, amount));
-    match find_names(
-        image,
-        library,
-        settings,
-        segments,
-        references,
-        symbols,
-        bytes,
-        masks,
-        placed,
-        noted,
-        lines,
-    ) {
-        Answer::Done(c) => {
-            put_counts(counts, c);
-            0
-        }
-        Answer::Refused(r) => number(r),
     }
 }
