@@ -1,9 +1,9 @@
 #!/usr/bin/env python3
-"""Records what collecting the segments of libraries comes to: a file of cases for the program crate `collected`.
+"""Records what collecting the segments of libraries comes to: a file of cases for the program crate `replay_collecting`.
 
 The answers are computed by collection.py, from document 01. Those of rule set 0 that need no lent memory to be told (the segments with all that
 they hold, or 10 to 13) are first held against the Rust's, of every library recorded and of `--more` random ones. The status is 1, and nothing
-is written, if one differs or is not what a library was made for. crates/collected/README.md describes the file; the same seed gives the same."""
+is written, if one differs or is not what a library was made for. crates/replay_collecting/README.md describes the file; the same seed gives the same."""
 import argparse
 import random
 import struct

@@ -1,9 +1,9 @@
 #!/usr/bin/env python3
-"""Records what searching images and listing what was found comes to: a file of cases for the program crate `listed`.
+"""Records what searching images and listing what was found comes to: a file of cases for the program crate `replay_listing`.
 
 The answers are computed by search.py and listing.py, from document 01. Where the Rust can be asked (rule set 0, nothing withheld, a library's own segments,
 names in UTF-8, no symbol placed at the image's end or past it) its list and, if all names are ASCII, its printed text are held against them; of all
-cases that are recorded and of `--more` random ones. The status is 1, and nothing is written, if one differs. crates/listed/README.md describes the file;
+cases that are recorded and of `--more` random ones. The status is 1, and nothing is written, if one differs. crates/replay_listing/README.md describes the file;
 the same seed gives the same."""
 import argparse
 import random

@@ -1,5 +1,5 @@
 #!/usr/bin/env python3
-"""Records what the Rust makes of libraries that are only read: a file of cases for the program crate `reading`.
+"""Records what the Rust makes of libraries that are only read: a file of cases for the program crate `replay_reading`.
 
 Each case is a refusal (1 byte: 0 where the library is read, else 5 to 8), the number of modules (2 bytes), a digest of all
 that was read (4 bytes), the library's length (2 bytes) and the library; numbers are little endian. The same seed gives the same file.

@@ -1,9 +1,9 @@
 #!/usr/bin/env python3
-"""Records what searching images for the segments of libraries comes to: a file of cases for the program crate `searched`.
+"""Records what searching images for the segments of libraries comes to: a file of cases for the program crate `replay_searching`.
 
 The answers are computed by search.py, from document 01. Those of rule set 0 with nothing withheld are first held against the Rust's: the
 symbols at each position with their validity and what their match noted, and the names at each target, in order; of all that are recorded and of
-`--more` random ones. The status is 1, and nothing is written, if one differs. crates/searched/README.md describes the file; the same seed gives
+`--more` random ones. The status is 1, and nothing is written, if one differs. crates/replay_searching/README.md describes the file; the same seed gives
 the same."""
 import argparse
 import random

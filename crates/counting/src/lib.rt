@@ -3,22 +3,22 @@
 mod items;
 mod passes;
 
-use collecting::Collection;
-use collecting::entry::collect;
-use finding::list::list_rows;
-use fixup::Rules;
+use crate::passes::over_modules;
+use collect::Collection;
+use collect::entry::collect;
+use image::Stretch;
+use image::fixup::Rules;
 use lent::refusal::number;
 use lent::rows::put;
-use listing::Skip;
-use modules::Reading;
-use passes::over_modules;
-use pattern::Stretch;
+use library::Reading;
+use library::file::read;
+use listing::all_rows::list_rows;
+use listing_rules::Skip;
 use printing::Printed;
 use printing::print;
-use reader::file::read;
-use search::Asked;
-use searching::Searched;
-use searching::entry::search;
+use search::Searched;
+use search::entry::search;
+use search_rules::Asked;
 
 // A sum over all that the library says; 0 with a refusal.
 #[no_mangle]

@@ -3,17 +3,17 @@ use crate::items::of_content;
 use crate::items::of_definition;
 use crate::items::of_fixup;
 use crate::items::plus;
-use modules::ModuleAt;
-use modules::Places;
-use walk::Cursor;
-use walk::NextContent;
-use walk::NextDefinition;
-use walk::NextFixup;
-use walk::contents::next_content;
-use walk::entries::start;
-use walk::items::next_definition;
-use walk::items::next_fixup;
-use whole::module::module_at;
+use library::ModuleAt;
+use library::Places;
+use library::items::Cursor;
+use library::items::NextContent;
+use library::items::NextDefinition;
+use library::items::NextFixup;
+use library::items::contents::next_content;
+use library::items::decoded::next_definition;
+use library::items::decoded::next_fixup;
+use library::items::entries::start;
+use library::module::module_at;
 
 fn over_definitions(library: &[u8], definitions: usize) -> usize {
     let mut sum = 0;

@@ -1,7 +1,9 @@
 // Descriptions of names: their definition, and the types of the code that finds them.
+pub mod entry;
+pub mod vocabulary;
 pub mod words;
 
-use words::Saying;
+use crate::words::Saying;
 
 // What the words of a name say, in the order in which it is written; a word that is missing says nothing.
 pub struct Sentence {

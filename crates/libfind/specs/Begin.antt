@@ -10,8 +10,8 @@ use Rattle.lent.specs.declared.refusal.Refusal.the-variants.{RuleSet, ImageTooL
 use Rattle.lent.specs.Choice.{when, orElse, leading}
 use Rattle.omf51.specs.Module.{moduleAt}
 use Rattle.omf51.specs.File.{file, fileRefusal, modulesIn}
-use Rattle.modules.specs.Found.{found}
-use Rattle.modules.specs.Reading.{firstAt}
+use Rattle.library.specs.Found.{found}
+use Rattle.library.specs.Reading.{firstAt}
 use Rattle.run.specs.declared.Settings.{Settings}
 use Rattle.run.specs.Given.{Accepted}
 use Rattle.libfind.specs.declared.begin.Checked.{Checked}

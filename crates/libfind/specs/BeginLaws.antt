@@ -15,10 +15,10 @@ use Rattle.lent.specs.Leading.{none≢some}
 use Rattle.omf51.specs.Reader.{Outcome, read, stop, refused}
 use Rattle.omf51.specs.Module.{Module}
 use Rattle.omf51.specs.File.{file, fileRefusal}
-use Rattle.modules.specs.declared.Reading.{Reading}
-use Rattle.modules.specs.declared.Reading.the-variants as Reading
-use Rattle.modules.specs.Reading.{firstAt, readingOf, reading}
-use Rattle.modules.specs.StandLaws.{modules-stand, reading-refused}
+use Rattle.library.specs.declared.Reading.{Reading}
+use Rattle.library.specs.declared.Reading.the-variants as Reading
+use Rattle.library.specs.Reading.{firstAt, readingOf, reading}
+use Rattle.library.specs.StandLaws.{modules-stand, reading-refused}
 use Rattle.run.specs.declared.Settings.{Settings}
 use Rattle.run.specs.Given.{Accepted}
 use Rattle.libfind.specs.declared.begin.Checked.{Checked}

@@ -15,24 +15,24 @@ use Rattle.lent.specs.Leading.{none≢some}
 use Rattle.lent.specs.Refusals.{refusalNumber}
 use Rattle.lent.specs.RefusalLaws.{same-number}
 use Rattle.lent.specs.Rows.{zeros}
-use Rattle.pattern.specs.View.{view}
-use Rattle.pattern.specs.ViewLaws.{view-length}
-use Rattle.fixup.specs.Target.{rulesOf}
+use Rattle.image.specs.View.{view}
+use Rattle.image.specs.ViewLaws.{view-length}
+use Rattle.image.specs.fixup.Target.{rulesOf}
 use Rattle.omf51.specs.Module.{Module, moduleAt}
 use Rattle.omf51.specs.File.{file, fileRefusal, modulesIn}
-use Rattle.modules.specs.Found.{found as modulesFrom}
+use Rattle.library.specs.Found.{found as modulesFrom}
 use Rattle.segments.specs.Collect.{Collected, collect}
 use Rattle.segments.specs.Refuse.{collectRefusal}
 use Rattle.segments.specs.RefuseLaws.{collect-late}
-use Rattle.storing.specs.declared.Counts.{Counts as Stored}
-use Rattle.storing.specs.Stores.{Lists as Collectable}
-use Rattle.collecting.specs.declared.Collection.{Collection}
-use Rattle.collecting.specs.declared.Collection.the-variants as Collection
-use Rattle.collecting.specs.Outcome.{Outcome as Collecting, countedIn, refusalOf as refusalOfCollection, zeroed as zeroedCollection, filledWith as filledCollection, outcomeOf as collectionOf, collection}
-use Rattle.collecting.specs.RecalledLaws.{collection-recalled, collection-zeroed}
-use Rattle.visiting.specs.Visits.{segmentsIn}
-use Rattle.searching.specs.Outcome.{zeroed as zeroedSearch, filledWith as filledSearch}
-use Rattle.finding.specs.Outcome.{Yield as Findings, yields, refusalOf as refusalOfFinding, outcomeOf as findingOf, found}
+use Rattle.collect.specs.declared.stored.Counts.{Counts as Stored}
+use Rattle.collect.specs.stored.Stores.{Lists as Collectable}
+use Rattle.collect.specs.declared.Collection.{Collection}
+use Rattle.collect.specs.declared.Collection.the-variants as Collection
+use Rattle.collect.specs.Outcome.{Outcome as Collecting, countedIn, refusalOf as refusalOfCollection, zeroed as zeroedCollection, filledWith as filledCollection, outcomeOf as collectionOf, collection}
+use Rattle.collect.specs.RecalledLaws.{collection-recalled, collection-zeroed}
+use Rattle.search.specs.visit.Visits.{segmentsIn}
+use Rattle.search.specs.Outcome.{zeroed as zeroedSearch, filledWith as filledSearch}
+use Rattle.listing.specs.Outcome.{Yield as Findings, yields, refusalOf as refusalOfFinding, outcomeOf as findingOf, found}
 use Rattle.run.specs.declared.Settings.{Settings}
 use Rattle.run.specs.declared.Answer.the-variants.{Done, Refused}
 use Rattle.run.specs.Run.{Lent, lentLists, Yield, askedOf, stages, counted, collectOver, searchOver, listOver, refusals, zeroed, filledWith, outcomeOf, runSeen, run}

@@ -2,12 +2,12 @@
 use Prim.Native.Nat.{ℕ}
 use mathlib.Core.Path.{_≡_}
 use mathlib.Core.List.{List}
-use Rattle.visiting.specs.Visits.{stored}
-use Rattle.storing.specs.declared.Counts.{Counts as Stored}
-use Rattle.storing.specs.Stores.{Lists as Collectable}
-use Rattle.finding.specs.declared.Found.{Found}
-use Rattle.finding.specs.declared.Found.the-variants as Found
-use Rattle.finding.specs.Outcome.{Lists, Outcome as Finding}
+use Rattle.search.specs.visit.Visits.{stored}
+use Rattle.collect.specs.declared.stored.Counts.{Counts as Stored}
+use Rattle.collect.specs.stored.Stores.{Lists as Collectable}
+use Rattle.listing.specs.declared.Found.{Found}
+use Rattle.listing.specs.declared.Found.the-variants as Found
+use Rattle.listing.specs.Outcome.{Lists, Outcome as Finding}
 use Rattle.run.specs.declared.Settings.{Settings}
 use Rattle.run.specs.declared.Answer.{Answer}
 use Rattle.run.specs.declared.Answer.the-variants.{Done, Refused}

@@ -3,10 +3,10 @@ ghost use mathlib.Core.Path.{_≡_};
 ghost use Prim.Native.Nat.{_+_};
 ghost use lib.Dec.{ltb};
 ghost use Rattle.libfind.specs.Begin.{settingsRefusal, checked, beginning};
+use image::Stretch;
 use lent::refusal::Refusal;
-use modules::Reading;
-use pattern::Stretch;
-use reader::file::read;
+use library::Reading;
+use library::file::read;
 use run::Settings;
 
 // Whether the settings and lengths are accepted: the first of 1 to 4, if there is one.

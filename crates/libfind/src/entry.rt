@@ -1,22 +1,22 @@
 // The entry point.
 ghost use mathlib.Core.Path.{_≡_};
-ghost use Rattle.pattern.specs.View.{view};
-ghost use Rattle.fixup.specs.Target.{rulesOf};
-ghost use Rattle.finding.specs.Outcome.{found};
+ghost use Rattle.image.specs.View.{view};
+ghost use Rattle.image.specs.fixup.Target.{rulesOf};
+ghost use Rattle.listing.specs.Outcome.{found};
 ghost use Rattle.run.specs.Run.{lentLists, askedOf, run};
 ghost use Rattle.libfind.specs.Ends.{givenLists, concluded, FindsFrom};
 use crate::begin::Beginning;
 use crate::begin::begin;
-use collecting::Collection;
-use collecting::entry::collect;
-use finding::Found;
-use finding::entry::find;
-use fixup::Rules;
+use collect::Collection;
+use collect::entry::collect;
+use image::fixup::Rules;
 use lent::rows::clear;
+use listing::Found;
+use listing::entry::find;
 use run::Answer;
 use run::Counts;
 use run::Settings;
-use search::Asked;
+use search_rules::Asked;
 
 // The rule set of a number that was accepted.
 fn rules_of(number: u64) -> Rules
@@ -44,7 +44,7 @@ fn find_collected(
     image: &[u8],
     library: &[u8],
     settings: Settings,
-    collected: storing::Counts,
+    collected: collect::stored::Counts,
     segments: &mut [u64],
     references: &mut [u64],
     symbols: &mut [u64],

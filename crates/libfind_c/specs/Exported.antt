@@ -6,12 +6,12 @@ use lib.ListN.{getD}
 use Rattle.lent.specs.Choice.{if_then_else_}
 use Rattle.lent.specs.Rows.{putRow}
 use Rattle.segments.specs.SegmentRows.{segmentWidth, referenceWidth, symbolWidth}
-use Rattle.search.specs.SearchRows.{placedWidth, notedWidth}
+use Rattle.search_rules.specs.SearchRows.{placedWidth, notedWidth}
 use Rattle.describe.specs.declared.Described.{Described}
 use Rattle.describe.specs.declared.Described.the-variants.{Written as Said, NoRoom as NoRoomToSay, Nothing}
-use Rattle.listing.specs.declared.Skip.{Skip}
-use Rattle.listing.specs.declared.Skip.the-variants.{Never, Above}
-use Rattle.listing.specs.Listing.{lineWidth}
+use Rattle.listing_rules.specs.declared.Skip.{Skip}
+use Rattle.listing_rules.specs.declared.Skip.the-variants.{Never, Above}
+use Rattle.listing_rules.specs.Listing.{lineWidth}
 use Rattle.printing.specs.declared.Printed.{Printed}
 use Rattle.printing.specs.declared.Printed.the-variants.{Written, NoRoom}
 use Rattle.run.specs.declared.Settings.{Settings}

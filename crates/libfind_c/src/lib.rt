@@ -1,20 +1,20 @@
 // The exported functions of a static library. callers/libfind.h says what each parameter is, for who calls them.
 ghost use mathlib.Core.Path.{_≡_};
 ghost use Rattle.describe.specs.Described.{described};
-ghost use Rattle.listing.specs.LineLayout.{lineAt};
-ghost use Rattle.listing.specs.Print.{heading, printedLine, printed};
+ghost use Rattle.listing_rules.specs.LineLayout.{lineAt};
+ghost use Rattle.listing_rules.specs.Print.{heading, printedLine, printed};
 ghost use Rattle.printing.specs.Printing.{fittedText, storedLines};
 ghost use Rattle.run.specs.Run.{lentLists};
 ghost use Rattle.libfind_c.specs.Exported.{settingsOf, found, writtenIn, saidIn, widthOf};
 
 mod handing;
 
-use handing::hand_over;
-use handing::length_of;
-use handing::settings_of;
-use handing::size_of;
+use crate::handing::hand_over;
+use crate::handing::length_of;
+use crate::handing::settings_of;
+use crate::handing::size_of;
 use libfind::entry::find_names;
-use listing::rows::line_at;
+use listing_rules::rows::line_at;
 
 // The whole run.
 #[no_mangle]
@@ -92,7 +92,7 @@ pub extern "C" fn sillmarble_print_line(
 pub extern "C" fn sillmarble_describe(name: &[u8], out: &mut [u8]) -> usize
     ensures { λ r. ⌜ (r, now (out .exit)) ≡ saidIn (described (now (name .entry)) (now (out .entry))) ⌝ }
 {
-    length_of(describing::describe(name, out))
+    length_of(describe::entry::describe(name, out))
 }
 
 // How many numbers or bytes a row of a lent list has; the lists are numbered from 0 on, in the order in which they are lent.

@@ -11,18 +11,18 @@ mod say;
 mod text;
 mod value;
 
-use arguments::Scanned;
-use arguments::scan;
-use find::list;
-use value::Wanted;
-use value::settings_of;
+use crate::arguments::Scanned;
+use crate::arguments::scan;
+use crate::find::list;
+use crate::value::Wanted;
+use crate::value::settings_of;
 
 fn main() {
     match scan() {
         Scanned::Given(g) => match settings_of(g) {
             Wanted::Settings(s) => list(g.image, g.library, s),
-            Wanted::Wrong(w) => say::wrong(w),
+            Wanted::Wrong(w) => crate::say::wrong(w),
         },
-        Scanned::Wrong(w) => say::wrong(w),
+        Scanned::Wrong(w) => crate::say::wrong(w),
     }
 }

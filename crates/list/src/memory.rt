@@ -7,7 +7,7 @@
 // eight bytes of the longest image, and lines for one and a half times as many; ordinary firmware takes some hundreds.
 //
 // The stack: the lists take 2,883,536 bytes and the two files 131,074. Beside them stand the tables of one stage at a time, of which those of the collection
-// are the largest (3,960,262 bytes, crates/rooms). The compiler puts everything into one frame, where the stages' tables do not share all of their room:
+// are the largest (3,960,262 bytes, crates/tables/src/zeros.rt). The compiler puts everything into one frame, where the stages' tables do not share all of their room:
 // 7,757,824 bytes and some, which leaves 600,000 of 8 MiB for all else.
 pub const SEGMENTS: usize = 9362;
 

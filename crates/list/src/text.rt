@@ -3,7 +3,7 @@ use crate::say::unwritten;
 use lent::names::name;
 use lent::part::Part;
 use libc::STDOUT_FILENO;
-use listing::rows::line_at;
+use listing_rules::rows::line_at;
 use printing::Printed;
 use printing::print_heading;
 use printing::print_line;

@@ -3,9 +3,9 @@ use crate::arguments::Given;
 use crate::arguments::Wrong;
 use crate::number::Number;
 use crate::number::number_in;
+use image::Stretch;
 use lent::names::same;
-use listing::Skip;
-use pattern::Stretch;
+use listing_rules::Skip;
 use run::Settings;
 
 pub enum Wanted {

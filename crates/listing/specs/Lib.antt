@@ -1,9 +1,13 @@
--- Listing: grades and the list, its rows, the printed form; each file of laws stands behind its definitions.
-pub mod Listing
-pub mod ListingLaws
-pub mod LineLayout
-pub mod LineLayoutLaws
-pub mod Growing
-pub mod GrowingLaws
-pub mod Print
+-- Finding names in an image: all lines in lent memory, the answer, and what is left.
+pub mod Inside
+pub mod InsideLaws
+pub mod Listed
+pub mod ListedLaws
+pub mod Outcome
+pub mod OutcomeLaws
+pub mod Ends
 pub mod OneOutcome
+pub mod grade
+pub mod order
+pub mod past_end
+pub mod position

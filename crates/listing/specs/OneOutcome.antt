@@ -1,19 +1,11 @@
--- The functions on rows, and the skip test, have one outcome each, by their contracts alone. Assumes nothing.
+-- Finding has one outcome, by its contract alone: the answer, and each lent list. Assumes nothing.
 use Prim.Native.Nat.{ℕ}
 use mathlib.Core.Path.{_≡_}
 use mathlib.Core.List.{List}
 use Rattle.lent.specs.OneOutcome.{Determines, by-equation}
-use Rattle.lent.specs.Rows.{putRow}
-use Rattle.listing.specs.declared.Line.{Line}
-use Rattle.listing.specs.declared.Skip.{Skip}
-use Rattle.listing.specs.Listing.{crowded, lineWidth, lineCells}
-use Rattle.listing.specs.LineLayout.{lineAt}
+use Rattle.search_rules.specs.declared.Asked.{Asked}
+use Rattle.listing_rules.specs.declared.Skip.{Skip}
+use Rattle.listing.specs.Outcome.{Lists, Outcome, found}
 
-pub line-at-one : (m : List ℕ) (i : ℕ) → Determines (λ r. r ≡ lineAt m i)
-line-at-one m i = by-equation (lineAt m i)
-
-pub put-line-one : (m : List ℕ) (i : ℕ) (row : Line) → Determines (λ exit. exit ≡ putRow lineWidth m i (lineCells row))
-put-line-one m i row = by-equation (putRow lineWidth m i (lineCells row))
-
-pub is-crowded-one : (skip : Skip) (n : ℕ) → Determines (λ r. r ≡ crowded skip n)
-is-crowded-one skip n = by-equation (crowded skip n)
+pub find-one : (cells : List ℕ) (a : Asked) (skip : Skip) (library : List ℕ) (n : ℕ) (l : Lists) → Determines (λ (o : Outcome). o ≡ found cells a skip library n l)
+find-one cells a skip library n l = by-equation (found cells a skip library n l)

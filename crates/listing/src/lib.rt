@@ -1,30 +1,23 @@
-// The list: graded names by address.
-ghost use mathlib.Core.Path.{_≡_};
-ghost use Rattle.listing.specs.Listing.{crowded};
+// Finding names in an image: it is searched for segments that are stored in lent memory, and what was found is listed.
+pub mod all_rows;
+pub mod entry;
+pub mod grade;
+pub mod inside;
+pub mod order;
+pub mod past_end;
+pub mod position;
 
-pub mod rows;
+use lent::refusal::Refusal;
 
-use lent::part::Part;
-
-// A position with more names than this is left out.
-pub enum Skip {
-    Never,
-    Above(usize),
+// How many rows were written.
+pub struct Counts {
+    pub placed: usize,
+    pub noted: usize,
+    pub lines: usize,
 }
 
-// A line of the list.
-pub struct Line {
-    pub address: u64,
-    pub grade: u8,
-    pub name: Part,
-}
-
-// Whether there are more names than the skip amount.
-pub fn is_crowded(skip: Skip, n: usize) -> bool
-    ensures { λ r. ⌜ r ≡ crowded skip n ⌝ }
-{
-    match skip {
-        Skip::Never => false,
-        Skip::Above(amount) => amount < n,
-    }
+// What it comes to.
+pub enum Found {
+    Done(Counts),
+    Refused(Refusal),
 }

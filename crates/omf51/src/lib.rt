@@ -4,7 +4,10 @@ ghost use Rattle.omf51.specs.Entry.{segmentSize};
 use lent::part::Part;
 use lent::refusal::Refusal;
 
+pub mod allowed_types;
 pub mod entry;
+pub mod read_entry;
+pub mod read_record;
 pub mod record;
 pub mod types;
 

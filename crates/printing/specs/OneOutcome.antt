@@ -3,8 +3,8 @@ use Prim.Native.Nat.{ℕ}
 use mathlib.Core.Path.{_≡_}
 use mathlib.Core.List.{List}
 use Rattle.lent.specs.OneOutcome.{Determines, by-equation}
-use Rattle.listing.specs.declared.Line.{Line}
-use Rattle.listing.specs.Print.{heading, printedLine, printed}
+use Rattle.listing_rules.specs.declared.Line.{Line}
+use Rattle.listing_rules.specs.Print.{heading, printedLine, printed}
 use Rattle.printing.specs.Printing.{fittedText, storedLines}
 
 pub print-heading-one : (out : List ℕ) → Determines (λ o. o ≡ fittedText heading out)

@@ -15,7 +15,7 @@ use Rattle.describe.specs.declared.Described.{Described}
 use Rattle.describe.specs.declared.Described.the-variants.{Written, NoRoom, Nothing}
 use Rattle.describe.specs.Describe.{text, describe}
 use Rattle.describe.specs.Described.{answered, described}
-use Rattle.listing.specs.Print.{column, hex, moreDigits, bracketed, remark}
+use Rattle.listing_rules.specs.Print.{column, hex, moreDigits, bracketed, remark}
 use Rattle.printing.specs.Pieces.{addressColumn, nameColumn, opening, closing, lengthIn, heldIn, remarkIn, sizeIn, Held}
 use Rattle.printing.specs.StoreLaws.{digits-length}
 use Rattle.printing.specs.SpokenLaws.{longest}

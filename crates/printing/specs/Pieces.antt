@@ -10,8 +10,8 @@ use Rattle.lent.specs.Lists.{from, joined}
 use Rattle.describe.specs.Describe.{text, describe}
 use Rattle.describe.specs.declared.Described.{Described}
 use Rattle.describe.specs.declared.Described.the-variants.{Written, NoRoom, Nothing}
-use Rattle.listing.specs.LineLayout.{lineAt}
-use Rattle.listing.specs.Print.{column, hex, bracketed, remark, printedLine}
+use Rattle.listing_rules.specs.LineLayout.{lineAt}
+use Rattle.listing_rules.specs.Print.{column, hex, bracketed, remark, printedLine}
 
 -- the two columns that have a width
 unfoldable pub addressColumn : ℕ → List ℕ

@@ -5,8 +5,8 @@ use lib.Dec.{leb}
 use lib.ListN.{length, drop}
 use Rattle.lent.specs.Choice.{if_then_else_}
 use Rattle.lent.specs.Lists.{from}
-use Rattle.listing.specs.declared.Line.{Line}
-use Rattle.listing.specs.LineLayout.{lineAt}
+use Rattle.listing_rules.specs.declared.Line.{Line}
+use Rattle.listing_rules.specs.LineLayout.{lineAt}
 use Rattle.printing.specs.declared.Printed.{Printed}
 use Rattle.printing.specs.declared.Printed.the-variants.{Written, NoRoom}
 

@@ -13,8 +13,8 @@ use Rattle.lent.specs.Lists.{joined, from}
 use Rattle.lent.specs.ListLaws.{from-turn, joined-turn}
 use Rattle.lent.specs.ChoiceLaws.{same-test}
 use Rattle.describe.specs.Described.{Put}
-use Rattle.listing.specs.LineLayout.{lineAt}
-use Rattle.listing.specs.Print.{heading, printedLine, printed}
+use Rattle.listing_rules.specs.LineLayout.{lineAt}
+use Rattle.listing_rules.specs.Print.{heading, printedLine, printed}
 use Rattle.printing.specs.declared.Printed.{Printed}
 use Rattle.printing.specs.declared.Printed.the-variants.{Written, NoRoom}
 use Rattle.printing.specs.Printing.{fittedText, storedLines}

@@ -10,8 +10,8 @@ use Rattle.lent.specs.Parts.{bytesOf}
 use Rattle.describe.specs.Describe.{text, describe}
 use Rattle.describe.specs.Described.{Put}
 use Rattle.describe.specs.DescribedLaws.{_then-put_}
-use Rattle.listing.specs.declared.Line.{Line}
-use Rattle.listing.specs.Print.{column, hex, digits, moreDigits, remark, printedLine}
+use Rattle.listing_rules.specs.declared.Line.{Line}
+use Rattle.listing_rules.specs.Print.{column, hex, digits, moreDigits, remark, printedLine}
 use Rattle.printing.specs.Pieces.{addressColumn, nameColumn, opening, closing}
 use Rattle.printing.specs.PieceLaws.{hex-length, bracketed-length, bracketed-pieces}
 

@@ -11,7 +11,7 @@ use Rattle.lent.specs.Lists.{one}
 use Rattle.lent.specs.PartLaws.{drop-turn}
 use Rattle.describe.specs.Described.{Put}
 use Rattle.describe.specs.DescribedLaws.{_then-put_}
-use Rattle.listing.specs.Print.{digit, digits}
+use Rattle.listing_rules.specs.Print.{digit, digits}
 
 -- nothing
 pub put-nothing : (out : List ℕ) (at : ℕ) → Put out at [] out at

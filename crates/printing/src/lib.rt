@@ -4,14 +4,14 @@ ghost use Prim.Native.Nat.{_≤_};
 ghost use lib.Dec.{leb};
 ghost use lib.ListN.{length};
 ghost use Rattle.describe.specs.Described.{Put};
-ghost use Rattle.listing.specs.Print.{heading, printedLine, printed};
+ghost use Rattle.listing_rules.specs.Print.{heading, printedLine, printed};
 ghost use Rattle.printing.specs.Printing.{fittedText, storedLines};
 
 mod pieces;
 mod sizes;
 
-use listing::Line;
-use listing::rows;
+use listing_rules::Line;
+use listing_rules::rows;
 
 // How many bytes were written, or that they do not fit.
 pub enum Printed {
@@ -25,7 +25,7 @@ fn put_heading(out: &mut [u8]) -> usize
     requires { ⌜ length heading ≤ length (now out) ⌝ }
     ensures { λ r. ⌜ Put (now (out .entry)) 0 heading (now (out .exit)) r ⌝ }
 {
-    pieces::put(out, 0, b"Address | Name                 | Description\n")
+    crate::pieces::put(out, 0, b"Address | Name                 | Description\n")
 }
 
 pub fn print_heading(out: &mut [u8]) -> Printed
@@ -40,10 +40,10 @@ pub fn print_heading(out: &mut [u8]) -> Printed
 pub fn print_line(library: &[u8], line: Line, out: &mut [u8]) -> Printed
     ensures { λ r. ⌜ (r, now (out .exit)) ≡ fittedText (printedLine (now (library .entry)) line) (now (out .entry)) ⌝ }
 {
-    if out.len() < sizes::line(library, line) {
+    if out.len() < crate::sizes::line(library, line) {
         return Printed::NoRoom;
     }
-    Printed::Written(pieces::put_line(out, 0, library, line))
+    Printed::Written(crate::pieces::put_line(out, 0, library, line))
 }
 
 // Whether the heading and the first n lines fit into so much room. Each line takes some of it, so that this ends soon.
@@ -56,7 +56,7 @@ fn fits(library: &[u8], lines: &[u64], n: usize, room: usize) -> bool
     let mut left = room - HEADING;
     let mut i = 0;
     while i < n {
-        let size = sizes::line(library, rows::line_at(lines, i));
+        let size = crate::sizes::line(library, rows::line_at(lines, i));
         if left < size {
             return false;
         }
@@ -73,7 +73,7 @@ fn put_all(library: &[u8], lines: &[u64], n: usize, out: &mut [u8]) -> usize
     let mut at = put_heading(out);
     let mut i = 0;
     while i < n {
-        at = pieces::put_line(out, at, library, rows::line_at(lines, i));
+        at = crate::pieces::put_line(out, at, library, rows::line_at(lines, i));
         i += 1;
     }
     at

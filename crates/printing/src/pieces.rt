@@ -5,12 +5,12 @@ ghost use lib.ListN.{length, replicate};
 ghost use Rattle.lent.specs.Lists.{one};
 ghost use Rattle.describe.specs.Describe.{describe};
 ghost use Rattle.describe.specs.Described.{Put};
-ghost use Rattle.listing.specs.Print.{digit as digitOf, digits, remark, printedLine};
+ghost use Rattle.listing_rules.specs.Print.{digit as digitOf, digits, remark, printedLine};
 ghost use Rattle.printing.specs.Pieces.{addressColumn, nameColumn, opening as openingOf, closing as closingOf};
 use crate::sizes;
 use describe::Described;
 use lent::names;
-use listing::Line;
+use listing_rules::Line;
 
 pub fn put(out: &mut [u8], at: usize, text: &[u8]) -> usize
     requires { ⌜ at + length (now text) ≤ length (now out) ⌝ }
@@ -112,7 +112,7 @@ fn put_remark(out: &mut [u8], at: usize, name: &[u8]) -> usize
     ensures { λ r. ⌜ Put (now (out .entry)) at (remark (describe (now (name .entry)))) (now (out .exit)) r ⌝ }
 {
     let mut words = [0u8; sizes::LONGEST];
-    match describing::describe(name, &mut words) {
+    match describe::entry::describe(name, &mut words) {
         Described::Written(n) => {
             let from = put_byte(out, at, b' ');
             put(out, from, &words[0..n])

@@ -3,11 +3,11 @@ ghost use mathlib.Core.Path.{_≡_};
 ghost use Prim.Native.Nat.{_+_, _-_, _/_};
 ghost use lib.ListN.{length};
 ghost use Rattle.describe.specs.Describe.{describe};
-ghost use Rattle.listing.specs.Print.{moreDigits, remark as remarkOf, printedLine};
+ghost use Rattle.listing_rules.specs.Print.{moreDigits, remark as remarkOf, printedLine};
 ghost use Rattle.printing.specs.Pieces.{addressColumn, nameColumn};
 use describe::Described;
 use lent::names;
-use listing::Line;
+use listing_rules::Line;
 
 // No description is longer.
 pub const LONGEST: usize = 88;
@@ -53,7 +53,7 @@ fn remark(bytes: &[u8]) -> usize
     ensures { λ r. ⌜ r ≡ length (remarkOf (describe (now (bytes .entry)))) ⌝ }
 {
     let mut words = [0u8; LONGEST];
-    match describing::describe(bytes, &mut words) {
+    match describe::entry::describe(bytes, &mut words) {
         Described::Written(n) => n + 1,
         Described::NoRoom => 0,
         Described::Nothing => 0,

@@ -1,15 +1,15 @@
 // What a run comes to, as twelve numbers: the refusal's number, or 0; the seven counts, zeros with a refusal; a digest of all that was lent; a digest of the
 // list as the Rust has it; the length of the printed form, and its digest. With a refusal there is no list, and nothing is printed.
-use digest::numbers::take_in;
-use digest::numbers::take_in_all;
-use digest::numbers::take_in_bytes;
-use digest::numbers::take_in_part;
 use lent::names::name;
 use lent::part::Part;
 use lent::refusal::number;
 use lent::rows::cell;
 use printing::Printed;
 use printing::print;
+use recorded::digest::numbers::take_in;
+use recorded::digest::numbers::take_in_all;
+use recorded::digest::numbers::take_in_bytes;
+use recorded::digest::numbers::take_in_part;
 use run::Answer;
 use run::Counts;
 

@@ -3,7 +3,7 @@
 use crate::header::has_scene;
 use crate::header::length_at;
 use lent::rows::clear_bytes;
-use scenes::scene::fill;
+use recorded::scenes::scene::fill;
 
 pub enum Next {
     Case,

@@ -9,8 +9,8 @@ use crate::tally::count;
 use crate::tally::count_differing;
 use crate::tally::differing;
 use crate::trial::run_back;
-use scenes::show::cut_short;
-use scenes::show::limited;
+use recorded::scenes::show::cut_short;
+use recorded::scenes::show::limited;
 
 // Nothing says that a file ends, so the loop over its cases counts them; no file here has as many.
 const LIMIT: u64 = 100000;

@@ -1,9 +1,9 @@
 // The header of a case: flags, the settings, and 24 numbers: how long image and library are, how much is lent, and what is recorded.
-use listing::Skip;
-use pattern::Stretch;
+use image::Stretch;
+use listing_rules::Skip;
+use recorded::scenes::load::eight_at;
+use recorded::scenes::load::four_at;
 use run::Settings;
-use scenes::load::eight_at;
-use scenes::load::four_at;
 
 const CHECK: u8 = 1;
 

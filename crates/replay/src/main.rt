@@ -22,7 +22,7 @@ fn main() {
     }
     let mut image = [0u8; 65792];
     let mut library = [0u8; 65792];
-    let mut tally = tally::no_case();
-    compare::compare_all(fd, &mut image, &mut library, &mut tally);
+    let mut tally = crate::tally::no_case();
+    crate::compare::compare_all(fd, &mut image, &mut library, &mut tally);
     libc::close(fd);
 }

@@ -5,9 +5,9 @@ use crate::tally::at;
 use crate::tally::lines;
 use crate::tally::own;
 use libc::STDOUT_FILENO;
-use scenes::show::case_after;
-use scenes::show::end_line;
-use scenes::show::say;
+use recorded::scenes::show::case_after;
+use recorded::scenes::show::end_line;
+use recorded::scenes::show::say;
 
 // The twelve numbers of a case, as recorded and as they came.
 pub fn differ(passed: u64, header: &[u8], came: &[u64]) {

@@ -14,14 +14,14 @@ use Rattle.lent.specs.ListLaws.{rows-length}
 use Rattle.lent.specs.Refusals.{refusalNumber}
 use Rattle.lent.specs.RefusalLaws.{number-range}
 use Rattle.lent.specs.RowLaws.{fitting-length}
-use Rattle.pattern.specs.View.{view}
-use Rattle.fixup.specs.Target.{rulesOf}
+use Rattle.image.specs.View.{view}
+use Rattle.image.specs.fixup.Target.{rulesOf}
 use Rattle.omf51.specs.File.{file, modulesIn}
 use Rattle.segments.specs.SegmentRows.{segmentWidth, referenceWidth, symbolWidth, segmentNumbers, referenceNumbers, symbolNumbers, patternBytes, patternMasks}
 use Rattle.segments.specs.SegmentRowLaws.{segments-take, references-take, symbols-take, bytes-take, masks-take}
-use Rattle.search.specs.SearchRows.{placedWidth, notedWidth, placedNumbers, notedNumbers}
-use Rattle.search.specs.SearchRowLaws.{placed-take, noted-take}
-use Rattle.listing.specs.Listing.{lineWidth, lineCells, lineNumbers}
+use Rattle.search_rules.specs.SearchRows.{placedWidth, notedWidth, placedNumbers, notedNumbers}
+use Rattle.search_rules.specs.SearchRowLaws.{placed-take, noted-take}
+use Rattle.listing_rules.specs.Listing.{lineWidth, lineCells, lineNumbers}
 use Rattle.run.specs.declared.Settings.{Settings}
 use Rattle.run.specs.Run.{Lent, Yield, Outcome, stages, counted, refusals, zeroed, filledWith, outcomeOf, runSeen, run, numberOf, noCounts, countsOf}
 use Rattle.run.specs.Given.{NothingRefused}

@@ -8,12 +8,12 @@ use lib.ListN.{length, getD}
 use Rattle.lent.specs.declared.refusal.Refusal.{Refusal}
 use Rattle.lent.specs.OneOutcome.{Determines, by-equation}
 use Rattle.lent.specs.Refusals.{refusalNumber}
-use Rattle.pattern.specs.View.{view}
-use Rattle.pattern.specs.ViewLaws.{Agree}
+use Rattle.image.specs.View.{view}
+use Rattle.image.specs.ViewLaws.{Agree}
 use Rattle.omf51.specs.File.{file, modulesIn}
-use Rattle.listing.specs.declared.Line.{Line}
-use Rattle.listing.specs.Listing.{lineWidth}
-use Rattle.listing.specs.LineLayout.{lineAt}
+use Rattle.listing_rules.specs.declared.Line.{Line}
+use Rattle.listing_rules.specs.Listing.{lineWidth}
+use Rattle.listing_rules.specs.LineLayout.{lineAt}
 use Rattle.run.specs.declared.Settings.{Settings}
 use Rattle.run.specs.Run.{Lent, Outcome, stages, counted, filledWith, runSeen, run, numberOf, countsOf}
 use Rattle.run.specs.Given.{Given, NothingRefused}

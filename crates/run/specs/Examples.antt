@@ -9,14 +9,14 @@ use Rattle.lent.specs.Choice.{leading}
 use Rattle.lent.specs.Lists.{one, keep, joined, fold, any, all, placeOf, from, numbered, insert, sorted, total}
 use Rattle.lent.specs.Parts.{same, before}
 use Rattle.lent.specs.Rows.{zeros, flag}
-use Rattle.pattern.specs.declared.Seat.the-variants.{Anywhere}
-use Rattle.pattern.specs.View.{view}
-use Rattle.pattern.specs.Match.{agrees, matchesAt, matches}
-use Rattle.fixup.specs.declared.Rules.{Rules}
-use Rattle.fixup.specs.declared.Rules.the-variants.{Found, Documented}
-use Rattle.fixup.specs.declared.Kind.{Kind}
-use Rattle.fixup.specs.declared.Kind.the-variants.{Relative, Word, Inblock}
-use Rattle.fixup.specs.Target.{addressIn, kindNumber, readable, target}
+use Rattle.image.specs.declared.Seat.the-variants.{Anywhere}
+use Rattle.image.specs.View.{view}
+use Rattle.image.specs.Match.{agrees, matchesAt, matches}
+use Rattle.image.specs.declared.fixup.Rules.{Rules}
+use Rattle.image.specs.declared.fixup.Rules.the-variants.{Found, Documented}
+use Rattle.image.specs.declared.fixup.Kind.{Kind}
+use Rattle.image.specs.declared.fixup.Kind.the-variants.{Relative, Word, Inblock}
+use Rattle.image.specs.fixup.Target.{addressIn, kindNumber, readable, target}
 use Rattle.omf51.specs.Reader.{repeat}
 use Rattle.omf51.specs.Record.{frameAt, expected, recordOf}
 use Rattle.omf51.specs.Entry.{ending, segmentSize, definitionOf, definitionAt, fixupAt}
@@ -28,14 +28,14 @@ use Rattle.segments.specs.Refuse.{fixupRefusal, contentRefusal, tests, collectR
 use Rattle.segments.specs.Masks.{masksOf, ored, merged, filled}
 use Rattle.segments.specs.Collect.{referencesOf, symbolsOf, keptSegment, absoluteSegment, moduleSegments, collect}
 use Rattle.segments.specs.SegmentRows.{segmentRowsFrom, segmentNumbers, referenceNumbers, symbolNumbers, patternBytes, patternMasks}
-use Rattle.named.specs.Newest.{newestFrom}
-use Rattle.named.specs.Sheet.{nameBucket, linkedFrom}
-use Rattle.search.specs.Search.{positionsOf, allMatches, isValid, holds, notes, note, noted, symbolsAt, place, placed}
-use Rattle.search.specs.SearchRows.{placedNumbers, notedNumbers}
-use Rattle.listing.specs.declared.Skip.the-variants.{Never}
-use Rattle.listing.specs.Listing.{bestGrade, best, grade, gradedAt, linesAt, leftovers, listing, lineNumbers}
+use Rattle.tables.specs.by_name.Newest.{newestFrom}
+use Rattle.tables.specs.by_name.Sheet.{nameBucket, linkedFrom}
+use Rattle.search_rules.specs.Search.{positionsOf, allMatches, isValid, holds, notes, note, noted, symbolsAt, place, placed}
+use Rattle.search_rules.specs.SearchRows.{placedNumbers, notedNumbers}
+use Rattle.listing_rules.specs.declared.Skip.the-variants.{Never}
+use Rattle.listing_rules.specs.Listing.{bestGrade, best, grade, gradedAt, linesAt, leftovers, listing, lineNumbers}
 use Rattle.describe.specs.Describe.{text, oneOf, description, describe}
-use Rattle.listing.specs.Print.{digits, moreDigits, printedLine, printed}
+use Rattle.listing_rules.specs.Print.{digits, moreDigits, printedLine, printed}
 use Rattle.run.specs.declared.Settings.{Settings}
 use Rattle.run.specs.declared.Answer.the-variants.{Done}
 use Rattle.run.specs.Run.{Lent, Outcome, stages, counted, refusals, filledWith, runSeen, run}

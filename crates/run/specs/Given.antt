@@ -7,15 +7,15 @@ use lib.ListN.{length}
 use Rattle.lent.specs.declared.refusal.Refusal.{Refusal}
 use Rattle.lent.specs.declared.refusal.Refusal.the-variants.{RuleSet, ImageTooLong, LibraryTooLong, StretchPastEnd, NoModule, BodyPastEnd, LengthZero, NamesDiffer, TooFewRows, UnknownKind, UnknownBlock, ContentPastSegment, NoKeptSegment}
 use Rattle.lent.specs.Leading.{Quiet, First}
-use Rattle.pattern.specs.View.{view}
+use Rattle.image.specs.View.{view}
 use Rattle.omf51.specs.Reader.{read, stop, refused}
 use Rattle.omf51.specs.Module.{Module}
 use Rattle.omf51.specs.File.{file, modulesIn}
 use Rattle.segments.specs.Refuse.{Test, testRefusal, tests}
 use Rattle.segments.specs.RefuseLaws.{KindAbove, BlockAbove, PastSegment, NowhereKept}
 use Rattle.segments.specs.SegmentRows.{segmentWidth, referenceWidth, symbolWidth}
-use Rattle.search.specs.SearchRows.{placedWidth, notedWidth}
-use Rattle.listing.specs.Listing.{lineWidth}
+use Rattle.search_rules.specs.SearchRows.{placedWidth, notedWidth}
+use Rattle.listing_rules.specs.Listing.{lineWidth}
 use Rattle.run.specs.declared.Settings.{Settings}
 use Rattle.run.specs.declared.Counts.{Counts}
 use Rattle.run.specs.Run.{Lent, stages, counted}

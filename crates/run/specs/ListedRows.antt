@@ -11,14 +11,14 @@ use Rattle.lent.specs.Members.{_among_}
 use Rattle.lent.specs.Rows.{padded}
 use Rattle.lent.specs.RowLaws.{get-filled}
 use Rattle.segments.specs.Collect.{Collected}
-use Rattle.search.specs.declared.Asked.{Asked}
-use Rattle.search.specs.Search.{Placing, Noting, isNoted}
-use Rattle.listing.specs.declared.Line.{Line}
-use Rattle.listing.specs.declared.Skip.{Skip}
-use Rattle.listing.specs.Listing.{borneOut, grade, listing, lineWidth, lineNumbers}
-use Rattle.listing.specs.ListingLaws.{listed-of}
-use Rattle.listing.specs.LineLayout.{lineLayout, lineAt}
-use Rattle.listing.specs.LineLayoutLaws.{line-width, line-back}
+use Rattle.search_rules.specs.declared.Asked.{Asked}
+use Rattle.search_rules.specs.Search.{Placing, Noting, isNoted}
+use Rattle.listing_rules.specs.declared.Line.{Line}
+use Rattle.listing_rules.specs.declared.Skip.{Skip}
+use Rattle.listing_rules.specs.Listing.{borneOut, grade, listing, lineWidth, lineNumbers}
+use Rattle.listing_rules.specs.ListingLaws.{listed-of}
+use Rattle.listing_rules.specs.LineLayout.{lineLayout, lineAt}
+use Rattle.listing_rules.specs.LineLayoutLaws.{line-width, line-back}
 
 pub at-among : {A : Type 0} (xs : List A) (d : A) (i : ℕ) → i < length xs → getD xs i d among xs
 at-among [] d i h = absurd (omega arith)

@@ -9,11 +9,11 @@ use native.Mathlib.Omega.{arith}
 use Rattle.lent.specs.declared.part.Part.{Part}
 use Rattle.lent.specs.Lists.{numbered}
 use Rattle.lent.specs.Members.{_among_}
-use Rattle.pattern.specs.View.{view}
-use Rattle.pattern.specs.Match.{matchesAt}
-use Rattle.fixup.specs.declared.Rules.{Rules}
-use Rattle.fixup.specs.declared.Rules.the-variants.{Documented}
-use Rattle.fixup.specs.Target.{rulesOf}
+use Rattle.image.specs.View.{view}
+use Rattle.image.specs.Match.{matchesAt}
+use Rattle.image.specs.declared.fixup.Rules.{Rules}
+use Rattle.image.specs.declared.fixup.Rules.the-variants.{Documented}
+use Rattle.image.specs.fixup.Target.{rulesOf}
 use Rattle.omf51.specs.declared.Definition.{Definition}
 use Rattle.omf51.specs.Module.{Section, Module}
 use Rattle.omf51.specs.File.{file, modulesIn}
@@ -21,13 +21,13 @@ use Rattle.segments.specs.declared.Symbol.{Symbol}
 use Rattle.segments.specs.Ids.{kept, idOf}
 use Rattle.segments.specs.Collect.{Collected, dataOf, dataMasks, keptSegment, absoluteId, insideOf, symbolBase, absoluteSegment, collect}
 use Rattle.segments.specs.CollectLaws.{Source, keptOf, absoluteOf, source, Defined, symbol-named, Within, within-content, own-offset}
-use Rattle.search.specs.declared.Asked.{Asked}
-use Rattle.search.specs.Search.{placed, noted}
-use Rattle.search.specs.SearchLaws.{Seated, placed-by}
-use Rattle.listing.specs.declared.Line.{Line}
-use Rattle.listing.specs.declared.Skip.{Skip}
-use Rattle.listing.specs.Listing.{listing}
-use Rattle.listing.specs.ListingLaws.{listed-of}
+use Rattle.search_rules.specs.declared.Asked.{Asked}
+use Rattle.search_rules.specs.Search.{placed, noted}
+use Rattle.search_rules.specs.SearchLaws.{Seated, placed-by}
+use Rattle.listing_rules.specs.declared.Line.{Line}
+use Rattle.listing_rules.specs.declared.Skip.{Skip}
+use Rattle.listing_rules.specs.Listing.{listing}
+use Rattle.listing_rules.specs.ListingLaws.{listed-of}
 use Rattle.run.specs.declared.Settings.{Settings}
 use Rattle.run.specs.Run.{stages}
 

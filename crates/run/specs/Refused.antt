@@ -15,13 +15,13 @@ use Rattle.lent.specs.Leading.{Quiet, none≢some, leading-none, none-leading}
 use Rattle.lent.specs.Lists.{all}
 use Rattle.lent.specs.Refusals.{refusalNumber}
 use Rattle.lent.specs.RefusalLaws.{number-tells, same-number, number-range}
-use Rattle.pattern.specs.View.{view}
-use Rattle.pattern.specs.ViewLaws.{view-length}
+use Rattle.image.specs.View.{view}
+use Rattle.image.specs.ViewLaws.{view-length}
 use Rattle.omf51.specs.Reader.{stop, refused}
 use Rattle.omf51.specs.File.{file, fileRefusal, modulesIn}
 use Rattle.segments.specs.Refuse.{Test, testRefusal, tests, collectRefusal}
 use Rattle.segments.specs.RefuseLaws.{KindAbove, BlockAbove, PastSegment, NowhereKept, gives-10, gives-11, gives-12, gives-13, collect-gives}
-use Rattle.listing.specs.Listing.{lineWidth}
+use Rattle.listing_rules.specs.Listing.{lineWidth}
 use Rattle.run.specs.declared.Settings.{Settings}
 use Rattle.run.specs.Run.{Lent, Yield, stages, counted, collectOver, searchOver, listOver, refusals, outcomeOf, runSeen, run, numberOf}
 use Rattle.run.specs.Order.{Stage, firstOf, Silent, silent-both, Beyond, or-else, after-none, at-stage}

@@ -11,17 +11,17 @@ use Rattle.lent.specs.Choice.{if_then_else_, when, leading}
 use Rattle.lent.specs.Lists.{total}
 use Rattle.lent.specs.Refusals.{refusalNumber}
 use Rattle.lent.specs.Rows.{zeros, padded, tooMany}
-use Rattle.pattern.specs.View.{view}
-use Rattle.fixup.specs.Target.{rulesOf}
+use Rattle.image.specs.View.{view}
+use Rattle.image.specs.fixup.Target.{rulesOf}
 use Rattle.omf51.specs.File.{file, fileRefusal, modulesIn}
 use Rattle.segments.specs.Collect.{Collected, collect}
 use Rattle.segments.specs.Refuse.{collectRefusal}
 use Rattle.segments.specs.SegmentRows.{segmentWidth, referenceWidth, symbolWidth, segmentNumbers, referenceNumbers, symbolNumbers, patternBytes, patternMasks}
-use Rattle.search.specs.declared.Asked.{Asked}
-use Rattle.search.specs.Search.{Placing, Noting, placed, noted}
-use Rattle.search.specs.SearchRows.{placedWidth, notedWidth, placedNumbers, notedNumbers}
-use Rattle.listing.specs.declared.Line.{Line}
-use Rattle.listing.specs.Listing.{listing, lineWidth, lineNumbers}
+use Rattle.search_rules.specs.declared.Asked.{Asked}
+use Rattle.search_rules.specs.Search.{Placing, Noting, placed, noted}
+use Rattle.search_rules.specs.SearchRows.{placedWidth, notedWidth, placedNumbers, notedNumbers}
+use Rattle.listing_rules.specs.declared.Line.{Line}
+use Rattle.listing_rules.specs.Listing.{listing, lineWidth, lineNumbers}
 use Rattle.run.specs.declared.Settings.{Settings}
 use Rattle.run.specs.declared.Counts.{Counts}
 use Rattle.run.specs.declared.Answer.{Answer}

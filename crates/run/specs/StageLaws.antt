@@ -24,7 +24,7 @@ use Rattle.omf51.specs.FileLaws.{OfReading, Reads, file-reads}
 use Rattle.segments.specs.Refuse.{collectRefusal}
 use Rattle.segments.specs.RefuseLaws.{collect-late}
 use Rattle.segments.specs.SegmentRows.{segmentWidth, referenceWidth, symbolWidth}
-use Rattle.search.specs.SearchRows.{placedWidth, notedWidth}
+use Rattle.search_rules.specs.SearchRows.{placedWidth, notedWidth}
 use Rattle.run.specs.declared.Counts.{Counts}
 use Rattle.run.specs.Run.{Lent, collectOver, searchOver}
 use Rattle.run.specs.Order.{Stage}

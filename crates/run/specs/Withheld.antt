@@ -3,7 +3,7 @@
 use Prim.Native.Nat.{ℕ}
 use mathlib.Core.Path.{_≡_, ap}
 use mathlib.Core.List.{List}
-use Rattle.pattern.specs.ViewLaws.{Agree, same-view, view-empty}
+use Rattle.image.specs.ViewLaws.{Agree, same-view, view-empty}
 use Rattle.run.specs.declared.Settings.{Settings}
 use Rattle.run.specs.Run.{Lent, runSeen, run}
 

@@ -1,7 +1,7 @@
 // The whole run, from an image and a library to the list: what is asked, and what the caller gets.
+use image::Stretch;
 use lent::refusal::Refusal;
-use listing::Skip;
-use pattern::Stretch;
+use listing_rules::Skip;
 
 // What the caller asks: the rule set's number (0 as found, 1 as documented), whether references are checked, how many nonzero
 // masks make a match valid, above how many names a position is left out, and what is withheld of the image.

@@ -1,9 +1,13 @@
--- Searching: matches and their references, symbols placed, names noted, and the rows of both.
-pub mod Search
-pub mod SearchLaws
-pub mod SearchRows
-pub mod SearchRowLaws
-pub mod SearchLayouts
-pub mod SearchLayoutLaws
-pub mod FindableLaws
+-- Searching an image for the segments that are stored in lent memory.
+pub mod Fills
+pub mod FillLaws
+pub mod Outcome
+pub mod EndLaws
+pub mod LookupLaws
 pub mod OneOutcome
+pub mod byte_index
+pub mod matches
+pub mod note
+pub mod place
+pub mod targets
+pub mod visit

@@ -1,22 +1,15 @@
--- The functions on rows have one outcome each, by their contracts alone. Assumes nothing.
+-- The search has one outcome, by its contract alone: the answer, and each lent list. Assumes nothing.
 use Prim.Native.Nat.{ℕ}
 use mathlib.Core.Path.{_≡_}
+use mathlib.Core.Bool.{_||_}
 use mathlib.Core.List.{List}
 use Rattle.lent.specs.OneOutcome.{Determines, by-equation}
-use Rattle.lent.specs.Rows.{putRow}
-use Rattle.search.specs.declared.Placed.{Placed}
-use Rattle.search.specs.declared.Noted.{Noted}
-use Rattle.search.specs.SearchRows.{placedWidth, notedWidth, placedCells, notedCells}
-use Rattle.search.specs.SearchLayouts.{placedAt, notedAt}
+use Rattle.search_rules.specs.declared.Asked.{Asked}
+use Rattle.search.specs.declared.visit.Fills.{Fills}
+use Rattle.search.specs.Outcome.{Lists, Outcome, searched}
 
-pub placed-at-one : (m : List ℕ) (i : ℕ) → Determines (λ r. r ≡ placedAt m i)
-placed-at-one m i = by-equation (placedAt m i)
+pub search-one : (cells : List ℕ) (a : Asked) (library : List ℕ) (n : ℕ) (l : Lists) → Determines (λ (o : Outcome). o ≡ searched cells a library n l)
+search-one cells a library n l = by-equation (searched cells a library n l)
 
-pub put-placed-one : (m : List ℕ) (i : ℕ) (row : Placed) → Determines (λ exit. exit ≡ putRow placedWidth m i (placedCells row))
-put-placed-one m i row = by-equation (putRow placedWidth m i (placedCells row))
-
-pub noted-at-one : (m : List ℕ) (i : ℕ) → Determines (λ r. r ≡ notedAt m i)
-noted-at-one m i = by-equation (notedAt m i)
-
-pub put-noted-one : (m : List ℕ) (i : ℕ) (row : Noted) → Determines (λ exit. exit ≡ putRow notedWidth m i (notedCells row))
-put-noted-one m i row = by-equation (putRow notedWidth m i (notedCells row))
+pub lacks-room-one : (f : Fills) → Determines (λ r. r ≡ (f .placed .over || f .noted .over))
+lacks-room-one f = by-equation (f .placed .over || f .noted .over)

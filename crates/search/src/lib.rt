@@ -1,34 +1,24 @@
-// Searching an image for the segments: symbols placed, and names noted by references.
-use fixup::Rules;
-use lent::part::Part;
-use segments::SegmentNumber;
+// Searching an image for segments that are stored in lent memory.
+pub mod byte_index;
+pub mod entry;
+pub mod fill;
+pub mod matches;
+pub mod note;
+pub mod place;
+pub mod rows;
+pub mod targets;
+pub mod visit;
 
-// What is asked of a search: the rule set, whether references are checked, and how many nonzero masks make a match valid.
-pub struct Asked {
-    pub rules: Rules,
-    pub check: bool,
-    pub minimum: usize,
+use lent::refusal::Refusal;
+
+// How many rows were written.
+pub struct Rows {
+    pub placed: usize,
+    pub noted: usize,
 }
 
-// A symbol placed at a position, by the match of a segment at `found`. Its links are each one more than the number of an
-// earlier row, or 0: `link` leads to the newest of the same position, `alike` to the newest whose position and name share a
-// bucket with these.
-pub struct Placed {
-    pub position: usize,
-    pub name: Part,
-    pub valid: bool,
-    pub segment: SegmentNumber,
-    pub found: usize,
-    pub link: usize,
-    pub alike: usize,
-}
-
-// A name noted at a target by a reference. Its links are as those of a placed symbol, by the low 16 bits of the target, and by
-// target and name.
-pub struct Noted {
-    pub target: u64,
-    pub name: Part,
-    pub valid: bool,
-    pub link: usize,
-    pub alike: usize,
+// What the search comes to.
+pub enum Searched {
+    Done(Rows),
+    Refused(Refusal),
 }

@@ -8,12 +8,12 @@ use lib.ListN.{length}
 use Rattle.lent.specs.Choice.{if_then_else_}
 use Rattle.lent.specs.Lists.{one, keep, joined, fold, numbered}
 use Rattle.lent.specs.Parts.{bytesOf}
-use Rattle.pattern.specs.declared.Seat.{Seat}
-use Rattle.pattern.specs.declared.Seat.the-variants.{Anywhere, Only}
-use Rattle.fixup.specs.declared.Rules.{Rules}
-use Rattle.fixup.specs.declared.Rules.the-variants.{Found, Documented}
-use Rattle.fixup.specs.declared.Kind.{Kind}
-use Rattle.fixup.specs.Target.{kindOf}
+use Rattle.image.specs.declared.Seat.{Seat}
+use Rattle.image.specs.declared.Seat.the-variants.{Anywhere, Only}
+use Rattle.image.specs.declared.fixup.Rules.{Rules}
+use Rattle.image.specs.declared.fixup.Rules.the-variants.{Found, Documented}
+use Rattle.image.specs.declared.fixup.Kind.{Kind}
+use Rattle.image.specs.fixup.Target.{kindOf}
 use Rattle.omf51.specs.declared.ModuleId.{ModuleId}
 use Rattle.omf51.specs.declared.Definition.{Definition}
 use Rattle.omf51.specs.declared.Definition.the-variants.{Segment, Public, External}

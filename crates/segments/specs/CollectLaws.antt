@@ -13,8 +13,8 @@ use Rattle.lent.specs.Choice.{if_then_else_}
 use Rattle.lent.specs.ChoiceLaws.{both}
 use Rattle.lent.specs.Lists.{one, numbered}
 use Rattle.lent.specs.Members.{_among_, of-keep, of-joined, of-fold}
-use Rattle.fixup.specs.declared.Rules.{Rules}
-use Rattle.fixup.specs.declared.Rules.the-variants.{Documented}
+use Rattle.image.specs.declared.fixup.Rules.{Rules}
+use Rattle.image.specs.declared.fixup.Rules.the-variants.{Documented}
 use Rattle.omf51.specs.declared.ModuleId.{ModuleId}
 use Rattle.omf51.specs.declared.Definition.{Definition}
 use Rattle.omf51.specs.declared.Definition.the-variants.{Segment, Public, External}

@@ -14,3 +14,5 @@ pub mod PlacedRows
 pub mod PlacedRowLaws
 pub mod PlacedReadLaws
 pub mod OneOutcome
+pub mod append
+pub mod recalled

@@ -11,8 +11,8 @@ use lib.Seq.{getD-take, getD-drop, getD-append-add, length-take-le}
 use Rattle.lent.specs.ChoiceLaws.{chosen}
 use Rattle.lent.specs.Lists.{fold}
 use Rattle.lent.specs.Rows.{zeros}
-use Rattle.fixup.specs.declared.Kind.the-variants.{Word, Inblock}
-use Rattle.fixup.specs.Target.{kindNumber}
+use Rattle.image.specs.declared.fixup.Kind.the-variants.{Word, Inblock}
+use Rattle.image.specs.fixup.Target.{kindNumber}
 use Rattle.omf51.specs.declared.Fixup.{Fixup}
 use Rattle.omf51.specs.Module.{Section}
 use Rattle.segments.specs.Masks.{masked, masksOf, ored, merged, filled}

@@ -7,8 +7,8 @@ use lib.ListN.{take, drop, set, replicate}
 use Rattle.lent.specs.Choice.{if_then_else_}
 use Rattle.lent.specs.Lists.{fold}
 use Rattle.lent.specs.Rows.{zeros}
-use Rattle.fixup.specs.declared.Kind.the-variants.{Word, Inblock}
-use Rattle.fixup.specs.Target.{kindNumber}
+use Rattle.image.specs.declared.fixup.Kind.the-variants.{Word, Inblock}
+use Rattle.image.specs.fixup.Target.{kindNumber}
 use Rattle.omf51.specs.declared.Fixup.{Fixup}
 use Rattle.omf51.specs.Module.{Section}
 

@@ -5,11 +5,11 @@ use mathlib.Core.List.{List, [], _∷_}
 use lib.ListN.{length}
 use Rattle.lent.specs.Rows.{putRow}
 use Rattle.lent.specs.RowLaws.{Wide, Back, get-put}
-use Rattle.pattern.specs.declared.Seat.{Seat}
-use Rattle.pattern.specs.declared.Seat.the-variants.{Anywhere, Only}
-use Rattle.fixup.specs.declared.Kind.{Kind}
-use Rattle.fixup.specs.declared.Kind.the-variants.{Relative, Word, Inblock}
-use Rattle.fixup.specs.Target.{kindNumber}
+use Rattle.image.specs.declared.Seat.{Seat}
+use Rattle.image.specs.declared.Seat.the-variants.{Anywhere, Only}
+use Rattle.image.specs.declared.fixup.Kind.{Kind}
+use Rattle.image.specs.declared.fixup.Kind.the-variants.{Relative, Word, Inblock}
+use Rattle.image.specs.fixup.Target.{kindNumber}
 use Rattle.segments.specs.declared.Goal.{Goal}
 use Rattle.segments.specs.declared.Goal.the-variants as Goal
 use Rattle.segments.specs.declared.Reference.{Reference}

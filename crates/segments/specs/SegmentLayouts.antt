@@ -4,10 +4,10 @@ use mathlib.Core.List.{List}
 use lib.Dec.{eqb}
 use Rattle.lent.specs.Choice.{if_then_else_}
 use Rattle.lent.specs.Rows.{Layout, rowAt}
-use Rattle.pattern.specs.declared.Seat.{Seat}
-use Rattle.pattern.specs.declared.Seat.the-variants.{Anywhere, Only}
-use Rattle.fixup.specs.declared.Kind.{Kind}
-use Rattle.fixup.specs.declared.Kind.the-variants.{Relative, Word, Inblock}
+use Rattle.image.specs.declared.Seat.{Seat}
+use Rattle.image.specs.declared.Seat.the-variants.{Anywhere, Only}
+use Rattle.image.specs.declared.fixup.Kind.{Kind}
+use Rattle.image.specs.declared.fixup.Kind.the-variants.{Relative, Word, Inblock}
 use Rattle.segments.specs.declared.Goal.{Goal}
 use Rattle.segments.specs.declared.Goal.the-variants as Goal
 use Rattle.segments.specs.declared.Reference.{Reference}

@@ -7,9 +7,9 @@ use lib.ListN.{length}
 use Rattle.lent.specs.Lists.{joined, total}
 use Rattle.lent.specs.ListLaws.{joined-length, total-same, total-scaled, rows-length}
 use Rattle.lent.specs.Members.{_among_}
-use Rattle.pattern.specs.declared.Seat.{Seat}
-use Rattle.pattern.specs.declared.Seat.the-variants.{Anywhere, Only}
-use Rattle.fixup.specs.declared.Rules.{Rules}
+use Rattle.image.specs.declared.Seat.{Seat}
+use Rattle.image.specs.declared.Seat.the-variants.{Anywhere, Only}
+use Rattle.image.specs.declared.fixup.Rules.{Rules}
 use Rattle.omf51.specs.Module.{Module}
 use Rattle.segments.specs.declared.Goal.{Goal}
 use Rattle.segments.specs.declared.Goal.the-variants as Goal

@@ -4,9 +4,9 @@ use mathlib.Core.List.{List, [], _∷_}
 use lib.ListN.{length}
 use Rattle.lent.specs.declared.part.Part.{Part}
 use Rattle.lent.specs.Lists.{joined}
-use Rattle.pattern.specs.declared.Seat.{Seat}
-use Rattle.pattern.specs.declared.Seat.the-variants.{Anywhere, Only}
-use Rattle.fixup.specs.Target.{kindNumber}
+use Rattle.image.specs.declared.Seat.{Seat}
+use Rattle.image.specs.declared.Seat.the-variants.{Anywhere, Only}
+use Rattle.image.specs.fixup.Target.{kindNumber}
 use Rattle.segments.specs.declared.Goal.{Goal}
 use Rattle.segments.specs.declared.Goal.the-variants as Goal
 use Rattle.segments.specs.declared.Reference.{Reference}

@@ -1,9 +1,13 @@
 // Segments to be searched for, as they are collected from the modules.
+pub mod append;
+pub mod masks;
+pub mod put;
+pub mod recalled;
 pub mod rows;
 
-use fixup::Kind;
+use image::Seat;
+use image::fixup::Kind;
 use lent::part::Part;
-use pattern::Seat;
 
 // A segment's number in the whole file.
 pub struct SegmentNumber(pub usize);

@@ -6,10 +6,10 @@ use crate::Reference;
 use crate::SegmentNumber;
 use crate::SegmentRow;
 use crate::Symbol;
-use fixup::Kind;
+use image::Seat;
+use image::fixup::Kind;
 use lent::part::Part;
 use lent::rows;
-use pattern::Seat;
 
 // How many numbers a row has.
 const SEGMENT: usize = 8;

@@ -1,7 +1,7 @@
 -- `sillmarble_print_line` prints the line that a row holds. Assumes nothing.
 use mathlib.Core.Path.{ap, _∙_}
-use Rattle.listing.specs.declared.Line.{Line}
-use Rattle.listing.specs.Print.{printedLine}
+use Rattle.listing_rules.specs.declared.Line.{Line}
+use Rattle.listing_rules.specs.Print.{printedLine}
 use Rattle.printing.specs.Printing.{fittedText}
 use Rattle.libfind_c.specs.Exported.{writtenIn}
 use borrow.Author.Needs.{needs}

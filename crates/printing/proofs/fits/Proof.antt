@@ -6,7 +6,7 @@ use mathlib.Core.Path.{_≡_, sym, ap, _∙_}
 use native.Mathlib.Omega.{arith}
 use lib.Dec.{leb}
 use lib.ListN.{length}
-use Rattle.listing.specs.Print.{printedLine, printed}
+use Rattle.listing_rules.specs.Print.{printedLine, printed}
 use Rattle.printing.specs.Printing.{storedLines}
 use Rattle.printing.specs.Pieces.{linesFrom}
 use Rattle.printing.specs.PrintingLaws.{room-none, room-heading, room-turn, room-short, room-end}

@@ -5,7 +5,7 @@ use Rattle.printing.proofs.print.Tie as tie
 use mathlib.Core.Path.{sym, _∙_}
 use lib.ListN.{length}
 use borrow.Author.Tests.{leb-true, leb-false}
-use Rattle.listing.specs.Print.{printed}
+use Rattle.listing_rules.specs.Print.{printed}
 use Rattle.printing.specs.Printing.{storedLines}
 use Rattle.printing.specs.PrintingLaws.{too-long, fitting}
 

@@ -2,7 +2,7 @@
 use borrow.Author.Needs.{needs}
 use Rattle.printing.proofs.print_heading.Statement.{statement}
 use Rattle.printing.proofs.print_heading.Tie as tie
-use Rattle.listing.specs.Print.{heading}
+use Rattle.listing_rules.specs.Print.{heading}
 use Rattle.printing.specs.PrintingLaws.{too-long, fitting}
 
 returns : tie.Need-returns

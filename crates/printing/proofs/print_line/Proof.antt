@@ -3,7 +3,7 @@ use borrow.Author.Needs.{needs}
 use Rattle.printing.proofs.print_line.Statement.{statement}
 use Rattle.printing.proofs.print_line.Tie as tie
 use native.Mathlib.Omega.{arith}
-use Rattle.listing.specs.Print.{printedLine}
+use Rattle.listing_rules.specs.Print.{printedLine}
 use Rattle.printing.specs.PrintingLaws.{too-long, fitting}
 
 returns : tie.Need-returns

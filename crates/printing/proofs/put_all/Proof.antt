@@ -8,8 +8,8 @@ use native.Mathlib.Omega.{arith}
 use lib.ListN.{length}
 use Rattle.describe.specs.Described.{Put}
 use Rattle.describe.specs.DescribedLaws.{_then-put_}
-use Rattle.listing.specs.LineLayout.{lineAt}
-use Rattle.listing.specs.Print.{printedLine}
+use Rattle.listing_rules.specs.LineLayout.{lineAt}
+use Rattle.listing_rules.specs.Print.{printedLine}
 use Rattle.printing.specs.StoreLaws.{put-nothing}
 use Rattle.printing.specs.PutLaws.{put-as}
 use Rattle.printing.specs.Pieces.{linesFrom}

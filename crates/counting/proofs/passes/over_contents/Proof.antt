@@ -2,8 +2,8 @@
 use mathlib.Core.Path.{sym, _∙_}
 use lib.ListN.{length}
 use Rattle.omf51.specs.Module.{sectionsAt}
-use Rattle.modules.specs.Found.{found}
-use Rattle.walk.specs.Fewer.{fewer-sections}
+use Rattle.library.specs.Found.{found}
+use Rattle.library.specs.items.Fewer.{fewer-sections}
 use borrow.Author.Needs.{needs}
 use Rattle.counting.proofs.passes.over_contents.Statement.{statement}
 use Rattle.counting.proofs.passes.over_contents.Tie as tie

@@ -1,8 +1,8 @@
 -- `over_definitions`: each step leaves fewer definitions. Assumes nothing.
 use mathlib.Core.Path.{sym, _∙_}
 use lib.ListN.{length}
-use Rattle.walk.specs.Left.{definitionsLeft}
-use Rattle.walk.specs.Fewer.{fewer-definitions}
+use Rattle.library.specs.items.Left.{definitionsLeft}
+use Rattle.library.specs.items.Fewer.{fewer-definitions}
 use borrow.Author.Needs.{needs}
 use Rattle.counting.proofs.passes.over_definitions.Statement.{statement}
 use Rattle.counting.proofs.passes.over_definitions.Tie as tie

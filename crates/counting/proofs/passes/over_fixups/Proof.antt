@@ -1,8 +1,8 @@
 -- `over_fixups`: each step leaves fewer fixups. Assumes nothing.
 use mathlib.Core.Path.{sym, _∙_}
 use lib.ListN.{length}
-use Rattle.walk.specs.Left.{fixupsLeft}
-use Rattle.walk.specs.Fewer.{fewer-fixups}
+use Rattle.library.specs.items.Left.{fixupsLeft}
+use Rattle.library.specs.items.Fewer.{fewer-fixups}
 use borrow.Author.Needs.{needs}
 use Rattle.counting.proofs.passes.over_fixups.Statement.{statement}
 use Rattle.counting.proofs.passes.over_fixups.Tie as tie

@@ -3,9 +3,9 @@ use borrow.Author.Needs.{needs}
 use Rattle.libfind.proofs.entry.find_collected.Statement.{statement}
 use Rattle.libfind.proofs.entry.find_collected.Tie as tie
 use mathlib.Core.Path.{sym, ap, _∙_}
-use Rattle.pattern.specs.View.{view}
-use Rattle.visiting.specs.Visits.{stored}
-use Rattle.finding.specs.Outcome.{Lists, found}
+use Rattle.image.specs.View.{view}
+use Rattle.search.specs.visit.Visits.{stored}
+use Rattle.listing.specs.Outcome.{Lists, found}
 use Rattle.run.specs.Run.{lentLists}
 use Rattle.libfind.specs.Ends.{givenLists, concluded}
 

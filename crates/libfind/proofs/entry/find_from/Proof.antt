@@ -3,12 +3,12 @@ use borrow.Author.Needs.{needs}
 use Rattle.libfind.proofs.entry.find_from.Statement.{statement}
 use Rattle.libfind.proofs.entry.find_from.Tie as tie
 use mathlib.Core.Path.{sym, ap, _∙_}
-use Rattle.fixup.specs.declared.Rules.{Rules}
+use Rattle.image.specs.declared.fixup.Rules.{Rules}
 use Rattle.omf51.specs.Module.{moduleAt}
-use Rattle.modules.specs.Found.{found}
-use Rattle.storing.specs.Stores.{Lists}
-use Rattle.storing.specs.Segments.{lists}
-use Rattle.collecting.specs.Outcome.{Outcome, collection}
+use Rattle.library.specs.Found.{found}
+use Rattle.collect.specs.stored.Stores.{Lists}
+use Rattle.collect.specs.stored.Segments.{lists}
+use Rattle.collect.specs.Outcome.{Outcome, collection}
 use Rattle.run.specs.Run.{Lent, lentLists}
 use Rattle.libfind.specs.Ends.{collectable}
 use Rattle.libfind.specs.EndLaws.{refused-collecting, collected-then}

@@ -3,7 +3,7 @@ use Rattle.libfind.proofs.entry.rules_of.Statement.{statement}
 use Rattle.libfind.proofs.entry.rules_of.Tie as tie
 use mathlib.Core.Path.{refl, sym, ap}
 use borrow.Author.Tests.{ne-eqb}
-use Rattle.fixup.specs.declared.Rules.the-variants.{Documented, Found}
+use Rattle.image.specs.declared.fixup.Rules.the-variants.{Documented, Found}
 use Rattle.lent.specs.Choice.{if_then_else_}
 
 returns : tie.Need-returns

@@ -7,7 +7,7 @@ use mathlib.Core.List.{List}
 use native.Mathlib.Omega.{arith}
 use lib.ListN.{length, length-set, set}
 use lib.Seq.{sets}
-use Rattle.listing.specs.Print.{digits}
+use Rattle.listing_rules.specs.Print.{digits}
 use Rattle.printing.specs.StoreLaws.{digits-length, digits-more, digits-all}
 use borrow.Author.Needs.{needs}
 

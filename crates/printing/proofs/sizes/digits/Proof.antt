@@ -4,7 +4,7 @@ use Rattle.printing.proofs.sizes.digits.Tie as tie
 use Prim.Native.Nat.{ℕ, _+_, _-_, _/_, _≤_}
 use mathlib.Core.Path.{_≡_, refl, _∙_}
 use native.Mathlib.Omega.{arith}
-use Rattle.listing.specs.Print.{moreDigits}
+use Rattle.listing_rules.specs.Print.{moreDigits}
 use Rattle.printing.specs.PieceLaws.{digits-none, digits-counted, digits-most}
 
 record Turn (address rest n : ℕ) : Type 0 where

@@ -1,0 +1,261 @@
+-- `store_absolutes` goes from link to link. Assumes nothing.
+use Prim.Native.Nat.{ℕ, _-_, _<_, _^_}
+use mathlib.Core.Path.{_≡_, refl, sym, ap, subst, _∙_}
+use mathlib.Core.Bool.{Bool}
+use mathlib.Core.List.{List, _++_}
+use native.Mathlib.Omega.{arith}
+use lib.ListN.{length}
+use Rattle.lent.specs.Lists.{one}
+use Rattle.image.specs.declared.fixup.Rules.{Rules}
+use Rattle.omf51.specs.Module.{Section, Module}
+use Rattle.segments.specs.Collect.{Collected, sectionsOf, absoluteId, absoluteSegment}
+use Rattle.library.specs.items.Left.{fixupsLeft}
+use Rattle.library.specs.items.Contents.{nextContent}
+use Rattle.library.specs.items.ContentSizeLaws.{content-goes}
+use Rattle.tables.specs.links.FollowLaws.{follows-step}
+use Rattle.segment_parts.specs.SectionLaws.{section-met, none-met}
+use Rattle.collect.specs.declared.stored.Counts.{Counts}
+use Rattle.collect.specs.stored.Stores.{Lists, Stores, After, SameLengths}
+use Rattle.collect.specs.stored.ProgressLaws.{same-lengths, lengths-on}
+use Rattle.collect.specs.stored.Segments.{lists, absoluteOf, publicsOf, ownBy}
+use Rattle.collect.specs.stored.SegmentLaws.{absolute-by}
+use Rattle.collect.specs.absolute.AbsoluteLaws.{Storing, absolutes-start, absolutes-on, absolutes-lack, absolutes-end}
+use Rattle.module_index.specs.gather.Places.{sectionIn, SectionIs}
+use Rattle.tables.specs.links.Follow.{Follows}
+use Rattle.segment_parts.specs.symbols_by_offset.Flags.{Clear}
+use Rattle.collect.specs.absolute.Absolute.{ByOffset}
+use borrow.Author.Needs.{needs}
+use Rattle.collect.proofs.absolute.store_absolutes.Statement.{statement}
+use Rattle.collect.proofs.absolute.store_absolutes.Tie as tie
+
+record Inv (library : List ℕ) (own : Bool) (number : ℕ) (table first next places keys : List ℕ) (n : ℕ) (entries heads onward apart₀ flags₀ apart flags : List ℕ) (c₀ : Counts) (l₀ l : Lists) (last here : ℕ) (c : Counts) : Type 0 where
+  long : SameLengths l₀ l
+  apart-long : length apart ≡ length apart₀
+  flags-long : length flags ≡ length flags₀
+  clear : Clear flags
+  small : here < 2 ^ 32
+  storing : (rules : Rules) (m : Module) (gs : List Collected) → own ≡ ownBy rules → ByOffset library m table first next places keys n entries heads onward flags₀ → Stores gs l₀ c₀
+      → Storing (SectionIs library places) next rules library m number gs last here l c
+
+abbrev Inv-loop : tie.InvT-loop
+Inv-loop library own number table first next places keys n entries heads onward segments₀ references₀ symbols₀ bytes₀ masks₀ apart₀ flags₀ last₀ here₀ c₀ segments references symbols bytes masks apart flags last here c =
+    Inv library own number table first next places keys n entries heads onward apart₀ flags₀ apart flags c₀ (lists segments₀ references₀ symbols₀ bytes₀ masks₀) (lists segments references symbols bytes masks) last here c
+
+abbrev μ-loop : tie.MeasureT-loop
+μ-loop library own number table first next places keys n entries heads onward segments₀ references₀ symbols₀ bytes₀ masks₀ apart₀ flags₀ last₀ here₀ c₀ segments references symbols bytes masks apart flags last here c = 2 ^ 32 - last
+
+-- once a content is stored: it is the one that stands there
+abbrev Kept : Type 0
+Kept = tie.After-store-absolute Inv-loop μ-loop
+
+stored-here : (c : Kept) (rules : Rules) (m : Module) (gs : List Collected) → c .before .before .before .before .before .before .before .before .before .before .before .before .before .before .before .before .before .before .before .before .before .before .before .before .before .before .before .before .before .before .before .before .args .own ≡ ownBy rules
+    → ByOffset (c .before .before .before .before .before .before .before .before .before .before .before .before .before .before .before .before .before .before .before .before .before .before .before .before .before .before .before .before .before .before .before .before .args .library .now) m (c .before .before .before .before .before .before .before .before .before .before .before .before .before .before .before .before .before .before .before .before .before .before .before .before .before .before .before .before .before .before .before .before .args .table .now) (c .before .before .before .before .before .before .before .before .before .before .before .before .before .before .before .before .before .before .before .before .before .before .before .before .before .before .before .before .before .before .before .before .args .first .now) (c .before .before .before .before .before .before .before .before .before .before .before .before .before .before .before .before .before .before .before .before .before .before .before .before .before .before .before .before .before .before .before .before .args .next .now) (c .before .before .before .before .before .before .before .before .before .before .before .before .before .before .before .before .before .before .before .before .before .before .before .before .before .before .before .before .before .before .before .before .args .places .now) (c .before .before .before .before .before .before .before .before .before .before .before .before .before .before .before .before .before .before .before .before .before .before .before .before .before .before .before .before .before .before .before .before .args .keys .now) (c .before .before .before .before .before .before .before .before .before .before .before .before .before .before .before .before .before .before .before .before .before .before .before .before .before .before .before .before .before .before .before .before .args .n) (c .before .before .before .before .before .before .before .before .before .before .before .before .before .before .before .before .before .before .before .before .before .before .before .before .before .before .before .before .before .before .before .before .args .entries .now) (c .before .before .before .before .before .before .before .before .before .before .before .before .before .before .before .before .before .before .before .before .before .before .before .before .before .before .before .before .before .before .before .before .args .heads .now) (c .before .before .before .before .before .before .before .before .before .before .before .before .before .before .before .before .before .before .before .before .before .before .before .before .before .before .before .before .before .before .before .before .args .onward .now) (c .before .before .before .before .before .before .before .before .before .before .before .before .before .before .before .before .before .before .before .before .before .before .before .before .before .before .before .before .before .before .before .before .args .flags .now)
+    → (s : Section) → SectionIs (c .before .before .before .before .before .before .before .before .before .before .before .before .before .before .before .before .before .before .before .before .before .before .before .before .before .before .before .before .before .before .before .before .args .library .now) (c .before .before .before .before .before .before .before .before .before .before .before .before .before .before .before .before .before .before .before .before .before .before .before .before .before .before .before .before .before .before .before .before .args .places .now) (c .before .before .before .before .before .before .before .before .before .before .before .before .before .before .loop .here - 1) s → Stores gs (lists (c .before .before .before .before .before .before .before .before .before .before .before .before .before .before .loop .segments) (c .before .before .before .before .before .before .before .before .before .before .before .before .before .before .loop .references) (c .before .before .before .before .before .before .before .before .before .before .before .before .before .before .loop .symbols) (c .before .before .before .before .before .before .before .before .before .before .before .before .before .before .loop .bytes) (c .before .before .before .before .before .before .before .before .before .before .before .before .before .before .loop .masks)) (c .before .before .before .before .before .before .before .before .before .before .before .before .before .before .loop .c)
+    → After (gs ++ one (absoluteSegment rules (c .before .before .before .before .before .before .before .before .before .before .before .before .before .before .before .before .before .before .before .before .before .before .before .before .before .before .before .before .before .before .before .before .args .library .now) m (c .before .before .before .before .before .before .before .before .before .before .before .before .before .before .before .before .before .before .before .before .before .before .before .before .before .before .before .before .before .before .before .before .args .number) s)) (lists (c .store-absolute .last .1 .1 .1 .1 .1 .1 .1 .1 .1 .1 .1 .1 .0) (c .store-absolute .last .1 .1 .1 .1 .1 .1 .1 .1 .1 .1 .1 .1 .1 .0) (c .store-absolute .last .1 .1 .1 .1 .1 .1 .1 .1 .1 .1 .1 .1 .1 .1 .0) (c .store-absolute .last .1 .1 .1 .1 .1 .1 .1 .1 .1 .1 .1 .1 .1 .1 .1 .0) (c .store-absolute .last .1 .1 .1 .1 .1 .1 .1 .1 .1 .1 .1 .1 .1 .1 .1 .1 .0)) (c .store-absolute .result)
+stored-here c rules m gs o x s i stores =
+    let a = c .before .before .before .before .before .before .before .before .before .before .before .before .before .before .before .before .before .before .before .before .before .before .before .before .before .before .before .before .before .before .before .before .args in
+    let lib = a .library .now in
+    let r = c .store-absolute in
+    let after = lists (r .last .1 .1 .1 .1 .1 .1 .1 .1 .1 .1 .1 .1 .0) (r .last .1 .1 .1 .1 .1 .1 .1 .1 .1 .1 .1 .1 .1 .0) (r .last .1 .1 .1 .1 .1 .1 .1 .1 .1 .1 .1 .1 .1 .1 .0) (r .last .1 .1 .1 .1 .1 .1 .1 .1 .1 .1 .1 .1 .1 .1 .1 .0) (r .last .1 .1 .1 .1 .1 .1 .1 .1 .1 .1 .1 .1 .1 .1 .1 .1 .0) in
+    let same = section-met lib (sym (c .before .before .before .before .before .before .before .before .before .before .before .next-content .ensures) ∙ c .before .before .before .before .before .before .before .before .before .content .given .1) (ap (λ p. sectionIn lib (nextContent lib p)) (c .before .before .before .before .before .before .before .before .before .before .before .before .number-at2 .ensures) ∙ i) in
+    let p = x .publics in
+    subst (λ g. After (gs ++ one g) after (r .result))
+    (ap (λ own. absoluteOf lib (m .definitions) (a .number) own (c .before .before .before .before .before .before .before .before .before .content .given .0 .0) (fixupsLeft lib (c .before .before .before .before .before .before .before .before .before .content .given .0 .1 .0)) (publicsOf m absoluteId)) o ∙ sym (absolute-by rules lib m (a .number) _) ∙ ap (absoluteSegment rules lib m (a .number)) same)
+    (r .ensures .extends (m .definitions) (publicsOf m absoluteId) (x .tells) (record { standing = p .standing; linked = p .linked; wide = omega (arith, p .wide, c .before .before .before .before .before .before .before .before .before .before .before .before .before .before .loop .inv .flags-long) }) gs stores)
+
+loop-holds : tie.Need-loop-holds Inv-loop μ-loop
+loop-holds c =
+    let a = c .before .before .before .before .before .before .before .before .before .before .before .before .before .before .before .before .before .args in
+    let lib = a .library .now in
+    let l = lists (a .segments .now) (a .references .now) (a .symbols .now) (a .bytes .now) (a .masks .now) in
+    record {
+      long = same-lengths l;
+      apart-long = refl;
+      flags-long = refl;
+      clear = c .before .before .before .before .before .before .before .before .before .before .before .before .before .before .before .before .before .pre .1 .1;
+      small = rw (c .number-at .ensures) (omega (arith, c .before .before .before .before .before .before .before .before .before .before .before .before .before .before .shared-slice-known3 .given 0));
+      storing = λ rules m gs o x s. absolutes-start (SectionIs lib (a .places .now)) (a .next .now) rules lib m (a .number) gs (subst (λ k. Follows (SectionIs lib (a .places .now)) (a .next .now) 0 k (sectionsOf m absoluteId)) (sym (c .number-at .ensures)) (x .sections 0 (omega arith))) s;
+    }
+
+same-length : tie.Need-same-length Inv-loop μ-loop
+same-length c = c .before .before .before .before .before .loop .inv .long .segments
+
+same-length-2 : tie.Need-same-length-2 Inv-loop μ-loop
+same-length-2 c = c .before .before .before .before .before .loop .inv .long .references
+
+same-length-3 : tie.Need-same-length-3 Inv-loop μ-loop
+same-length-3 c = c .before .before .before .before .before .loop .inv .long .symbols
+
+same-length-4 : tie.Need-same-length-4 Inv-loop μ-loop
+same-length-4 c = c .before .before .before .before .before .loop .inv .long .bytes
+
+same-length-5 : tie.Need-same-length-5 Inv-loop μ-loop
+same-length-5 c = c .before .before .before .before .before .loop .inv .long .masks
+
+same-length-6 : tie.Need-same-length-6 Inv-loop μ-loop
+same-length-6 c = c .before .before .before .before .before .loop .inv .apart-long
+
+same-length-7 : tie.Need-same-length-7 Inv-loop μ-loop
+same-length-7 c = c .before .before .before .before .before .loop .inv .flags-long
+
+returns : tie.Need-returns Inv-loop μ-loop
+returns c =
+    let a = c .before .before .before .before .before .before .before .before .before .before .before .before .before .before .before .before .before .before .before .before .before .before .before .args in
+    let lib = a .library .now in
+    let l = c .before .before .before .before .before .loop in
+    record {
+      long = l .inv .long;
+      apart-long = l .inv .apart-long;
+      flags-long = l .inv .flags-long;
+      clear = l .inv .clear;
+      extends = λ rules m o x gs s.
+          let w = l .inv .storing rules m gs o x s in
+          none-met lib (sym (c .before .before .next-content .ensures) ∙ c .enum-told .given .1) (ap (λ p. sectionIn lib (nextContent lib p)) (c .before .before .before .number-at2 .ensures) ∙ follows-step (SectionIs lib (a .places .now)) (a .next .now) (l .last) (l .here) (w .left) (omega arith) (w .follows) .stands);
+    }
+
+store-absolute-requires : tie.Need-store-absolute-requires Inv-loop μ-loop
+store-absolute-requires c κs =
+    let a = c .before .before .before .before .before .before .before .before .before .before .before .before .before .before .before .before .before .before .before .before .before .before .before .before .before .before .before .before .before .before .before .args in
+    let l = c .before .before .before .before .before .before .before .before .before .before .before .before .before .loop in
+    let g = content-goes (a .library .now) (c .before .before .before .before .before .before .before .before .before .before .before .number-at2 .result) (sym (c .before .before .before .before .before .before .before .before .before .before .next-content .ensures) ∙ c .before .before .before .before .before .before .before .before .content .given .1) in
+    (c .before .before .before .before .before .before .before .before .before .before .before .before .before .before .before .before .before .before .before .before .before .before .before .before .before .before .before .before .before .before .before .pre .0, (omega (arith, l .inv .apart-long, c .before .before .before .before .before .before .before .before .before .before .before .before .before .before .before .before .before .before .before .before .before .before .before .before .before .before .before .before .before .before .before .pre .1 .0), (record { within = g .data-inside; short = g .data-small (λ i. omega (arith, c .before .before .before .before .before .before .before .before .before .before .before .before .before .before .before .before .before .before .before .before .before .before .before .before .before .before .before .before .before .before .shared-slice-known .given i)); low = g .offset-small (λ i. omega (arith, c .before .before .before .before .before .before .before .before .before .before .before .before .before .before .before .before .before .before .before .before .before .before .before .before .before .before .before .before .before .before .shared-slice-known .given i)) }, l .inv .clear)))
+
+same-length-8 : tie.Need-same-length-8 Inv-loop μ-loop
+same-length-8 c = c .before .before .before .before .before .before .before .before .before .before .before .before .before .before .before .before .store-absolute .ensures .long .segments ∙ c .before .before .before .before .before .before .before .before .before .before .before .before .before .before .before .before .before .before .before .before .before .before .before .before .before .before .before .before .before .before .loop .inv .long .segments
+
+same-length-9 : tie.Need-same-length-9 Inv-loop μ-loop
+same-length-9 c = c .before .before .before .before .before .before .before .before .before .before .before .before .before .before .before .before .store-absolute .ensures .long .references ∙ c .before .before .before .before .before .before .before .before .before .before .before .before .before .before .before .before .before .before .before .before .before .before .before .before .before .before .before .before .before .before .loop .inv .long .references
+
+same-length-10 : tie.Need-same-length-10 Inv-loop μ-loop
+same-length-10 c = c .before .before .before .before .before .before .before .before .before .before .before .before .before .before .before .before .store-absolute .ensures .long .symbols ∙ c .before .before .before .before .before .before .before .before .before .before .before .before .before .before .before .before .before .before .before .before .before .before .before .before .before .before .before .before .before .before .loop .inv .long .symbols
+
+same-length-11 : tie.Need-same-length-11 Inv-loop μ-loop
+same-length-11 c = c .before .before .before .before .before .before .before .before .before .before .before .before .before .before .before .before .store-absolute .ensures .long .bytes ∙ c .before .before .before .before .before .before .before .before .before .before .before .before .before .before .before .before .before .before .before .before .before .before .before .before .before .before .before .before .before .before .loop .inv .long .bytes
+
+same-length-12 : tie.Need-same-length-12 Inv-loop μ-loop
+same-length-12 c = c .before .before .before .before .before .before .before .before .before .before .before .before .before .before .before .before .store-absolute .ensures .long .masks ∙ c .before .before .before .before .before .before .before .before .before .before .before .before .before .before .before .before .before .before .before .before .before .before .before .before .before .before .before .before .before .before .loop .inv .long .masks
+
+same-length-13 : tie.Need-same-length-13 Inv-loop μ-loop
+same-length-13 c = c .before .before .before .before .before .before .before .before .before .before .before .before .before .before .before .before .store-absolute .ensures .apart-long ∙ c .before .before .before .before .before .before .before .before .before .before .before .before .before .before .before .before .before .before .before .before .before .before .before .before .before .before .before .before .before .before .loop .inv .apart-long
+
+same-length-14 : tie.Need-same-length-14 Inv-loop μ-loop
+same-length-14 c = c .before .before .before .before .before .before .before .before .before .before .before .before .before .before .before .before .store-absolute .ensures .flags-long ∙ c .before .before .before .before .before .before .before .before .before .before .before .before .before .before .before .before .before .before .before .before .before .before .before .before .before .before .before .before .before .before .loop .inv .flags-long
+
+returns-2 : tie.Need-returns-2 Inv-loop μ-loop
+returns-2 c =
+    let a = c .before .before .before .before .before .before .before .before .before .before .before .before .before .before .before .before .before .before .before .before .before .before .before .before .before .before .before .before .before .before .before .before .before .before .before .before .before .before .before .before .before .before .before .before .before .before .before .before .args in
+    let lib = a .library .now in
+    let l = c .before .before .before .before .before .before .before .before .before .before .before .before .before .before .before .before .before .before .before .before .before .before .before .before .before .before .before .before .before .before .loop in
+    let s = c .before .before .before .before .before .before .before .before .before .before .before .before .before .before .before .before .store-absolute in
+    let now-lists = lists (l .segments) (l .references) (l .symbols) (l .bytes) (l .masks) in
+    let after = lists (s .last .1 .1 .1 .1 .1 .1 .1 .1 .1 .1 .1 .1 .0) (s .last .1 .1 .1 .1 .1 .1 .1 .1 .1 .1 .1 .1 .1 .0) (s .last .1 .1 .1 .1 .1 .1 .1 .1 .1 .1 .1 .1 .1 .1 .0) (s .last .1 .1 .1 .1 .1 .1 .1 .1 .1 .1 .1 .1 .1 .1 .1 .0) (s .last .1 .1 .1 .1 .1 .1 .1 .1 .1 .1 .1 .1 .1 .1 .1 .1 .0) in
+    record {
+      long = lengths-on (l .inv .long) (s .ensures .long);
+      apart-long = s .ensures .apart-long ∙ l .inv .apart-long;
+      flags-long = s .ensures .flags-long ∙ l .inv .flags-long;
+      clear = s .ensures .clear;
+      extends = λ rules m o x gs stores. absolutes-lack (SectionIs lib (a .places .now)) (a .next .now) rules lib m (a .number) gs (l .last) (l .here) now-lists after (l .c) (s .result) (omega (arith, c .before .before .before .before .before .before .before .before .before .before .before .before .before .before .before .before .before .before .before .before .before .before .before .before .before .before .before .before .before .loop-test .taken)) (l .inv .storing rules m gs o x stores)
+          (λ section i hs t. stored-here (c .before .before .before .before .before .before .before .before .before .before .before .before .before .before .before .before) rules m hs o x section i t) (c .enum-told2 .given .1);
+    }
+
+sub-number-at-2 : tie.Need-sub-number-at-2 Inv-loop μ-loop
+sub-number-at-2 c = omega (arith, c .before .before .before .before .before .before .before .before .before .before .before .before .before .before .before .before .before .before .before .before .before .before .before .before .before .before .before .before .before .before .loop-test .taken)
+
+loop-less : tie.Need-loop-less Inv-loop μ-loop
+loop-less c = omega (arith, c .before .before .before .before .before .before .before .before .before .before .before .before .before .before .before .before .before .before .before .before .before .before .before .before .before .before .before .before .before .before .before .before .loop .inv .small, c .before .before .before .before .before .before .before .before .before .before .before .before .before .before .before .before .before .before .before .before .before .before .before .before .before .before .before .before .before .before .before .loop-test .taken)
+
+loop-again : tie.Need-loop-again Inv-loop μ-loop
+loop-again c =
+    let a = c .before .before .before .before .before .before .before .before .before .before .before .before .before .before .before .before .before .before .before .before .before .before .before .before .before .before .before .before .before .before .before .before .before .before .before .before .before .before .before .before .before .before .before .before .before .before .before .before .before .before .args in
+    let lib = a .library .now in
+    let l = c .before .before .before .before .before .before .before .before .before .before .before .before .before .before .before .before .before .before .before .before .before .before .before .before .before .before .before .before .before .before .before .before .loop in
+    let s = c .before .before .before .before .before .before .before .before .before .before .before .before .before .before .before .before .before .before .store-absolute in
+    let now-lists = lists (l .segments) (l .references) (l .symbols) (l .bytes) (l .masks) in
+    let after = lists (s .last .1 .1 .1 .1 .1 .1 .1 .1 .1 .1 .1 .1 .0) (s .last .1 .1 .1 .1 .1 .1 .1 .1 .1 .1 .1 .1 .1 .0) (s .last .1 .1 .1 .1 .1 .1 .1 .1 .1 .1 .1 .1 .1 .1 .0) (s .last .1 .1 .1 .1 .1 .1 .1 .1 .1 .1 .1 .1 .1 .1 .1 .0) (s .last .1 .1 .1 .1 .1 .1 .1 .1 .1 .1 .1 .1 .1 .1 .1 .1 .0) in
+    record {
+      long = lengths-on (l .inv .long) (s .ensures .long);
+      apart-long = s .ensures .apart-long ∙ l .inv .apart-long;
+      flags-long = s .ensures .flags-long ∙ l .inv .flags-long;
+      clear = s .ensures .clear;
+      small = rw (c .number-at3 .ensures) (omega (arith, c .before .before .before .before .before .before .before .before .before .before .before .before .before .before .before .before .before .before .before .before .before .before .before .before .before .before .before .before .before .before .before .before .before .before .before .before .before .before .before .before .before .before .before .before .before .before .shared-slice-known4 .given (l .here - 1)));
+      storing = λ rules m gs o x stores. rw (c .number-at3 .ensures) (absolutes-on (SectionIs lib (a .places .now)) (a .next .now) rules lib m (a .number) gs (l .last) (l .here) now-lists after (l .c) (s .result) (omega (arith, c .before .before .before .before .before .before .before .before .before .before .before .before .before .before .before .before .before .before .before .before .before .before .before .before .before .before .before .before .before .before .before .loop-test .taken)) (l .inv .storing rules m gs o x stores)
+          (λ section i hs t. stored-here (c .before .before .before .before .before .before .before .before .before .before .before .before .before .before .before .before .before .before) rules m hs o x section i t) (c .before .before .stored .given .1));
+    }
+
+same-length-15 : tie.Need-same-length-15 Inv-loop μ-loop
+same-length-15 c = c .before .loop .inv .long .segments
+
+same-length-16 : tie.Need-same-length-16 Inv-loop μ-loop
+same-length-16 c = c .before .loop .inv .long .references
+
+same-length-17 : tie.Need-same-length-17 Inv-loop μ-loop
+same-length-17 c = c .before .loop .inv .long .symbols
+
+same-length-18 : tie.Need-same-length-18 Inv-loop μ-loop
+same-length-18 c = c .before .loop .inv .long .bytes
+
+same-length-19 : tie.Need-same-length-19 Inv-loop μ-loop
+same-length-19 c = c .before .loop .inv .long .masks
+
+same-length-20 : tie.Need-same-length-20 Inv-loop μ-loop
+same-length-20 c = c .before .loop .inv .apart-long
+
+same-length-21 : tie.Need-same-length-21 Inv-loop μ-loop
+same-length-21 c = c .before .loop .inv .flags-long
+
+returns-3 : tie.Need-returns-3 Inv-loop μ-loop
+returns-3 c =
+    let a = c .before .before .before .before .before .before .before .before .before .before .before .before .before .before .before .before .before .before .before .args in
+    let l = c .before .loop in
+    record {
+      long = l .inv .long;
+      apart-long = l .inv .apart-long;
+      flags-long = l .inv .flags-long;
+      clear = l .inv .clear;
+      extends = λ rules m o x gs s. absolutes-end (SectionIs (a .library .now) (a .places .now)) (a .next .now) rules (a .library .now) m (a .number) gs (l .last) (l .here) (omega arith) (l .inv .storing rules m gs o x s);
+    }
+
+pub store-absolutes-spec : {M : Type 1} → statement M
+store-absolutes-spec =
+    tie.close
+    (tie.spec
+    Inv-loop
+    μ-loop
+    (λ c κs. search needs)
+    loop-holds
+    (λ c. search needs)
+    (λ c κs. search needs)
+    (λ c κs. search needs)
+    (λ c. search needs)
+    (λ c. search needs)
+    same-length
+    same-length-2
+    same-length-3
+    same-length-4
+    same-length-5
+    same-length-6
+    same-length-7
+    returns
+    store-absolute-requires
+    (λ c. search needs)
+    (λ c. search needs)
+    same-length-8
+    same-length-9
+    same-length-10
+    same-length-11
+    same-length-12
+    same-length-13
+    same-length-14
+    returns-2
+    sub-number-at-2
+    (λ c κs. search needs)
+    loop-less
+    loop-again
+    same-length-15
+    same-length-16
+    same-length-17
+    same-length-18
+    same-length-19
+    same-length-20
+    same-length-21
+    returns-3)

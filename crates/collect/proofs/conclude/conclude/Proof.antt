@@ -1,0 +1,103 @@
+-- `conclude` tells the three ends apart: no room, refused, done. Assumes nothing.
+use mathlib.Core.Path.{sym, subst, _∙_}
+use Rattle.omf51.specs.Module.{moduleAt}
+use Rattle.library.specs.Found.{found}
+use Rattle.segments.specs.Collect.{collect}
+use Rattle.segments.specs.Refuse.{collectRefusal}
+use Rattle.module_ids.specs.fault.ScanLaws.{told}
+use Rattle.collect.specs.stored.Stores.{After}
+use Rattle.collect.specs.stored.Segments.{lists}
+use Rattle.collect.specs.EndLaws.{done-is, lacks-is, refused-is}
+use borrow.Author.Needs.{needs}
+use Rattle.collect.proofs.conclude.conclude.Statement.{statement}
+use Rattle.collect.proofs.conclude.conclude.Tie as tie
+
+same-length : tie.Need-same-length
+same-length c = c .before .before .before .before .before .before .before .before .before .segments .given
+
+same-length-2 : tie.Need-same-length-2
+same-length-2 c = c .before .before .before .before .before .before .before .references .given
+
+same-length-3 : tie.Need-same-length-3
+same-length-3 c = c .before .before .before .before .before .symbols .given
+
+same-length-4 : tie.Need-same-length-4
+same-length-4 c = c .before .before .before .bytes .given
+
+same-length-5 : tie.Need-same-length-5
+same-length-5 c = c .before .masks .given
+
+returns : tie.Need-returns
+returns c =
+    let a = c .before .before .before .before .before .before .before .before .before .before .before .before .before .before .before .before .before .before .before .before .before .before .before .before .before .args in
+    let lib = a .library .now in
+    let after = lists (a .segments .now) (a .references .now) (a .symbols .now) (a .bytes .now) (a .masks .now) in
+    let modules = found lib (moduleAt lib) (a .from) in
+    record { concludes = λ rules l n s. lacks-is rules lib modules l after (c .before .before .before .before .before .before .before .before .before .before .before .before .before .before .before .before .before .before .before .before .before .before .before .before .before .pre .1) n (subst (After (collect rules lib modules) after) (c .before .before .before .before .before .before .before .before .before .before .before .before .before .before .before .before .enum-told .given .1) s) (c .before .before .before .before .before .before .before .before .before .before .clear-all .ensures) }
+
+scan-requires : tie.Need-scan-requires
+scan-requires c κs = c .before .before .before .before .before .before .before .before .before .before .before .pre .0
+
+same-length-6 : tie.Need-same-length-6
+same-length-6 c = c .before .before .before .before .before .before .before .before .before .before .before .before .before .before .before .before .before .before .before .before .table .given
+
+same-length-7 : tie.Need-same-length-7
+same-length-7 c = c .before .before .before .before .before .before .before .before .before .segments2 .given
+
+same-length-8 : tie.Need-same-length-8
+same-length-8 c = c .before .before .before .before .before .before .before .references2 .given
+
+same-length-9 : tie.Need-same-length-9
+same-length-9 c = c .before .before .before .before .before .symbols2 .given
+
+same-length-10 : tie.Need-same-length-10
+same-length-10 c = c .before .before .before .bytes2 .given
+
+same-length-11 : tie.Need-same-length-11
+same-length-11 c = c .before .masks2 .given
+
+returns-2 : tie.Need-returns-2
+returns-2 c =
+    let a = c .before .before .before .before .before .before .before .before .before .before .before .before .before .before .before .before .before .before .before .before .before .before .before .before .before .before .before .before .before .before .before .before .before .args in
+    let lib = a .library .now in
+    let after = lists (a .segments .now) (a .references .now) (a .symbols .now) (a .bytes .now) (a .masks .now) in
+    let modules = found lib (moduleAt lib) (a .from) in
+    record { concludes = λ rules l n s. refused-is rules lib modules l after (c .before .before .before .before .before .before .before .before .before .before .before .before .before .before .before .before .before .before .before .before .before .before .before .before .before .before .before .before .before .before .before .before .before .pre .1) n (subst (After (collect rules lib modules) after) (c .before .before .before .before .before .before .before .before .before .before .before .before .before .before .before .before .before .before .before .before .before .before .before .before .stored .given .1) s) (told {o = collectRefusal modules} (sym (c .before .before .before .before .before .before .before .before .before .before .before .before .before .before .before .before .before .before .before .before .before .scan .ensures .says) ∙ c .before .before .before .before .before .before .before .before .before .before .before .before .before .before .before .before .before .verdict .given .1)) (c .before .before .before .before .before .before .before .before .before .before .clear-all2 .ensures) }
+
+same-length-12 : tie.Need-same-length-12
+same-length-12 c = c .before .before .before .table .given
+
+returns-3 : tie.Need-returns-3
+returns-3 c =
+    let a = c .before .before .before .before .before .before .before .before .before .before .before .before .before .before .before .before .args in
+    let lib = a .library .now in
+    let after = lists (a .segments .now) (a .references .now) (a .symbols .now) (a .bytes .now) (a .masks .now) in
+    let modules = found lib (moduleAt lib) (a .from) in
+    record { concludes = λ rules l n s. done-is rules lib modules l after (c .before .before .before .before .before .before .before .before .before .before .before .before .before .before .before .before .pre .1) n (subst (After (collect rules lib modules) after) (c .before .before .before .before .before .before .before .stored .given .1) s) (told {o = collectRefusal modules} (sym (c .before .before .before .before .scan .ensures .says) ∙ c .enum-told2 .given .1)) }
+
+pub conclude-spec : {M : Type 1} → statement M
+conclude-spec =
+    tie.close
+    (tie.spec
+    (λ c. search needs)
+    (λ c. search needs)
+    (λ c κs. search needs)
+    same-length
+    same-length-2
+    same-length-3
+    same-length-4
+    same-length-5
+    returns
+    scan-requires
+    (λ c. search needs)
+    (λ c κs. search needs)
+    same-length-6
+    same-length-7
+    same-length-8
+    same-length-9
+    same-length-10
+    same-length-11
+    returns-2
+    (λ c. search needs)
+    same-length-12
+    returns-3)

@@ -1,0 +1,197 @@
+-- `store_keeps` goes from definition to definition. Assumes nothing.
+use Prim.Native.Nat.{ℕ, _-_}
+use mathlib.Core.Path.{_≡_, refl, sym, ap, subst, _∙_}
+use mathlib.Core.List.{List, _∷_}
+use native.Mathlib.Omega.{arith}
+use lib.ListN.{length}
+use denote.Ref.{now}
+use Rattle.omf51.specs.Module.{Module, definitionsAt}
+use Rattle.library.specs.Found.{found}
+use Rattle.library.specs.declared.items.Cursor.{Cursor}
+use Rattle.library.specs.items.Left.{definitionsLeft}
+use Rattle.library.specs.items.Yields.{definitionsAfter, next-definition-yields, definitions-start}
+use Rattle.segments.specs.Collect.{Collected}
+use Rattle.module_index.specs.Indexed.{Indexed}
+use Rattle.collect.specs.declared.stored.Counts.{Counts}
+use Rattle.collect.specs.stored.Stores.{Lists, Stores, SameLengths}
+use Rattle.collect.specs.stored.StoreLaws.{stored-count}
+use Rattle.collect.specs.stored.Progress.{Progress}
+use Rattle.collect.specs.stored.ProgressLaws.{progress-starts, progress-ends, same-lengths, lengths-on}
+use Rattle.collect.specs.stored.Segments.{lists}
+use Rattle.collect.specs.kept.Kept.{keptSegments}
+use Rattle.collect.specs.kept.KeptLaws.{keptRest, rest-passed, rest-none, keeps-on, keeps-lack, keeps-start}
+use borrow.Author.Needs.{needs}
+use Rattle.collect.proofs.kept.store_keeps.Statement.{statement}
+use Rattle.collect.proofs.kept.store_keeps.Tie as tie
+
+record Inv (library : List ℕ) (from : ℕ) (table first next places heads onward entries apart₀ apart : List ℕ) (c₀ : Counts) (l₀ l : Lists) (at : Cursor) (c : Counts) : Type 0 where
+  long : SameLengths l₀ l
+  apart-long : length apart ≡ length apart₀
+  progress : (m : Module) (gs : List Collected) → m .definitions ≡ found library (definitionsAt library) from → Indexed library m table first next places heads onward entries → Stores gs l₀ c₀
+      → Progress gs (keptSegments library m (c₀ .segments)) (keptRest library m (c₀ .segments) (c .segments - c₀ .segments) (definitionsLeft library at)) l c
+
+abbrev Inv-loop : tie.InvT-loop
+Inv-loop library from table first next places heads onward entries segments₀ references₀ symbols₀ bytes₀ masks₀ apart₀ number at₀ c₀ segments references symbols bytes masks apart at c =
+    Inv library from table first next places heads onward entries apart₀ apart c₀ (lists segments₀ references₀ symbols₀ bytes₀ masks₀) (lists segments references symbols bytes masks) at c
+
+abbrev μ-loop : tie.MeasureT-loop
+μ-loop library from table first next places heads onward entries segments₀ references₀ symbols₀ bytes₀ masks₀ apart₀ number at₀ c₀ segments references symbols bytes masks apart at c = length (definitionsLeft library at)
+
+-- the next definition, once it is known
+abbrev Told : Type 0
+Told = tie.After-known-told Inv-loop μ-loop
+
+yields : (c : Told) → definitionsLeft (now (c .before .before .before .before .before .before .before .before .before .before .before .before .before .before .before .before .before .before .before .before .args .library)) (c .before .before .before .before .loop .at) ≡ c .before .definition .given .0 .0 ∷ definitionsLeft (now (c .before .before .before .before .before .before .before .before .before .before .before .before .before .before .before .before .before .before .before .before .args .library)) (c .before .definition .given .0 .1 .0)
+yields c = let lib = c .before .before .before .before .before .before .before .before .before .before .before .before .before .before .before .before .before .before .before .before .args .library .now in next-definition-yields lib (c .before .before .before .before .loop .at) ∙ ap (definitionsAfter lib) (sym (c .before .before .before .next-definition .ensures) ∙ c .before .definition .given .1)
+
+loop-holds : tie.Need-loop-holds Inv-loop μ-loop
+loop-holds c =
+    let a = c .before .before .before .before .before .before .before .before .before .before .before .before .before .before .before .args in
+    let lib = a .library .now in
+    let l = lists (a .segments .now) (a .references .now) (a .symbols .now) (a .bytes .now) (a .masks .now) in
+    let n = a .before .segments in
+    record {
+      long = same-lengths l;
+      apart-long = refl;
+      progress = λ m gs e x s.
+          let z : 0 ≡ n - n = omega arith in
+          subst (λ rest. Progress gs (keptSegments lib m n) rest l (a .before)) (keeps-start lib m n (ap (definitionsLeft lib) (c .start .ensures) ∙ definitions-start lib (a .from) ∙ sym e) ∙ ap (λ j. keptRest lib m n j (definitionsLeft lib (c .start .result))) z) (progress-starts gs (keptSegments lib m n) s);
+    }
+
+store-definition-requires : tie.Need-store-definition-requires Inv-loop μ-loop
+store-definition-requires c κs =
+    let l = c .before .before .before .before .before .before .before .before .before .before .before .before .loop in
+    (c .before .before .before .before .before .before .before .before .before .before .before .before .before .before .before .before .before .before .before .before .before .before .before .before .before .before .before .before .pre .0, omega (arith, l .inv .apart-long, c .before .before .before .before .before .before .before .before .before .before .before .before .before .before .before .before .before .before .before .before .before .before .before .before .before .before .before .before .pre .1))
+
+same-length : tie.Need-same-length Inv-loop μ-loop
+same-length c = let s = c .before .before .before .before .before .before .before .before .before .before .before .before .before .before .store-definition .ensures in s .long .segments ∙ c .before .before .before .before .before .before .before .before .before .before .before .before .before .before .before .before .before .before .before .before .before .before .before .before .before .before .before .loop .inv .long .segments
+
+same-length-2 : tie.Need-same-length-2 Inv-loop μ-loop
+same-length-2 c = let s = c .before .before .before .before .before .before .before .before .before .before .before .before .before .before .store-definition .ensures in s .long .references ∙ c .before .before .before .before .before .before .before .before .before .before .before .before .before .before .before .before .before .before .before .before .before .before .before .before .before .before .before .loop .inv .long .references
+
+same-length-3 : tie.Need-same-length-3 Inv-loop μ-loop
+same-length-3 c = let s = c .before .before .before .before .before .before .before .before .before .before .before .before .before .before .store-definition .ensures in s .long .symbols ∙ c .before .before .before .before .before .before .before .before .before .before .before .before .before .before .before .before .before .before .before .before .before .before .before .before .before .before .before .loop .inv .long .symbols
+
+same-length-4 : tie.Need-same-length-4 Inv-loop μ-loop
+same-length-4 c = let s = c .before .before .before .before .before .before .before .before .before .before .before .before .before .before .store-definition .ensures in s .long .bytes ∙ c .before .before .before .before .before .before .before .before .before .before .before .before .before .before .before .before .before .before .before .before .before .before .before .before .before .before .before .loop .inv .long .bytes
+
+same-length-5 : tie.Need-same-length-5 Inv-loop μ-loop
+same-length-5 c = let s = c .before .before .before .before .before .before .before .before .before .before .before .before .before .before .store-definition .ensures in s .long .masks ∙ c .before .before .before .before .before .before .before .before .before .before .before .before .before .before .before .before .before .before .before .before .before .before .before .before .before .before .before .loop .inv .long .masks
+
+same-length-6 : tie.Need-same-length-6 Inv-loop μ-loop
+same-length-6 c = let s = c .before .before .before .before .before .before .before .before .before .before .before .before .before .before .store-definition .ensures in s .apart-long ∙ c .before .before .before .before .before .before .before .before .before .before .before .before .before .before .before .before .before .before .before .before .before .before .before .before .before .before .before .loop .inv .apart-long
+
+returns : tie.Need-returns Inv-loop μ-loop
+returns c =
+    let number = c .before .before .before .before .before .before .before .before .before .before .before .before .before .before .before .before .before .before .before .before .before .before .before .before .before .before .before .before .before .before .before .before .before .before .before .before .before .before .before .before .before .before .before .args .before .segments in
+    let a = c .before .before .before .before .before .before .before .before .before .before .before .before .before .before .before .before .before .before .before .before .before .before .before .before .before .before .before .before .before .before .before .before .before .before .before .before .before .before .before .before .before .before .before .args in
+    let lib = a .library .now in
+    let l = c .before .before .before .before .before .before .before .before .before .before .before .before .before .before .before .before .before .before .before .before .before .before .before .before .before .before .before .loop in
+    let s = c .before .before .before .before .before .before .before .before .before .before .before .before .before .before .store-definition in
+    let now-lists = lists (l .segments) (l .references) (l .symbols) (l .bytes) (l .masks) in
+    let after = lists (s .last .1 .1 .1 .1 .1 .1 .1 .1 .1 .1 .1 .0) (s .last .1 .1 .1 .1 .1 .1 .1 .1 .1 .1 .1 .1 .0) (s .last .1 .1 .1 .1 .1 .1 .1 .1 .1 .1 .1 .1 .1 .0) (s .last .1 .1 .1 .1 .1 .1 .1 .1 .1 .1 .1 .1 .1 .1 .0) (s .last .1 .1 .1 .1 .1 .1 .1 .1 .1 .1 .1 .1 .1 .1 .1 .0) in
+    record {
+      long = lengths-on (l .inv .long) (s .ensures .long);
+      apart-long = s .ensures .apart-long ∙ l .inv .apart-long;
+      extends = λ m e x gs stores.
+          keeps-lack lib m number gs now-lists after (l .c) (s .result) (yields (c .before .before .before .before .before .before .before .before .before .before .before .before .before .before .before .before .before .before .before .before .before .before .before)) (sym (c .before .before .before .before .before .before .before .before .before .before .before .before .before .before .before .before .before .before .before .before .before .before .is-kept .ensures) ∙ c .before .before .before .before .before .before .before .before .before .before .before .before .before .before .before .before .before .before .before .before .before .if1 .taken) (stored-count stores) (l .inv .progress m gs e x stores) (s .ensures .extends m x) (c .enum-told .given .1);
+    }
+
+loop-less : tie.Need-loop-less Inv-loop μ-loop
+loop-less c = rw (yields (c .before .before .before .before .before .before .before .before .before .before .before .before .before .before .before .before .before .before .before .before .before .before .before .before)) (omega arith)
+
+loop-again : tie.Need-loop-again Inv-loop μ-loop
+loop-again c =
+    let number = c .before .before .before .before .before .before .before .before .before .before .before .before .before .before .before .before .before .before .before .before .before .before .before .before .before .before .before .before .before .before .before .before .before .before .before .before .before .before .before .before .before .before .before .before .args .before .segments in
+    let a = c .before .before .before .before .before .before .before .before .before .before .before .before .before .before .before .before .before .before .before .before .before .before .before .before .before .before .before .before .before .before .before .before .before .before .before .before .before .before .before .before .before .before .before .before .args in
+    let lib = a .library .now in
+    let l = c .before .before .before .before .before .before .before .before .before .before .before .before .before .before .before .before .before .before .before .before .before .before .before .before .before .before .before .before .loop in
+    let s = c .before .before .before .before .before .before .before .before .before .before .before .before .before .before .before .store-definition in
+    let now-lists = lists (l .segments) (l .references) (l .symbols) (l .bytes) (l .masks) in
+    let after = lists (s .last .1 .1 .1 .1 .1 .1 .1 .1 .1 .1 .1 .0) (s .last .1 .1 .1 .1 .1 .1 .1 .1 .1 .1 .1 .1 .0) (s .last .1 .1 .1 .1 .1 .1 .1 .1 .1 .1 .1 .1 .1 .0) (s .last .1 .1 .1 .1 .1 .1 .1 .1 .1 .1 .1 .1 .1 .1 .0) (s .last .1 .1 .1 .1 .1 .1 .1 .1 .1 .1 .1 .1 .1 .1 .1 .0) in
+    record {
+      long = lengths-on (l .inv .long) (s .ensures .long);
+      apart-long = s .ensures .apart-long ∙ l .inv .apart-long;
+      progress = λ m gs e x stores.
+          keeps-on lib m number gs now-lists after (l .c) (s .result) (yields (c .before .before .before .before .before .before .before .before .before .before .before .before .before .before .before .before .before .before .before .before .before .before .before .before)) (sym (c .before .before .before .before .before .before .before .before .before .before .before .before .before .before .before .before .before .before .before .before .before .before .before .is-kept .ensures) ∙ c .before .before .before .before .before .before .before .before .before .before .before .before .before .before .before .before .before .before .before .before .before .before .if1 .taken) (stored-count stores) (l .inv .progress m gs e x stores) (s .ensures .extends m x) (c .before .stored .given .1);
+    }
+
+loop-less-2 : tie.Need-loop-less-2 Inv-loop μ-loop
+loop-less-2 c = rw (yields (c .before .before)) (omega arith)
+
+loop-again-2 : tie.Need-loop-again-2 Inv-loop μ-loop
+loop-again-2 c =
+    let number = c .before .before .before .before .before .before .before .before .before .before .before .before .before .before .before .before .before .before .before .before .before .before .args .before .segments in
+    let lib = c .before .before .before .before .before .before .before .before .before .before .before .before .before .before .before .before .before .before .before .before .before .before .args .library .now in
+    let l = c .before .before .before .before .before .before .loop in
+    let now-lists = lists (l .segments) (l .references) (l .symbols) (l .bytes) (l .masks) in
+    record {
+      long = l .inv .long;
+      apart-long = l .inv .apart-long;
+      progress = λ m gs e x s. subst (λ rest. Progress gs (keptSegments lib m number) rest now-lists (l .c)) (rest-passed lib m number (l .c .segments - number) (yields (c .before .before)) (sym (c .before .is-kept .ensures) ∙ c .if1 .left)) (l .inv .progress m gs e x s);
+    }
+
+same-length-7 : tie.Need-same-length-7 Inv-loop μ-loop
+same-length-7 c = c .before .before .before .loop .inv .long .segments
+
+same-length-8 : tie.Need-same-length-8 Inv-loop μ-loop
+same-length-8 c = c .before .before .before .loop .inv .long .references
+
+same-length-9 : tie.Need-same-length-9 Inv-loop μ-loop
+same-length-9 c = c .before .before .before .loop .inv .long .symbols
+
+same-length-10 : tie.Need-same-length-10 Inv-loop μ-loop
+same-length-10 c = c .before .before .before .loop .inv .long .bytes
+
+same-length-11 : tie.Need-same-length-11 Inv-loop μ-loop
+same-length-11 c = c .before .before .before .loop .inv .long .masks
+
+same-length-12 : tie.Need-same-length-12 Inv-loop μ-loop
+same-length-12 c = c .before .before .before .loop .inv .apart-long
+
+returns-2 : tie.Need-returns-2 Inv-loop μ-loop
+returns-2 c =
+    let number = c .before .before .before .before .before .before .before .before .before .before .before .before .before .before .before .before .before .before .before .args .before .segments in
+    let lib = c .before .before .before .before .before .before .before .before .before .before .before .before .before .before .before .before .before .before .before .args .library .now in
+    let l = c .before .before .before .loop in
+    let now-lists = lists (l .segments) (l .references) (l .symbols) (l .bytes) (l .masks) in
+    let none = next-definition-yields lib (l .at) ∙ ap (definitionsAfter lib) (sym (c .before .before .next-definition .ensures) ∙ c .enum-told2 .given .1) in
+    record {
+      long = l .inv .long;
+      apart-long = l .inv .apart-long;
+      extends = λ m e x gs s. progress-ends gs (keptSegments lib m number) (rest-none lib m number (l .c .segments - number) none) (l .inv .progress m gs e x s);
+    }
+
+pub store-keeps-spec : {M : Type 1} → statement M
+store-keeps-spec =
+    tie.close
+    (tie.spec
+    Inv-loop
+    μ-loop
+    (λ c κs. search needs)
+    loop-holds
+    (λ c κs. search needs)
+    (λ c. search needs)
+    (λ c κs. search needs)
+    store-definition-requires
+    (λ c. search needs)
+    (λ c. search needs)
+    same-length
+    same-length-2
+    same-length-3
+    same-length-4
+    same-length-5
+    same-length-6
+    returns
+    loop-less
+    loop-again
+    loop-less-2
+    loop-again-2
+    (λ c. search needs)
+    same-length-7
+    same-length-8
+    same-length-9
+    same-length-10
+    same-length-11
+    same-length-12
+    returns-2)

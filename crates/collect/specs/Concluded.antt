@@ -1,0 +1,14 @@
+-- What is left once all modules are stored, or could not be.
+use Prim.Native.Nat.{ℕ}
+use mathlib.Core.Path.{_≡_}
+use mathlib.Core.List.{List}
+use Rattle.image.specs.declared.fixup.Rules.{Rules}
+use Rattle.omf51.specs.Module.{Module}
+use Rattle.segments.specs.Collect.{collect}
+use Rattle.collect.specs.declared.stored.Stored.{Stored}
+use Rattle.collect.specs.stored.Stores.{Lists, After, SameLengths}
+use Rattle.collect.specs.Outcome.{Outcome, collection}
+
+-- by whichever rules the segments were stored, and into whichever memory of these lengths, it is what the collection comes to
+pub record Concludes (library : List ℕ) (modules : List Module) (after : Lists) (stored : Stored) (o : Outcome) : Type 0 where
+  pub concludes : (rules : Rules) (l : Lists) → SameLengths l after → After (collect rules library modules) after stored → o ≡ collection rules library modules l

@@ -1,0 +1,12 @@
+-- The collection has one outcome, by its contract alone: the answer, and each lent list. Assumes nothing.
+use Prim.Native.Nat.{ℕ}
+use mathlib.Core.Path.{_≡_}
+use mathlib.Core.List.{List}
+use Rattle.lent.specs.OneOutcome.{Determines, by-equation}
+use Rattle.image.specs.declared.fixup.Rules.{Rules}
+use Rattle.omf51.specs.Module.{Module}
+use Rattle.collect.specs.stored.Stores.{Lists}
+use Rattle.collect.specs.Outcome.{Outcome, collection}
+
+pub collect-one : (rules : Rules) (library : List ℕ) (modules : List Module) (l : Lists) → Determines (λ (o : Outcome). o ≡ collection rules library modules l)
+collect-one rules library modules l = by-equation (collection rules library modules l)

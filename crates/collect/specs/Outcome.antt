@@ -1,0 +1,76 @@
+-- What the collection comes to: the answer, and what is left in the memory that was lent to it.
+use Prim.Native.Nat.{ℕ}
+use mathlib.Core.Bool.{Bool, _||_}
+use mathlib.Core.List.{List, [], _∷_}
+use mathlib.Core.Option.{Option, none, some}
+use lib.Dec.{leb, ltb}
+use lib.ListN.{length}
+use Rattle.lent.specs.declared.refusal.Refusal.{Refusal}
+use Rattle.lent.specs.declared.refusal.Refusal.the-variants.{LibraryTooLong, TooFewRows}
+use Rattle.lent.specs.Choice.{if_then_else_, when, leading}
+use Rattle.lent.specs.Lists.{total}
+use Rattle.lent.specs.Refusals.{refusalNumber}
+use Rattle.lent.specs.Rows.{zeros, padded, tooMany}
+use Rattle.image.specs.declared.fixup.Rules.{Rules}
+use Rattle.omf51.specs.Module.{Module}
+use Rattle.segments.specs.Collect.{Collected, collect}
+use Rattle.segments.specs.Refuse.{collectRefusal}
+use Rattle.segments.specs.SegmentRows.{segmentWidth, referenceWidth, symbolWidth, segmentNumbers, referenceNumbers, symbolNumbers, patternBytes, patternMasks}
+use Rattle.collect.specs.declared.stored.Counts.{Counts}
+use Rattle.collect.specs.stored.Stores.{Lists}
+use Rattle.collect.specs.declared.Collection.{Collection}
+use Rattle.collect.specs.declared.Collection.the-variants.{Done, Refused}
+
+pub record Outcome : Type 0 where
+  pub answer : Collection
+  pub left : Lists
+
+-- the rows and pattern bytes that segments take
+unfoldable pub countedIn : List Collected → Counts
+countedIn gs = record {
+  segments = length gs;
+  references = total (λ g. length (g .references)) gs;
+  symbols = total (λ g. length (g .symbols)) gs;
+  pattern = total (λ g. length (g .bytes)) gs;
+}
+
+-- refusal 9: more than were lent; a pattern byte takes a byte and a mask
+abbrev pub tooFew : Lists → Counts → Bool
+tooFew l c =
+    tooMany segmentWidth (l .segments) (c .segments)
+    || (tooMany referenceWidth (l .references) (c .references)
+    || (tooMany symbolWidth (l .symbols) (c .symbols) || (tooMany 1 (l .bytes) (c .pattern) || tooMany 1 (l .masks) (c .pattern))))
+
+-- the refusals in their order, of which the first counts
+unfoldable pub refusalOf : List ℕ → List Module → Lists → Counts → Option Refusal
+refusalOf library modules l c =
+    leading (when (ltb 1048576 (length library)) LibraryTooLong ∷ when (tooFew l c) TooFewRows ∷ collectRefusal modules ∷ [])
+
+-- lent memory set to zero; and filled with segments, the rest zero
+unfoldable pub zeroed : Lists → Lists
+zeroed l = record {
+  segments = zeros (length (l .segments));
+  references = zeros (length (l .references));
+  symbols = zeros (length (l .symbols));
+  bytes = zeros (length (l .bytes));
+  masks = zeros (length (l .masks));
+}
+
+unfoldable pub filledWith : List Collected → Lists → Lists
+filledWith gs l = record {
+  segments = padded (length (l .segments)) (segmentNumbers gs);
+  references = padded (length (l .references)) (referenceNumbers gs);
+  symbols = padded (length (l .symbols)) (symbolNumbers gs);
+  bytes = padded (length (l .bytes)) (patternBytes gs);
+  masks = padded (length (l .masks)) (patternMasks gs);
+}
+
+-- a refusal up to 8 writes nothing, 9 to 13 set all that was lent to zero
+abbrev pub outcomeOf : Option Refusal → List Collected → Lists → Outcome
+outcomeOf none gs l = record { answer = Done (countedIn gs); left = filledWith gs l }
+outcomeOf (some r) gs l = record { answer = Refused r; left = if leb (refusalNumber r) 8 then l else zeroed l }
+
+unfoldable pub collection : Rules → List ℕ → List Module → Lists → Outcome
+collection rules library modules l =
+    let gs = collect rules library modules in
+    outcomeOf (refusalOf library modules l (countedIn gs)) gs l

@@ -1,0 +1,11 @@
+-- On the way: some of the segments are stored, and the rest is still to come.
+use mathlib.Core.Path.{_≡_}
+use mathlib.Core.List.{List, _++_}
+use Rattle.segments.specs.Collect.{Collected}
+use Rattle.collect.specs.declared.stored.Counts.{Counts}
+use Rattle.collect.specs.stored.Stores.{Lists, Stores}
+
+pub record Progress (before all rest : List Collected) (l : Lists) (c : Counts) : Type 0 where
+  pub done : List Collected
+  pub whole : done ++ rest ≡ all
+  pub stored : Stores (before ++ done) l c

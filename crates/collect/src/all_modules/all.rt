@@ -1,0 +1,88 @@
+// All modules, one after another, until there is no room.
+ghost use mathlib.Core.Path.{_≡_};
+ghost use mathlib.Core.List.{[]};
+ghost use Rattle.omf51.specs.Module.{moduleAt};
+ghost use Rattle.library.specs.Found.{found};
+ghost use Rattle.collect.specs.stored.Stores.{Stores};
+ghost use Rattle.collect.specs.stored.Segments.{lists};
+ghost use Rattle.collect.specs.all_modules.Modules.{Workable};
+ghost use Rattle.collect.specs.all_modules.All.{nothing, StoresAll};
+use crate::all_modules::module::store_module;
+use crate::stored::Counts;
+use crate::stored::Stored;
+use crate::stored::rules::is_own;
+use image::fixup::Rules;
+use library::ModuleAt;
+use library::module::module_at;
+
+fn none_yet() -> Counts
+    ensures { λ r. ⌜ r ≡ nothing ⌝ }
+{
+    Counts {
+        segments: 0,
+        references: 0,
+        symbols: 0,
+        pattern: 0,
+    }
+}
+
+pub fn store_all(
+    library: &[u8],
+    rules: Rules,
+    from: usize,
+    table: &mut [u64],
+    ids: &mut [u16],
+    places: &mut [u32],
+    first: &mut [u32],
+    next: &mut [u32],
+    keys: &mut [u16],
+    entries: &mut [u32],
+    heads: &mut [u32],
+    onward: &mut [u32],
+    segments: &mut [u64],
+    references: &mut [u64],
+    symbols: &mut [u64],
+    bytes: &mut [u8],
+    masks: &mut [u8],
+    apart: &mut [u8],
+) -> Stored
+    requires { ⌜ Workable (now library) 0 (now table) (now ids) (now places) (now first) (now next) (now keys) (now entries) (now heads) (now onward) (now apart) × Stores [] (lists (now segments) (now references) (now symbols) (now bytes) (now masks)) nothing ⌝ }
+    ensures { λ r. ⌜ StoresAll (now (library .entry)) rules (found (now (library .entry)) (moduleAt (now (library .entry))) from) (now (table .exit))
+        (lists (now (segments .entry)) (now (references .entry)) (now (symbols .entry)) (now (bytes .entry)) (now (masks .entry)))
+        (lists (now (segments .exit)) (now (references .exit)) (now (symbols .exit)) (now (bytes .exit)) (now (masks .exit))) r ⌝ }
+{
+    let own = is_own(rules);
+    let mut at = from;
+    let mut c = none_yet();
+    loop {
+        let ModuleAt::Whole(module) = module_at(library, at) else {
+            return Stored::Rows(c);
+        };
+        let stored = store_module(
+            library,
+            own,
+            module,
+            c,
+            table,
+            ids,
+            places,
+            first,
+            next,
+            keys,
+            entries,
+            heads,
+            onward,
+            segments,
+            references,
+            symbols,
+            bytes,
+            masks,
+            apart,
+        );
+        let Stored::Rows(more) = stored else {
+            return Stored::NoRoom;
+        };
+        c = more;
+        at = module.next;
+    }
+}

@@ -1,0 +1,63 @@
+// What is left once all modules are stored, or could not be: rows, or zeros and a refusal.
+ghost use mathlib.Core.Path.{_≡_};
+ghost use mathlib.Core.List.{[]};
+ghost use Prim.Native.Nat.{_≤_};
+ghost use lib.ListN.{length};
+ghost use Rattle.omf51.specs.Module.{moduleAt};
+ghost use Rattle.library.specs.Found.{found};
+ghost use Rattle.module_ids.specs.Noted.{Tells};
+ghost use Rattle.collect.specs.stored.Segments.{lists};
+ghost use Rattle.collect.specs.Outcome.{zeroed};
+ghost use Rattle.collect.specs.Concluded.{Concludes};
+use crate::Collection;
+use crate::stored::Stored;
+use lent::refusal::Refusal;
+use lent::rows::clear;
+use lent::rows::clear_bytes;
+use module_ids::fault::Verdict;
+use module_ids::scan::scan;
+
+// All that is lent is set to zero: before anything is stored, and again where the collection is refused.
+pub fn clear_all(
+    segments: &mut [u64],
+    references: &mut [u64],
+    symbols: &mut [u64],
+    bytes: &mut [u8],
+    masks: &mut [u8],
+)
+    ensures { λ _. ⌜ lists (now (segments .exit)) (now (references .exit)) (now (symbols .exit)) (now (bytes .exit)) (now (masks .exit)) ≡ zeroed (lists (now (segments .entry)) (now (references .entry)) (now (symbols .entry)) (now (bytes .entry)) (now (masks .entry))) ⌝ }
+{
+    clear(segments);
+    clear(references);
+    clear(symbols);
+    clear_bytes(bytes);
+    clear_bytes(masks);
+}
+
+// Refusals 10 to 13 come after 9, so they are looked for once all is stored.
+pub fn conclude(
+    library: &[u8],
+    from: usize,
+    stored: Stored,
+    table: &mut [u64],
+    segments: &mut [u64],
+    references: &mut [u64],
+    symbols: &mut [u64],
+    bytes: &mut [u8],
+    masks: &mut [u8],
+) -> Collection
+    requires { ⌜ Tells [] (now table) × (length (now library) ≤ 1048576) ⌝ }
+    ensures { λ r. ⌜ Concludes (now (library .entry)) (found (now (library .entry)) (moduleAt (now (library .entry))) from) (lists (now (segments .entry)) (now (references .entry)) (now (symbols .entry)) (now (bytes .entry)) (now (masks .entry))) stored
+        (record { answer = r; left = lists (now (segments .exit)) (now (references .exit)) (now (symbols .exit)) (now (bytes .exit)) (now (masks .exit)) }) ⌝ }
+{
+    let Stored::Rows(c) = stored else {
+        clear_all(segments, references, symbols, bytes, masks);
+        return Collection::Refused(Refusal::TooFewRows);
+    };
+    let verdict = scan(library, from, table);
+    if let Verdict::Refused(r) = verdict {
+        clear_all(segments, references, symbols, bytes, masks);
+        return Collection::Refused(r);
+    }
+    Collection::Done(c)
+}

@@ -1,0 +1,212 @@
+// The entry point, which lends the tables.
+ghost use mathlib.Core.Path.{_≡_};
+ghost use mathlib.Core.List.{[]};
+ghost use Prim.Native.Nat.{_≤_};
+ghost use lib.ListN.{length};
+ghost use Rattle.omf51.specs.Module.{moduleAt};
+ghost use Rattle.library.specs.Found.{found};
+ghost use Rattle.module_ids.specs.Noted.{Tells};
+ghost use Rattle.collect.specs.stored.Stores.{Stores};
+ghost use Rattle.collect.specs.stored.Segments.{lists};
+ghost use Rattle.collect.specs.all_modules.All.{nothing, StoresAll};
+ghost use Rattle.collect.specs.Outcome.{collection};
+use crate::Collection;
+use crate::all_modules::all::store_all;
+use crate::conclude::clear_all;
+use crate::conclude::conclude;
+use crate::stored::Stored;
+use image::fixup::Rules;
+use lent::refusal::Refusal;
+use tables::zeros::content_room;
+use tables::zeros::few_entries;
+use tables::zeros::few_ids;
+use tables::zeros::few_keys;
+use tables::zeros::few_places;
+use tables::zeros::heads;
+use tables::zeros::id_table;
+use tables::zeros::many_entries;
+use tables::zeros::many_ids;
+use tables::zeros::many_keys;
+use tables::zeros::many_places;
+
+// A library of at most 64 KiB, for which small tables do.
+fn store_short(
+    library: &[u8],
+    rules: Rules,
+    from: usize,
+    table: &mut [u64],
+    segments: &mut [u64],
+    references: &mut [u64],
+    symbols: &mut [u64],
+    bytes: &mut [u8],
+    masks: &mut [u8],
+) -> Stored
+    requires { ⌜ (length (now library) ≤ 65536) × (Tells [] (now table) × Stores [] (lists (now segments) (now references) (now symbols) (now bytes) (now masks)) nothing) ⌝ }
+    ensures { λ r. ⌜ StoresAll (now (library .entry)) rules (found (now (library .entry)) (moduleAt (now (library .entry))) from) (now (table .exit))
+        (lists (now (segments .entry)) (now (references .entry)) (now (symbols .entry)) (now (bytes .entry)) (now (masks .entry)))
+        (lists (now (segments .exit)) (now (references .exit)) (now (symbols .exit)) (now (bytes .exit)) (now (masks .exit))) r ⌝ }
+{
+    let mut ids = few_ids();
+    let mut places = few_places();
+    let mut first = heads();
+    let mut next = few_places();
+    let mut keys = few_keys();
+    let mut entries = few_entries();
+    let mut names = heads();
+    let mut onward = few_entries();
+    let mut apart = content_room();
+    store_all(
+        library,
+        rules,
+        from,
+        table,
+        &mut ids,
+        &mut places,
+        &mut first,
+        &mut next,
+        &mut keys,
+        &mut entries,
+        &mut names,
+        &mut onward,
+        segments,
+        references,
+        symbols,
+        bytes,
+        masks,
+        &mut apart,
+    )
+}
+
+// A library of at most 1 MiB.
+fn store_long(
+    library: &[u8],
+    rules: Rules,
+    from: usize,
+    table: &mut [u64],
+    segments: &mut [u64],
+    references: &mut [u64],
+    symbols: &mut [u64],
+    bytes: &mut [u8],
+    masks: &mut [u8],
+) -> Stored
+    requires { ⌜ (length (now library) ≤ 1048576) × (Tells [] (now table) × Stores [] (lists (now segments) (now references) (now symbols) (now bytes) (now masks)) nothing) ⌝ }
+    ensures { λ r. ⌜ StoresAll (now (library .entry)) rules (found (now (library .entry)) (moduleAt (now (library .entry))) from) (now (table .exit))
+        (lists (now (segments .entry)) (now (references .entry)) (now (symbols .entry)) (now (bytes .entry)) (now (masks .entry)))
+        (lists (now (segments .exit)) (now (references .exit)) (now (symbols .exit)) (now (bytes .exit)) (now (masks .exit))) r ⌝ }
+{
+    let mut ids = many_ids();
+    let mut places = many_places();
+    let mut first = heads();
+    let mut next = many_places();
+    let mut keys = many_keys();
+    let mut entries = many_entries();
+    let mut names = heads();
+    let mut onward = many_entries();
+    let mut apart = content_room();
+    store_all(
+        library,
+        rules,
+        from,
+        table,
+        &mut ids,
+        &mut places,
+        &mut first,
+        &mut next,
+        &mut keys,
+        &mut entries,
+        &mut names,
+        &mut onward,
+        segments,
+        references,
+        symbols,
+        bytes,
+        masks,
+        &mut apart,
+    )
+}
+
+// The tables that the library's length asks for.
+fn store(
+    library: &[u8],
+    rules: Rules,
+    from: usize,
+    table: &mut [u64],
+    segments: &mut [u64],
+    references: &mut [u64],
+    symbols: &mut [u64],
+    bytes: &mut [u8],
+    masks: &mut [u8],
+) -> Stored
+    requires { ⌜ (length (now library) ≤ 1048576) × (Tells [] (now table) × Stores [] (lists (now segments) (now references) (now symbols) (now bytes) (now masks)) nothing) ⌝ }
+    ensures { λ r. ⌜ StoresAll (now (library .entry)) rules (found (now (library .entry)) (moduleAt (now (library .entry))) from) (now (table .exit))
+        (lists (now (segments .entry)) (now (references .entry)) (now (symbols .entry)) (now (bytes .entry)) (now (masks .entry)))
+        (lists (now (segments .exit)) (now (references .exit)) (now (symbols .exit)) (now (bytes .exit)) (now (masks .exit))) r ⌝ }
+{
+    if library.len() <= 65536 {
+        return store_short(
+            library,
+            rules,
+            from,
+            table,
+            segments,
+            references,
+            symbols,
+            bytes,
+            masks,
+        );
+    }
+    store_long(
+        library,
+        rules,
+        from,
+        table,
+        segments,
+        references,
+        symbols,
+        bytes,
+        masks,
+    )
+}
+
+// Collects the segments of all modules from a place on. A longer library is refused, and nothing is written.
+pub fn collect(
+    library: &[u8],
+    rules: Rules,
+    from: usize,
+    segments: &mut [u64],
+    references: &mut [u64],
+    symbols: &mut [u64],
+    bytes: &mut [u8],
+    masks: &mut [u8],
+) -> Collection
+    ensures { λ r. ⌜ record { answer = r; left = lists (now (segments .exit)) (now (references .exit)) (now (symbols .exit)) (now (bytes .exit)) (now (masks .exit)) }
+        ≡ collection rules (now (library .entry)) (found (now (library .entry)) (moduleAt (now (library .entry))) from) (lists (now (segments .entry)) (now (references .entry)) (now (symbols .entry)) (now (bytes .entry)) (now (masks .entry))) ⌝ }
+{
+    if library.len() > 1048576 {
+        return Collection::Refused(Refusal::LibraryTooLong);
+    }
+    let mut table = id_table();
+    clear_all(segments, references, symbols, bytes, masks);
+    let stored = store(
+        library,
+        rules,
+        from,
+        &mut table,
+        segments,
+        references,
+        symbols,
+        bytes,
+        masks,
+    );
+    conclude(
+        library,
+        from,
+        stored,
+        &mut table,
+        segments,
+        references,
+        symbols,
+        bytes,
+        masks,
+    )
+}

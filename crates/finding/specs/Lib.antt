@@ -1,9 +1,0 @@
--- Finding names in an image: all lines in lent memory, the answer, and what is left.
-pub mod Inside
-pub mod InsideLaws
-pub mod Listed
-pub mod ListedLaws
-pub mod Outcome
-pub mod OutcomeLaws
-pub mod Ends
-pub mod OneOutcome

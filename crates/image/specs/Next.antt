@@ -1,0 +1,20 @@
+-- The next match at or after a place, as a step through all matches.
+use Prim.Native.Nat.{ℕ, _+_, _-_}
+use mathlib.Core.List.{List, [], _∷_}
+use lib.ListN.{length}
+use Rattle.lent.specs.Lists.{keep, from}
+use Rattle.image.specs.declared.Found.{Found}
+use Rattle.image.specs.declared.Found.the-variants.{At, Nothing}
+use Rattle.image.specs.Match.{matchesAt}
+
+-- all matches at or after a place, ascending
+unfoldable pub matchesFrom : List ℕ → List ℕ → List ℕ → ℕ → List ℕ
+matchesFrom cells bytes masks at = keep (matchesAt cells bytes masks) (from at (length cells + 1 - at))
+
+-- the first of them
+abbrev pub firstFound : List ℕ → Found
+firstFound [] = Nothing
+firstFound (at ∷ rest) = At at
+
+unfoldable pub nextMatch : List ℕ → List ℕ → List ℕ → ℕ → Found
+nextMatch cells bytes masks at = firstFound (matchesFrom cells bytes masks at)

@@ -1,0 +1,136 @@
+// References out of a pattern: their kinds, and where they lead.
+ghost use mathlib.Core.Path.{_≡_};
+ghost use Prim.Native.Nat.{_+_, _<_, _^_};
+ghost use Rattle.image.specs.View.{view, cellAt};
+ghost use Rattle.image.specs.fixup.Target.{signed as signedOf, topBits, addr16 as addr16Of, reads, readable as readableIn, leadsTo, target};
+ghost use Rattle.image.specs.fixup.AddressLaws.{page11};
+use crate::Stretch;
+
+// The rule sets: 0, as found, and 1, as documented.
+pub enum Rules {
+    Found,
+    Documented,
+}
+
+// The kinds of fixup that leave a reference.
+pub enum Kind {
+    Relative,
+    Word,
+    Inblock,
+}
+
+// Where a reference leads.
+pub enum Target {
+    At(u64),
+    Nowhere,
+}
+
+fn wide(x: u8) -> u64
+    ensures { λ r. ⌜ (r ≡ x) × (r < 256) ⌝ }
+{
+    x as u64
+}
+
+fn width(kind: Kind) -> usize
+    ensures { λ r. ⌜ r ≡ reads kind ⌝ }
+{
+    match kind {
+        Kind::Relative => 1,
+        Kind::Word => 2,
+        Kind::Inblock => 2,
+    }
+}
+
+// A byte as a signed number, at 64 bits.
+fn signed(a: u8) -> u64
+    ensures { λ r. ⌜ r ≡ signedOf a ⌝ }
+{
+    if a < 128 {
+        return wide(a);
+    }
+    wide(a) + 0xffff_ffff_ffff_ff00
+}
+
+// High byte first.
+fn addr16(a: u8, b: u8) -> u64
+    ensures { λ r. ⌜ r ≡ addr16Of a b ⌝ }
+{
+    256 * wide(a) + wide(b)
+}
+
+// The three bits of an AJMP or ACALL opcode that belong to the address; as found they count as 0.
+fn top_bits(rules: Rules, a: u8) -> u64
+    ensures { λ r. ⌜ r ≡ topBits rules a ⌝ }
+{
+    match rules {
+        Rules::Found => 0,
+        Rules::Documented => wide(a >> 5),
+    }
+}
+
+// The address of an AJMP or ACALL, put together by shifts and masks: five bits of the place after it, the three bits of its opcode, its second byte.
+fn addr11(rules: Rules, next: u64, a: u8, b: u8) -> u64
+    ensures { λ r. ⌜ r ≡ page11 next (topBits rules a) b ⌝ }
+{
+    let page = (next >> 11) & 31;
+    let low = (top_bits(rules, a) << 8) | wide(b);
+    (page << 11) | low
+}
+
+// Whether n bytes at `pos` lie within the image and share none with the stretch.
+fn readable(image: &[u8], s: Stretch, pos: usize, n: usize) -> bool
+    ensures { λ r. ⌜ r ≡ readableIn (view (now (image .entry)) s) pos n ⌝ }
+{
+    if image.len() < n {
+        return false;
+    }
+    if image.len() - n < pos {
+        return false;
+    }
+    crate::is_apart(s, pos, n)
+}
+
+// The byte at a place, 0 past the end.
+fn byte_at(image: &[u8], at: usize) -> u8
+    ensures { λ r. ⌜ r ≡ cellAt (now (image .entry)) at ⌝ }
+{
+    if at < image.len() {
+        return image[at];
+    }
+    0
+}
+
+// Where the bytes a and b at `pos` lead. The place after an Inblock is a number of 64 bits, since its bytes lie in an image.
+fn leads_to(rules: Rules, pos: u64, kind: Kind, a: u8, b: u8) -> u64
+    requires { ⌜ pos + reads kind < 2 ^ 64 ⌝ }
+    ensures { λ r. ⌜ r ≡ leadsTo rules pos kind a b ⌝ }
+{
+    match kind {
+        Kind::Relative => {
+            let next = std::num::wrapping_add_u64(pos, 1);
+            std::num::wrapping_add_u64(next, signed(a))
+        }
+        Kind::Word => addr16(a, b),
+        Kind::Inblock => addr11(rules, pos + 2, a, b),
+    }
+}
+
+// The target of a reference that reads at `pos`: no target if its bytes pass the image's end or touch the stretch. The fixup's offset is subtracted, and sums wrap.
+pub fn find_target(
+    image: &[u8],
+    s: Stretch,
+    rules: Rules,
+    pos: usize,
+    kind: Kind,
+    offset: u64,
+) -> Target
+    ensures { λ r. ⌜ r ≡ target (view (now (image .entry)) s) rules pos kind offset ⌝ }
+{
+    if readable(image, s, pos, width(kind)) {
+        let a = byte_at(image, pos);
+        let b = byte_at(image, pos + 1);
+        let led = leads_to(rules, pos as u64, kind, a, b);
+        return Target::At(std::num::wrapping_sub_u64(led, offset));
+    }
+    Target::Nowhere
+}

@@ -1,5 +1,0 @@
--- The tables of a module.
-pub mod Indexed
-pub mod Indexing
-pub mod IndexingLaws
-pub mod OneOutcome

@@ -1,0 +1,61 @@
+-- `record_end`: the frame, then the first entry. Assumes nothing.
+use mathlib.Core.Path.{_≡_, sym, ap, _∙_}
+use native.Mathlib.Omega.{arith}
+use denote.Ref.{now}
+use Rattle.omf51.specs.declared.record.Framed.{Framed}
+use Rattle.omf51.specs.Record.{expected}
+use Rattle.omf51.specs.RecordLaws.{read-fits}
+use Rattle.omf51.specs.Expected.{allows, frameRead}
+use Rattle.library.specs.Passes.{allowedFor}
+use Rattle.library.specs.EndLaws.{ownEnd}
+use Rattle.library.specs.PassLaws.{record-halts, record-refuses, record-holds, record-skipped}
+use borrow.Author.Needs.{needs}
+use Rattle.library.proofs.repeat.record_end.Statement.{statement}
+use Rattle.library.proofs.repeat.record_end.Tie as tie
+
+-- the record at the place, once it is known
+framed : (c : tie.After-record-at) {r : Framed} → c .record-at .result ≡ r
+    → expected (now (c .before .before .before .args .library)) (allows (allowedFor (c .before .before .before .args .what))) (c .before .before .before .args .at) ≡ frameRead r
+framed c e =
+    let a = c .before .before .before .args in
+    ap (λ w. expected (a .library .now) (allows w) (a .at)) (sym (c .before .allowed-for .ensures)) ∙ sym (c .record-at .ensures) ∙ ap frameRead e
+
+add-next : tie.Need-add-next
+add-next c =
+    let a = c .before .before .before .before .before .before .before .args in
+    omega (arith, read-fits (a .library .now) (allows (allowedFor (a .what))) (a .at) (framed (c .before .before .before .before) (c .before .before .f .given .1)))
+
+returns : tie.Need-returns
+returns c =
+    let a = c .before .before .before .before .before .before .before .before .before .before .before .args in
+    c .own-end .ensures ∙ ap (ownEnd _) (c .before .entry-end .ensures)
+    ∙ sym (record-holds (a .what) (a .library .now) (a .at) (framed (c .before .before .before .before .before .before .before .before) (c .before .before .before .before .before .before .f .given .1)) (sym (c .before .before .before .holds .ensures) ∙ c .before .before .if1 .taken))
+
+returns-2 : tie.Need-returns-2
+returns-2 c =
+    let a = c .before .before .before .before .before .before .before .before .before .args in
+    sym (record-skipped (a .what) (a .library .now) (a .at) (framed (c .before .before .before .before .before .before) (c .before .before .before .before .f .given .1)) (sym (c .before .holds .ensures) ∙ c .if1 .left))
+
+returns-3 : tie.Need-returns-3
+returns-3 c = let a = c .before .before .before .before .before .args in sym (record-halts (a .what) (a .library .now) (a .at) (framed (c .before .before) (c .enum-told .given .1)))
+
+returns-4 : tie.Need-returns-4
+returns-4 c = let a = c .before .before .before .before .before .before .args in sym (record-refuses (a .what) (a .library .now) (a .at) (framed (c .before .before .before) (c .before .r .given .1)))
+
+pub record-end-spec : {M : Type 1} → statement M
+record-end-spec =
+    tie.close
+    (tie.spec
+    (λ c κs. search needs)
+    (λ c κs. search needs)
+    (λ c. search needs)
+    add-next
+    (λ c κs. search needs)
+    (λ c κs. search needs)
+    (λ c κs. search needs)
+    returns
+    (λ c. search needs)
+    (λ c. search needs)
+    returns-2
+    returns-3
+    returns-4)

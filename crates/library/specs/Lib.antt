@@ -1,0 +1,14 @@
+-- Repetitions, modules and the file, as the code goes over them.
+pub mod Found
+pub mod RepeatLaws
+pub mod EndLaws
+pub mod Passes
+pub mod PassLaws
+pub mod SectionLaws
+pub mod ModuleLaws
+pub mod Reading
+pub mod WholeLaws
+pub mod ReadingLaws
+pub mod StandLaws
+pub mod OneOutcome
+pub mod items

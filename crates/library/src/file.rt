@@ -1,0 +1,111 @@
+// The whole file: bare modules, or a 2Ch library.
+ghost use mathlib.Core.Path.{_≡_};
+ghost use Rattle.omf51.specs.Reader.{many};
+ghost use Rattle.omf51.specs.Module.{moduleAt};
+ghost use Rattle.omf51.specs.File.{modulesAt};
+ghost use Rattle.library.specs.Reading.{countOf, reading, typeEnd};
+ghost use Rattle.library.specs.ReadingLaws.{closingEnd, libraryReading};
+use crate::Counted;
+use crate::ModuleAt;
+use crate::Reading;
+use crate::module::module_at;
+use lent::refusal::Refusal;
+use omf51::End;
+use omf51::read_record::byte_at;
+use omf51::read_record::record_at;
+use omf51::record::Framed;
+use omf51::types::Allowed;
+
+// The modules from a place on, as many as can be read.
+fn count(library: &[u8], from: usize) -> Counted
+    ensures { λ r. ⌜ r ≡ countOf (many (now (library .entry)) (moduleAt (now (library .entry))) from) ⌝ }
+{
+    let mut at = from;
+    let mut count = 0;
+    loop {
+        match module_at(library, at) {
+            ModuleAt::Whole(places) => {
+                at = places.next;
+                count += 1;
+            }
+            ModuleAt::Stop => {
+                return Counted::Modules { count, next: at };
+            }
+            ModuleAt::Refused(r) => {
+                return Counted::Refused(r);
+            }
+        }
+    }
+}
+
+// At least one of them.
+fn modules_at(library: &[u8], from: usize) -> Counted
+    ensures { λ r. ⌜ r ≡ countOf (modulesAt (now (library .entry)) from) ⌝ }
+{
+    match count(library, from) {
+        Counted::Modules { count, next } => {
+            if count == 0 {
+                return Counted::Refused(Refusal::NoModule);
+            }
+            Counted::Modules { count, next }
+        }
+        Counted::Refused(r) => Counted::Refused(r),
+    }
+}
+
+// A record of one type, its body not looked at.
+fn type_end(library: &[u8], kind: u8, at: usize) -> End
+    ensures { λ r. ⌜ r ≡ typeEnd (now (library .entry)) kind at ⌝ }
+{
+    match record_at(library, Allowed::One(kind), at) {
+        Framed::Read(f) => End::At(f.end + 1),
+        Framed::Stop => End::Stop,
+        Framed::Refused(r) => End::Refused(r),
+    }
+}
+
+// The closing records of a library: 28h, 26h and 2Ah, in that order.
+fn closing_end(library: &[u8], at: usize) -> End
+    ensures { λ r. ⌜ r ≡ closingEnd (now (library .entry)) at ⌝ }
+{
+    match type_end(library, 0x28, at) {
+        End::At(second) => match type_end(library, 0x26, second) {
+            End::At(third) => type_end(library, 0x2a, third),
+            End::Stop => End::Stop,
+            End::Refused(r) => End::Refused(r),
+        },
+        End::Stop => End::Stop,
+        End::Refused(r) => End::Refused(r),
+    }
+}
+
+// The modules of a library, from its first record's end on, and then its closing records.
+fn library_from(library: &[u8], first: usize) -> Reading
+    ensures { λ r. ⌜ r ≡ libraryReading (now (library .entry)) first ⌝ }
+{
+    match modules_at(library, first) {
+        Counted::Modules { count, next } => match closing_end(library, next) {
+            End::At(end) => Reading::Modules { first, count },
+            End::Stop => Reading::Refused(Refusal::NoModule),
+            End::Refused(r) => Reading::Refused(r),
+        },
+        Counted::Refused(r) => Reading::Refused(r),
+    }
+}
+
+// Where the modules stand and how many there are, or the first of 5 to 8 that is met.
+pub fn read(library: &[u8]) -> Reading
+    ensures { λ r. ⌜ r ≡ reading (now (library .entry)) ⌝ }
+{
+    if byte_at(library, 0) == 0x2c {
+        return match record_at(library, Allowed::One(0x2c), 0) {
+            Framed::Read(f) => library_from(library, f.end + 1),
+            Framed::Stop => Reading::Refused(Refusal::NoModule),
+            Framed::Refused(r) => Reading::Refused(r),
+        };
+    }
+    match modules_at(library, 0) {
+        Counted::Modules { count, next } => Reading::Modules { first: 0, count },
+        Counted::Refused(r) => Reading::Refused(r),
+    }
+}

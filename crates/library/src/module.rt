@@ -1,0 +1,66 @@
+// One module at a place.
+ghost use mathlib.Core.Path.{_≡_};
+ghost use Rattle.library.specs.Passes.{placesRead, placesAt, restPlaces, lastPlaces};
+use crate::ModuleAt;
+use crate::Places;
+use crate::repeat::skip;
+use crate::repeat::skip_sections;
+use lent::names::same_name;
+use lent::part::Part;
+use lent::refusal::Refusal;
+use omf51::End;
+use omf51::entry::Entries;
+use omf51::entry::Named;
+use omf51::read_entry::named_at;
+
+// The end of a module: it has the header's name again.
+fn last_places(
+    library: &[u8],
+    name: Part,
+    definitions: usize,
+    contents: usize,
+    at: usize,
+) -> ModuleAt
+    ensures { λ r. ⌜ placesRead r ≡ lastPlaces (now (library .entry)) name definitions contents at ⌝ }
+{
+    match named_at(library, 0x04, 4, at) {
+        Named::Read { name: last, next } => {
+            if same_name(library, name, last) {
+                return ModuleAt::Whole(Places {
+                    definitions,
+                    contents,
+                    next,
+                });
+            }
+            ModuleAt::Refused(Refusal::NamesDiffer)
+        }
+        Named::Stop => ModuleAt::Stop,
+        Named::Refused(r) => ModuleAt::Refused(r),
+    }
+}
+
+// What follows the header: definitions, contents, the end.
+fn rest_places(library: &[u8], name: Part, definitions: usize) -> ModuleAt
+    ensures { λ r. ⌜ placesRead r ≡ restPlaces (now (library .entry)) name definitions ⌝ }
+{
+    match skip(library, Entries::Definitions, definitions) {
+        End::At(contents) => match skip_sections(library, contents) {
+            End::At(at) => last_places(library, name, definitions, contents, at),
+            End::Stop => ModuleAt::Stop,
+            End::Refused(r) => ModuleAt::Refused(r),
+        },
+        End::Stop => ModuleAt::Stop,
+        End::Refused(r) => ModuleAt::Refused(r),
+    }
+}
+
+// A whole module: where its parts stand, or why there is none.
+pub fn module_at(library: &[u8], at: usize) -> ModuleAt
+    ensures { λ r. ⌜ placesRead r ≡ placesAt (now (library .entry)) at ⌝ }
+{
+    match named_at(library, 0x02, 2, at) {
+        Named::Read { name, next } => rest_places(library, name, next),
+        Named::Stop => ModuleAt::Stop,
+        Named::Refused(r) => ModuleAt::Refused(r),
+    }
+}

@@ -1,0 +1,135 @@
+// Passes over records without keeping what they say: where each repetition ends.
+ghost use mathlib.Core.Path.{_≡_};
+ghost use Rattle.omf51.specs.Module.{sectionAt, sectionsAt};
+ghost use Rattle.omf51.specs.Ends.{endOf};
+ghost use Rattle.library.specs.Passes.{allowedFor, holds as holdsType, recordEnd, allEnd, sectionsEnd};
+ghost use Rattle.library.specs.EndLaws.{ownEnd};
+use omf51::End;
+use omf51::allowed_types::defines;
+use omf51::allowed_types::fills;
+use omf51::entry::Entries;
+use omf51::read_entry::entry_end;
+use omf51::read_entry::id_size;
+use omf51::read_record::byte_at;
+use omf51::read_record::record_at;
+use omf51::record::Framed;
+use omf51::types::Allowed;
+
+fn allowed_for(what: Entries) -> Allowed
+    ensures { λ r. ⌜ r ≡ allowedFor what ⌝ }
+{
+    match what {
+        Entries::Definitions => Allowed::Definitions,
+        Entries::Fixups => Allowed::Fixups,
+    }
+}
+
+// Whether a record of a type holds such entries; one that holds none is skipped.
+pub fn holds(what: Entries, kind: u8) -> bool
+    ensures { λ r. ⌜ r ≡ holdsType what kind ⌝ }
+{
+    match what {
+        Entries::Definitions => defines(kind),
+        Entries::Fixups => true,
+    }
+}
+
+// A record ends at its own end, if its first entry is whole.
+fn own_end(next: usize, first: End) -> End
+    ensures { λ r. ⌜ r ≡ ownEnd next first ⌝ }
+{
+    match first {
+        End::At(left) => End::At(next),
+        End::Stop => End::Stop,
+        End::Refused(r) => End::Refused(r),
+    }
+}
+
+// One record of entries, or one that is skipped among them.
+pub fn record_end(library: &[u8], what: Entries, at: usize) -> End
+    ensures { λ r. ⌜ r ≡ recordEnd what (now (library .entry)) at ⌝ }
+{
+    match record_at(library, allowed_for(what), at) {
+        Framed::Read(f) => {
+            let next = f.end + 1;
+            if holds(what, f.kind) {
+                return own_end(next, entry_end(library, what, f, f.body));
+            }
+            End::At(next)
+        }
+        Framed::Stop => End::Stop,
+        Framed::Refused(r) => End::Refused(r),
+    }
+}
+
+// All such records, one after another.
+pub fn skip(library: &[u8], what: Entries, from: usize) -> End
+    ensures { λ r. ⌜ r ≡ allEnd what (now (library .entry)) from ⌝ }
+{
+    let mut at = from;
+    loop {
+        match record_end(library, what, at) {
+            End::At(next) => {
+                at = next;
+            }
+            End::Stop => {
+                return End::At(at);
+            }
+            End::Refused(r) => {
+                return End::Refused(r);
+            }
+        }
+    }
+}
+
+// A content, whose body has an id and an offset at least, and the fixups that follow it at once.
+fn content_end(library: &[u8], at: usize) -> End
+    ensures { λ r. ⌜ r ≡ endOf (sectionAt (now (library .entry)) at) ⌝ }
+{
+    match record_at(library, Allowed::Contents, at) {
+        Framed::Read(f) => {
+            let body = f.body;
+            let end = f.end;
+            if end - body < id_size(f) + 2 {
+                return End::Stop;
+            }
+            skip(library, Entries::Fixups, end + 1)
+        }
+        Framed::Stop => End::Stop,
+        Framed::Refused(r) => End::Refused(r),
+    }
+}
+
+// One of those, or a record that is skipped among them.
+pub fn section_end(library: &[u8], at: usize) -> End
+    ensures { λ r. ⌜ r ≡ endOf (sectionsAt (now (library .entry)) at) ⌝ }
+{
+    if fills(byte_at(library, at)) {
+        return content_end(library, at);
+    }
+    match record_at(library, Allowed::Idle, at) {
+        Framed::Read(f) => End::At(f.end + 1),
+        Framed::Stop => End::Stop,
+        Framed::Refused(r) => End::Refused(r),
+    }
+}
+
+// All contents of a module, one after another.
+pub fn skip_sections(library: &[u8], from: usize) -> End
+    ensures { λ r. ⌜ r ≡ sectionsEnd (now (library .entry)) from ⌝ }
+{
+    let mut at = from;
+    loop {
+        match section_end(library, at) {
+            End::At(next) => {
+                at = next;
+            }
+            End::Stop => {
+                return End::At(at);
+            }
+            End::Refused(r) => {
+                return End::Refused(r);
+            }
+        }
+    }
+}

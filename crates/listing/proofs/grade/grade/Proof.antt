@@ -1,0 +1,43 @@
+-- `grade`, case by case. Assumes nothing.
+use borrow.Author.Needs.{needs}
+use Rattle.listing.proofs.grade.grade.Statement.{statement}
+use Rattle.listing.proofs.grade.grade.Tie as tie
+use mathlib.Core.Path.{_≡_, sym, ap, _∙_}
+use mathlib.Core.Bool.{Bool, _||_}
+use Rattle.image.specs.View.{view}
+use Rattle.listing.specs.grade.Grades.{isNotedRow, isBorne}
+use Rattle.listing.specs.grade.GradeLaws.{turned-true, turned-false, grade-dropped, grade-one, grade-two, grade-three}
+
+-- what the code found is what is asked of the rows
+kept-is : (valid t : Bool) {there kept : Bool} → t ≡ there → kept ≡ (valid || t) → kept ≡ (valid || there)
+kept-is valid t e k = k ∙ ap (λ b. valid || b) e
+
+abbrev there : tie.Start → Bool
+there c = isNotedRow (c .args .library .now) (c .args .noted .now) (c .args .goals .now) (c .args .row)
+
+abbrev borne : tie.Start → Bool
+borne c = isBorne (view (c .args .image .now) (c .args .s)) (c .args .library .now) (c .args .rules) (c .args .segments .now) (c .args .references .now) (c .args .n) (c .args .placed .now) (c .args .positions .now) (c .args .row .segment .0) (c .args .row .found)
+
+returns : tie.Need-returns
+returns c = sym (grade-dropped (c .before .before .before .before .before .before .before .before .before .before .before .before .args .row .valid) (there (c .before .before .before .before .before .before .before .before .before .before .before .before)) (borne (c .before .before .before .before .before .before .before .before .before .before .before .before)) (turned-true (c .before .is-kept .result) (kept-is (c .before .before .before .before .before .before .before .before .before .before .before .before .args .row .valid) (c .before .before .is-found .result) (c .before .before .is-found .ensures) (c .before .is-kept .ensures)) (c .if1 .taken)))
+
+returns-2 : tie.Need-returns-2
+returns-2 c = sym (grade-one (c .before .before .before .before .before .before .before .before .before .before .before .before .before .before .args .row .valid) (there (c .before .before .before .before .before .before .before .before .before .before .before .before .before .before)) (borne (c .before .before .before .before .before .before .before .before .before .before .before .before .before .before)) (turned-false (c .before .before .before .is-kept .result) (kept-is (c .before .before .before .before .before .before .before .before .before .before .before .before .before .before .args .row .valid) (c .before .before .before .before .is-found .result) (c .before .before .before .before .is-found .ensures) (c .before .before .before .is-kept .ensures)) (c .before .before .if1 .left)) (turned-true (c .before .is-borne .result) (c .before .is-borne .ensures) (c .if2 .taken)))
+
+returns-3 : tie.Need-returns-3
+returns-3 c = sym (grade-three (c .before .before .before .before .before .before .before .before .before .before .before .before .before .before .before .args .row .valid) (there (c .before .before .before .before .before .before .before .before .before .before .before .before .before .before .before)) (borne (c .before .before .before .before .before .before .before .before .before .before .before .before .before .before .before)) (turned-false (c .before .before .before .before .is-kept .result) (kept-is (c .before .before .before .before .before .before .before .before .before .before .before .before .before .before .before .args .row .valid) (c .before .before .before .before .before .is-found .result) (c .before .before .before .before .before .is-found .ensures) (c .before .before .before .before .is-kept .ensures)) (c .before .before .before .if1 .left)) (turned-false (c .before .before .is-borne .result) (c .before .before .is-borne .ensures) (c .before .if2 .left)) (sym (c .before .before .before .before .before .is-found .ensures) ∙ c .if3 .taken))
+
+returns-4 : tie.Need-returns-4
+returns-4 c = sym (grade-two (c .before .before .before .before .before .before .before .before .before .before .before .before .before .before .before .args .row .valid) (there (c .before .before .before .before .before .before .before .before .before .before .before .before .before .before .before)) (borne (c .before .before .before .before .before .before .before .before .before .before .before .before .before .before .before)) (turned-false (c .before .before .before .before .is-kept .result) (kept-is (c .before .before .before .before .before .before .before .before .before .before .before .before .before .before .before .args .row .valid) (c .before .before .before .before .before .is-found .result) (c .before .before .before .before .before .is-found .ensures) (c .before .before .before .before .is-kept .ensures)) (c .before .before .before .if1 .left)) (turned-false (c .before .before .is-borne .result) (c .before .before .is-borne .ensures) (c .before .if2 .left)) (sym (c .before .before .before .before .before .is-found .ensures) ∙ c .if3 .left))
+
+pub grade-spec : {M : Type 1} → statement M
+grade-spec =
+    tie.close
+    (tie.spec
+    (λ c κs. search needs)
+    (λ c κs. search needs)
+    returns
+    (λ c κs. search needs)
+    returns-2
+    returns-3
+    returns-4)

@@ -1,0 +1,31 @@
+-- `is_borne`: a number that is not below n has no segment. Assumes nothing.
+use borrow.Author.Needs.{needs}
+use Rattle.listing.proofs.grade.is_borne.Statement.{statement}
+use Rattle.listing.proofs.grade.is_borne.Tie as tie
+use mathlib.Core.Path.{refl, sym, ap, _∙_}
+use mathlib.Core.Bool.{Bool}
+use mathlib.Core.List.{[]}
+use borrow.Author.Tests.{lt-ltb, le-ltb}
+use Rattle.lent.specs.Choice.{if_then_else_}
+use Rattle.lent.specs.Lists.{all}
+use Rattle.image.specs.View.{view}
+use Rattle.segments.specs.declared.Reference.{Reference}
+use Rattle.segments.specs.SegmentLayouts.{referenceLayout, segmentRowAt}
+use Rattle.segments.specs.recalled.Recall.{rowsOf}
+use Rattle.listing.specs.grade.Grades.{isFound, bearsOut}
+use Rattle.listing.specs.grade.GradeLaws.{all-end}
+
+abbrev bears : tie.Start → Reference → Bool
+bears c = bearsOut (isFound (c .args .library .now) 8 (c .args .placed .now) (c .args .positions .now)) (view (c .args .image .now) (c .args .s)) (c .args .rules) (c .args .found)
+
+returns : tie.Need-returns
+returns c = rw (le-ltb (c .before .before .before .before .before .before .before .args .number) (c .before .before .before .before .before .before .before .args .n) (c .if1 .taken)) (sym (all-end (bears (c .before .before .before .before .before .before .before)) refl))
+
+returns-2 : tie.Need-returns-2
+returns-2 c = let a = c .before .before .before .before .before .before .before .before .before .args in
+    c .bear-out .ensures
+    ∙ ap (λ row. all (bears (c .before .before .before .before .before .before .before .before .before)) (rowsOf referenceLayout (a .references .now) (row .references))) (c .before .segment-at .ensures)
+    ∙ sym (ap (λ t. all (bears (c .before .before .before .before .before .before .before .before .before)) (if t then rowsOf referenceLayout (a .references .now) (segmentRowAt (a .segments .now) (a .number) .references) else [])) (lt-ltb (a .number) (a .n) (c .before .before .if1 .left)))
+
+pub is-borne-spec : {M : Type 1} → statement M
+is-borne-spec = tie.close (tie.spec returns (λ c κs. search needs) (λ c κs. search needs) returns-2)

@@ -1,0 +1,71 @@
+-- `list_inside` goes from position to position. The invariant: whoever adds the lines that are left has added all. Assumes nothing.
+use Rattle.listing.proofs.inside.list_inside.Statement.{statement}
+use Rattle.listing.proofs.inside.list_inside.Tie as tie
+use Prim.Native.Nat.{ℕ, _-_, _≤_}
+use mathlib.Core.Path.{_≡_, refl, _∙_}
+use mathlib.Core.List.{List}
+use native.Mathlib.Omega.{arith}
+use lib.ListN.{length}
+use Rattle.tables.specs.declared.fill.Fill.{Fill}
+use Rattle.image.specs.View.{view}
+use Rattle.image.specs.ViewLaws.{view-length}
+use Rattle.image.specs.declared.fixup.Rules.{Rules}
+use Rattle.tables.specs.by_name.Sheet.{keyBuckets}
+use Rattle.listing_rules.specs.declared.Skip.{Skip}
+use Rattle.listing.specs.position.Walking.{Known}
+use Rattle.listing.specs.InsideLaws.{LeadsFrom, inside-first, inside-on, inside-last}
+use borrow.Author.Needs.{needs}
+
+record Inv (cells : List ℕ) (rules : Rules) (skip : Skip) (library segments : List ℕ) (n : ℕ) (references placed positions noted goals m₀ : List ℕ) (f₀ : Fill) (m : List ℕ) (f : Fill) (at : ℕ) : Type 0 where
+  long : length m ≡ length m₀
+  leads : (k : Known rules library segments references n placed positions noted goals) → length cells ≤ keyBuckets → LeadsFrom cells k skip (length cells) m₀ f₀ at m f
+
+abbrev Inv-loop : tie.InvT-loop
+Inv-loop image s rules skip library segments n references placed positions noted goals m₀ f₀ at₀ m f at = Inv (view image s) rules skip library segments n references placed positions noted goals m₀ f₀ m f at
+
+abbrev μ-loop : tie.MeasureT-loop
+μ-loop image s rules skip library segments n references placed positions noted goals m₀ f₀ at₀ m f at = length image - at
+
+loop-holds : tie.Need-loop-holds Inv-loop μ-loop
+loop-holds c = let a = c .before .before .before .before .before .before .before .before .before .args in
+    record { long = refl; leads = λ k small. inside-first (view (a .image .now) (a .s)) k (a .skip) (length (view (a .image .now) (a .s))) (a .m .now) (a .before) }
+
+add-at : tie.Need-add-at Inv-loop μ-loop
+add-at c = omega (arith, c .before .before .before .before .loop-test .taken, c .before .before .before .before .before .before .before .before .before .before .before .before .before .before .before .good .0)
+
+loop-less : tie.Need-loop-less Inv-loop μ-loop
+loop-less c = omega (arith, c .before .before .before .before .loop-test .taken)
+
+loop-again : tie.Need-loop-again Inv-loop μ-loop
+loop-again c = let a = c .before .before .before .before .before .before .before .before .before .before .before .before .before .before .before .args in
+    let l = c .before .before .before .before .before .loop in
+    let cells = view (a .image .now) (a .s) in
+    record {
+      long = c .before .m .given ∙ l .inv .long;
+      leads = λ k small.
+          inside-on cells k (a .skip) (length cells) (a .m .now) (a .before) (l .at) (l .m) (l .f) (c .before .before .list-any .last .1 .1 .1 .1 .1 .1 .1 .1 .1 .1 .1 .1 .1 .0) (c .before .before .list-any .result) (omega (arith, c .before .before .before .before .loop-test .taken, view-length (a .image .now) (a .s))) (l .inv .leads k small)
+          (c .before .before .list-any .ensures k (omega (arith, c .before .before .before .before .loop-test .taken, view-length (a .image .now) (a .s), small)));
+    }
+
+same-length : tie.Need-same-length Inv-loop μ-loop
+same-length c = c .before .loop .inv .long
+
+returns : tie.Need-returns Inv-loop μ-loop
+returns c = let a = c .before .before .before .before .before .before .before .before .before .before .before .args in
+    let l = c .before .loop in
+    let cells = view (a .image .now) (a .s) in
+    λ k small. inside-last cells k (a .skip) (length cells) (a .m .now) (a .before) (l .at) (l .m) (l .f) (omega (arith, c .loop-test .left, view-length (a .image .now) (a .s))) (l .inv .leads k small)
+
+pub list-inside-spec : {M : Type 1} → statement M
+list-inside-spec =
+    tie.close
+    (tie.spec
+    Inv-loop
+    μ-loop
+    loop-holds
+    (λ c κs. search needs)
+    add-at
+    loop-less
+    loop-again
+    same-length
+    returns)

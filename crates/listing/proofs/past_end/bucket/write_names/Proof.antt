@@ -1,0 +1,50 @@
+-- `write_names`: those behind stand in memory. Assumes nothing.
+use Rattle.listing.proofs.past_end.bucket.write_names.Statement.{statement}
+use Rattle.listing.proofs.past_end.bucket.write_names.Tie as tie
+use native.Mathlib.Omega.{arith}
+use Rattle.listing.specs.past_end.WalkLaws.{Writing, writing-first, writing-on, writing-last}
+use borrow.Author.Needs.{needs}
+
+abbrev Inv-loop : tie.InvT-loop
+Inv-loop noted head t end lines₀ k₀ here₀ lines k here = Writing (noted) head t end lines₀ lines k here
+
+abbrev μ-loop : tie.MeasureT-loop
+μ-loop noted head t end lines₀ k₀ here₀ lines k here = here
+
+loop-holds : tie.Need-loop-holds Inv-loop μ-loop
+loop-holds c = let a = c .before .before .args in writing-first (a .noted .now) (a .head) (a .t) (a .end) (a .lines .now)
+
+sub-noted-at : tie.Need-sub-noted-at Inv-loop μ-loop
+sub-noted-at c = omega (arith, c .loop-test .taken)
+
+loop-less : tie.Need-loop-less Inv-loop μ-loop
+loop-less c = c .onward .ensures .less (c .before .before .before .before .before .before .loop-test .taken)
+
+loop-again : tie.Need-loop-again Inv-loop μ-loop
+loop-again c =
+    let a = c .before .before .before .before .before .before .before .before .before .before .args in
+    let l = c .before .before .before .before .before .before .before .loop in
+    writing-on (a .noted .now) (a .head) (a .t) (a .end) (a .lines .now) (l .lines) (l .k) (l .here) (l .inv) (c .before .before .before .before .before .before .loop-test .taken) (c .before .before .before .before .before .noted-at .result) (c .before .before .before .before .before .noted-at .ensures) (c .onward .result) (c .onward .ensures)
+    (c .before .before .before .write-name .last .1 .1 .0) (c .before .before .before .write-name .result) (c .before .before .before .write-name .ensures) (c .before .before .lines .given)
+
+same-length : tie.Need-same-length Inv-loop μ-loop
+same-length c = c .before .loop .inv .long
+
+returns : tie.Need-returns Inv-loop μ-loop
+returns c = let a = c .before .before .before .before .args in writing-last (a .noted .now) (a .head) (a .t) (a .end) (a .lines .now) (c .before .loop .lines) (c .before .loop .k) (c .before .loop .here) (c .before .loop .inv) (c .loop-test .left)
+
+pub write-names-spec : {M : Type 1} → statement M
+write-names-spec =
+    tie.close
+    (tie.spec
+    Inv-loop
+    μ-loop
+    loop-holds
+    sub-noted-at
+    (λ c κs. search needs)
+    (λ c κs. search needs)
+    (λ c κs. search needs)
+    loop-less
+    loop-again
+    same-length
+    returns)

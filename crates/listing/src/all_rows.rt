@@ -1,0 +1,87 @@
+// All lines of rows that a search left.
+ghost use mathlib.Core.Path.{_≡_};
+ghost use mathlib.Core.List.{_++_};
+ghost use Prim.Native.Nat.{_-_};
+ghost use lib.ListN.{length, take};
+ghost use Rattle.lent.specs.Rows.{zeros};
+ghost use Rattle.image.specs.View.{view};
+ghost use Rattle.listing.specs.Listed.{Leaves, ListsRows};
+use crate::inside::list_inside;
+use crate::past_end::list_beyond;
+use image::Stretch;
+use image::fixup::Rules;
+use lent::rows::clear;
+use listing_rules::Skip;
+use tables::by_name::head_rows;
+use tables::fill::Fill;
+use tables::zeros::bucket_heads;
+
+// Numbers behind the first `count` are set to zero.
+fn clear_behind(m: &mut [u64], count: usize)
+    ensures { λ _. ⌜ now (m .exit) ≡ take count (now (m .entry)) ++ zeros (length (now (m .entry)) - count) ⌝ }
+{
+    let end = m.len();
+    if end < count {
+        return;
+    }
+    clear(&mut m[count..end]);
+}
+
+// While lines were gone over, memory behind them was used: it is cleared, unless there are too many lines.
+fn leave(m: &mut [u64], f: Fill)
+    ensures { λ _. ⌜ Leaves (now (m .entry)) f (now (m .exit)) ⌝ }
+{
+    if f.over {
+        return;
+    }
+    if m.len() / 4 < f.rows {
+        return;
+    }
+    clear_behind(m, f.rows * 4);
+}
+
+// The heads of the buckets are made from the rows: first the positions of the image, then the targets at or past its end.
+pub fn list_rows(
+    image: &[u8],
+    s: Stretch,
+    rules: Rules,
+    skip: Skip,
+    library: &[u8],
+    segments: &[u64],
+    n: usize,
+    references: &[u64],
+    placed: &[u64],
+    symbols: usize,
+    noted: &[u64],
+    names: usize,
+    lines: &mut [u64],
+) -> Fill
+    ensures { λ r. ⌜ ListsRows (view (now (image .entry)) s) rules skip (now (library .entry)) (now (segments .entry)) n (now (references .entry)) (now (placed .entry)) symbols (now (noted .entry)) names (now (lines .entry)) (now (lines .exit)) r ⌝ }
+{
+    let mut positions = bucket_heads();
+    let mut goals = bucket_heads();
+    head_rows(library, placed, 8, symbols, &mut positions);
+    head_rows(library, noted, 6, names, &mut goals);
+    let inside = list_inside(
+        image,
+        s,
+        rules,
+        skip,
+        library,
+        segments,
+        n,
+        references,
+        placed,
+        &positions,
+        noted,
+        &goals,
+        lines,
+        Fill {
+            rows: 0,
+            over: false,
+        },
+    );
+    let all = list_beyond(noted, names, &goals, image.len(), skip, lines, inside);
+    leave(lines, all);
+    all
+}

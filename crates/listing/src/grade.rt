@@ -1,0 +1,164 @@
+// Grades of placed symbols.
+ghost use mathlib.Core.Path.{_≡_};
+ghost use mathlib.Core.Bool.{_||_};
+ghost use Rattle.lent.specs.Lists.{all};
+ghost use Rattle.image.specs.View.{view};
+ghost use Rattle.segments.specs.SegmentLayouts.{referenceLayout};
+ghost use Rattle.segments.specs.recalled.Recall.{rowsOf};
+ghost use Rattle.listing.specs.grade.Grades.{isFound, bearsOut, isBorne, rowGrade};
+use image::Stretch;
+use image::fixup::Rules;
+use image::fixup::Target;
+use lent::part::Part;
+use search::targets::target_of;
+use search_rules::Placed;
+use segments::Goal;
+use segments::Reference;
+use segments::recalled::lies_within;
+use segments::rows::reference_at;
+use segments::rows::segment_at;
+use tables::by_name::bucket;
+use tables::by_name::find;
+use tables::by_name::head_at;
+
+// Whether some row has this key and name.
+fn is_found(library: &[u8], width: usize, m: &[u64], heads: &[u64], key: u64, name: Part) -> bool
+    ensures { λ r. ⌜ r ≡ isFound (now (library .entry)) width (now (m .entry)) (now (heads .entry)) key name ⌝ }
+{
+    let shared = bucket(library, key, name);
+    let head = head_at(heads, 65536 + shared);
+    find(library, m, width, head, key, name) != 0
+}
+
+// Whether a reference of a match at `found`, if it is a public one with a target, names a symbol placed there.
+fn bears_out(
+    image: &[u8],
+    s: Stretch,
+    rules: Rules,
+    library: &[u8],
+    placed: &[u64],
+    positions: &[u64],
+    found: usize,
+    r: Reference,
+) -> bool
+    ensures { λ b. ⌜ b ≡ bearsOut (isFound (now (library .entry)) 8 (now (placed .entry)) (now (positions .entry))) (view (now (image .entry)) s) rules found r ⌝ }
+{
+    let goal = r.goal;
+    let Target::At(t) = target_of(image, s, rules, found, r) else {
+        return true;
+    };
+    match goal {
+        Goal::Segment(_) => true,
+        Goal::Name(name) => is_found(library, 8, placed, positions, t, name),
+    }
+}
+
+// Whether all of a part of the rows do.
+fn bear_out(
+    image: &[u8],
+    s: Stretch,
+    rules: Rules,
+    library: &[u8],
+    references: &[u64],
+    part: Part,
+    placed: &[u64],
+    positions: &[u64],
+    found: usize,
+) -> bool
+    ensures { λ b. ⌜ b ≡ all (bearsOut (isFound (now (library .entry)) 8 (now (placed .entry)) (now (positions .entry))) (view (now (image .entry)) s) rules found) (rowsOf referenceLayout (now (references .entry)) part) ⌝ }
+{
+    let at = part.at;
+    let len = part.len;
+    if !lies_within(part, references.len() / 6) {
+        return true;
+    }
+    let mut k = 0;
+    while k < len {
+        let r = reference_at(references, at + k);
+        if !bears_out(image, s, rules, library, placed, positions, found, r) {
+            return false;
+        }
+        k += 1;
+    }
+    true
+}
+
+// Whether every public reference that a match of the segment of a number noted names a symbol placed at its target.
+fn is_borne(
+    image: &[u8],
+    s: Stretch,
+    rules: Rules,
+    library: &[u8],
+    segments: &[u64],
+    n: usize,
+    references: &[u64],
+    placed: &[u64],
+    positions: &[u64],
+    number: usize,
+    found: usize,
+) -> bool
+    ensures { λ b. ⌜ b ≡ isBorne (view (now (image .entry)) s) (now (library .entry)) rules (now (segments .entry)) (now (references .entry)) n (now (placed .entry)) (now (positions .entry)) number found ⌝ }
+{
+    if n <= number {
+        return true;
+    }
+    let row = segment_at(segments, number);
+    bear_out(
+        image,
+        s,
+        rules,
+        library,
+        references,
+        row.references,
+        placed,
+        positions,
+        found,
+    )
+}
+
+// A symbol that is neither valid nor noted where it stands is dropped.
+fn is_kept(valid: bool, there: bool) -> bool
+    ensures { λ r. ⌜ r ≡ (valid || there) ⌝ }
+{
+    valid || there
+}
+
+// The grade of a placed symbol; 0 for one that is dropped.
+pub fn grade(
+    image: &[u8],
+    s: Stretch,
+    rules: Rules,
+    library: &[u8],
+    segments: &[u64],
+    n: usize,
+    references: &[u64],
+    placed: &[u64],
+    positions: &[u64],
+    noted: &[u64],
+    goals: &[u64],
+    row: Placed,
+) -> u8
+    ensures { λ r. ⌜ r ≡ rowGrade (view (now (image .entry)) s) (now (library .entry)) rules (now (segments .entry)) (now (references .entry)) n (now (placed .entry)) (now (positions .entry)) (now (noted .entry)) (now (goals .entry)) row ⌝ }
+{
+    let number = row.segment;
+    let there = is_found(library, 6, noted, goals, row.position as u64, row.name);
+    if !is_kept(row.valid, there) {
+        return 0;
+    }
+    if !is_borne(
+        image,
+        s,
+        rules,
+        library,
+        segments,
+        n,
+        references,
+        placed,
+        positions,
+        number.0,
+        row.found,
+    ) {
+        return 1;
+    }
+    if there { 3 } else { 2 }
+}

@@ -1,0 +1,97 @@
+// The positions of the image, ascending.
+ghost use Rattle.image.specs.View.{view};
+ghost use Rattle.listing.specs.position.Finishing.{ListsAt};
+ghost use Rattle.listing.specs.Inside.{ListsInside};
+use crate::position::lines::list_position;
+use image::Stretch;
+use image::fixup::Rules;
+use listing_rules::Skip;
+use tables::by_name::head_at;
+use tables::fill::Fill;
+
+// Most positions have no row, and are passed over at once.
+fn list_any(
+    image: &[u8],
+    s: Stretch,
+    rules: Rules,
+    skip: Skip,
+    library: &[u8],
+    segments: &[u64],
+    n: usize,
+    references: &[u64],
+    placed: &[u64],
+    positions: &[u64],
+    noted: &[u64],
+    goals: &[u64],
+    at: usize,
+    m: &mut [u64],
+    f: Fill,
+) -> Fill
+    ensures { λ r. ⌜ ListsAt (view (now (image .entry)) s) rules skip (now (library .entry)) (now (segments .entry)) n (now (references .entry)) (now (placed .entry)) (now (positions .entry)) (now (noted .entry)) (now (goals .entry)) at (now (m .entry)) f (now (m .exit)) r ⌝ }
+{
+    if head_at(positions, at) == 0 {
+        if head_at(goals, at) == 0 {
+            return f;
+        }
+    }
+    list_position(
+        image,
+        s,
+        rules,
+        skip,
+        library,
+        segments,
+        n,
+        references,
+        placed,
+        positions,
+        noted,
+        goals,
+        at,
+        m,
+        f,
+    )
+}
+
+pub fn list_inside(
+    image: &[u8],
+    s: Stretch,
+    rules: Rules,
+    skip: Skip,
+    library: &[u8],
+    segments: &[u64],
+    n: usize,
+    references: &[u64],
+    placed: &[u64],
+    positions: &[u64],
+    noted: &[u64],
+    goals: &[u64],
+    m: &mut [u64],
+    before: Fill,
+) -> Fill
+    ensures { λ r. ⌜ ListsInside (view (now (image .entry)) s) rules skip (now (library .entry)) (now (segments .entry)) n (now (references .entry)) (now (placed .entry)) (now (positions .entry)) (now (noted .entry)) (now (goals .entry)) (now (m .entry)) before (now (m .exit)) r ⌝ }
+{
+    let mut f = before;
+    let mut at = 0;
+    while at < image.len() {
+        f = list_any(
+            image,
+            s,
+            rules,
+            skip,
+            library,
+            segments,
+            n,
+            references,
+            placed,
+            positions,
+            noted,
+            goals,
+            at,
+            m,
+            f,
+        );
+        at += 1;
+    }
+    f
+}

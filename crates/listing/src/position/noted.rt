@@ -1,0 +1,56 @@
+// The names noted at a position, from the newest row of its bucket to the oldest.
+ghost use Prim.Native.Nat.{_+_, _/_, _<_, _≤_};
+ghost use lib.ListN.{length};
+ghost use Rattle.listing.specs.position.Bests.{Meets, notedLines};
+ghost use Rattle.listing.specs.position.Walking.{WalksNoted};
+use crate::position::Best;
+use crate::position::taking::take_in;
+use listing_rules::Line;
+use search::rows::noted_at;
+use search_rules::Noted;
+use tables::by_name::head_at;
+
+// A noted name, if it is valid and its target is the position.
+fn take_noted(m: &mut [u64], from: usize, b: Best, at: usize, row: Noted) -> Best
+    requires { ⌜ from + b .count < 18446744073709551615 ⌝ }
+    ensures { λ r. ⌜ Meets from (notedLines at row) (now (m .entry)) b (now (m .exit)) r ⌝ }
+{
+    let name = row.name;
+    if row.target != at as u64 {
+        return b;
+    }
+    if !row.valid {
+        return b;
+    }
+    take_in(
+        m,
+        from,
+        b,
+        Line {
+            address: at as u64,
+            grade: 0,
+            name,
+        },
+    )
+}
+
+pub fn walk_noted(noted: &[u64], goals: &[u64], at: usize, m: &mut [u64], from: usize) -> Best
+    requires { ⌜ from ≤ length (now m) / 4 ⌝ }
+    ensures { λ r. ⌜ WalksNoted (now (noted .entry)) (now (goals .entry)) at from (now (m .entry)) (now (m .exit)) r ⌝ }
+{
+    let mut b = Best { count: 0, grade: 0 };
+    let mut here = head_at(goals, at);
+    if noted.len() / 6 < here {
+        return b;
+    }
+    while here != 0 {
+        let row = noted_at(noted, here - 1);
+        let next = row.link;
+        b = take_noted(m, from, b, at, row);
+        if here <= next {
+            return b;
+        }
+        here = next;
+    }
+    b
+}

@@ -1,0 +1,126 @@
+// The symbols placed at a position, from the newest row of its bucket to the oldest.
+ghost use Prim.Native.Nat.{_+_, _/_, _<_, _≤_};
+ghost use lib.ListN.{length};
+ghost use Rattle.image.specs.View.{view};
+ghost use Rattle.listing.specs.grade.Grades.{rowGrade};
+ghost use Rattle.listing.specs.position.Bests.{Meets, placedLines};
+ghost use Rattle.listing.specs.position.Walking.{WalksPlaced};
+use crate::grade::grade;
+use crate::position::Best;
+use crate::position::taking::take_in;
+use image::Stretch;
+use image::fixup::Rules;
+use listing_rules::Line;
+use search::rows::placed_at;
+use search_rules::Placed;
+use tables::by_name::head_at;
+
+// A symbol with its grade, if it stands at the position and is not dropped.
+fn take_placed(
+    image: &[u8],
+    s: Stretch,
+    rules: Rules,
+    library: &[u8],
+    segments: &[u64],
+    n: usize,
+    references: &[u64],
+    placed: &[u64],
+    positions: &[u64],
+    noted: &[u64],
+    goals: &[u64],
+    m: &mut [u64],
+    from: usize,
+    b: Best,
+    at: usize,
+    row: Placed,
+) -> Best
+    requires { ⌜ from + b .count < 18446744073709551615 ⌝ }
+    ensures { λ r. ⌜ Meets from (placedLines at (rowGrade (view (now (image .entry)) s) (now (library .entry)) rules (now (segments .entry)) (now (references .entry)) n (now (placed .entry)) (now (positions .entry)) (now (noted .entry)) (now (goals .entry)) row) row) (now (m .entry)) b (now (m .exit)) r ⌝ }
+{
+    let name = row.name;
+    if row.position != at {
+        return b;
+    }
+    let grade = grade(
+        image,
+        s,
+        rules,
+        library,
+        segments,
+        n,
+        references,
+        placed,
+        positions,
+        noted,
+        goals,
+        row,
+    );
+    if grade == 0 {
+        return b;
+    }
+    take_in(
+        m,
+        from,
+        b,
+        Line {
+            address: at as u64,
+            grade,
+            name,
+        },
+    )
+}
+
+// Those that were met before stay, unless a symbol is better.
+pub fn walk_placed(
+    image: &[u8],
+    s: Stretch,
+    rules: Rules,
+    library: &[u8],
+    segments: &[u64],
+    n: usize,
+    references: &[u64],
+    placed: &[u64],
+    positions: &[u64],
+    noted: &[u64],
+    goals: &[u64],
+    at: usize,
+    m: &mut [u64],
+    from: usize,
+    before: Best,
+) -> Best
+    requires { ⌜ (from ≤ length (now m) / 4) × (before .count ≤ length (now noted) / 6) ⌝ }
+    ensures { λ r. ⌜ WalksPlaced (view (now (image .entry)) s) rules (now (library .entry)) (now (segments .entry)) n (now (references .entry)) (now (placed .entry)) (now (positions .entry)) (now (noted .entry)) (now (goals .entry)) at from (now (m .entry)) before (now (m .exit)) r ⌝ }
+{
+    let mut b = before;
+    let mut here = head_at(positions, at);
+    if placed.len() / 8 < here {
+        return b;
+    }
+    while here != 0 {
+        let row = placed_at(placed, here - 1);
+        let next = row.link;
+        b = take_placed(
+            image,
+            s,
+            rules,
+            library,
+            segments,
+            n,
+            references,
+            placed,
+            positions,
+            noted,
+            goals,
+            m,
+            from,
+            b,
+            at,
+            row,
+        );
+        if here <= next {
+            return b;
+        }
+        here = next;
+    }
+    b
+}

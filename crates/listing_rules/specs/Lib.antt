@@ -1,0 +1,9 @@
+-- Listing: grades and the list, its rows, the printed form; each file of laws stands behind its definitions.
+pub mod Listing
+pub mod ListingLaws
+pub mod LineLayout
+pub mod LineLayoutLaws
+pub mod Growing
+pub mod GrowingLaws
+pub mod Print
+pub mod OneOutcome

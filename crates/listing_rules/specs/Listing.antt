@@ -1,0 +1,86 @@
+-- Grades, and the list.
+use Prim.Native.Nat.{ℕ, max}
+use mathlib.Core.Bool.{Bool, false, not, _&&_, _||_}
+use mathlib.Core.List.{List, [], _∷_, _++_, map}
+use lib.Dec.{eqb, leb, ltb}
+use lib.ListN.{length, getD}
+use Rattle.lent.specs.Choice.{if_then_else_}
+use Rattle.lent.specs.Lists.{keep, joined, fold, all, from, sorted}
+use Rattle.lent.specs.Parts.{nameBefore}
+use Rattle.image.specs.declared.Seat.the-variants.{Anywhere}
+use Rattle.segments.specs.Collect.{Collected}
+use Rattle.search_rules.specs.declared.Asked.{Asked}
+use Rattle.search_rules.specs.Search.{Placing, Noting, notes, isNoted, isPlaced}
+use Rattle.listing_rules.specs.declared.Skip.{Skip}
+use Rattle.listing_rules.specs.declared.Skip.the-variants.{Never, Above}
+use Rattle.listing_rules.specs.declared.Line.{Line}
+
+-- a valid noted name counts 0
+abbrev pub notedLine : Noting → Line
+notedLine n = record { address = n .target; grade = 0; name = n .name }
+
+-- those of the best grade
+unfoldable pub bestGrade : List Line → ℕ
+bestGrade lines = fold (λ g l. max g (l .grade)) 0 lines
+
+unfoldable pub best : List Line → List Line
+best lines = keep (λ l. eqb (l .grade) (bestGrade lines)) lines
+
+-- there are more names than the skip amount
+abbrev pub crowded : Skip → ℕ → Bool
+crowded Never n = false
+crowded (Above amount) n = ltb amount n
+
+-- what a placed row's number gives where no segment has it
+abbrev pub noSegment : Collected
+noSegment = record { seat = Anywhere; bytes = []; masks = []; references = []; symbols = [] }
+
+module _ (library cells : List ℕ) (a : Asked) (segments : List Collected) (placed : List Placing) (noted : List Noting) where
+  -- every public reference that the symbol's match noted names a symbol placed at the target
+  abbrev pub borneOut : Placing → Bool
+  borneOut p =
+      all (λ n. isPlaced library placed (n .target) (n .name)) (notes cells a (getD segments (p .segment) noSegment) (p .found))
+
+  -- 1 if some such reference fails this; otherwise 3 if the name is noted there, 2 if not
+  unfoldable pub grade : Placing → ℕ
+  grade p = if not (borneOut p) then 1 else if isNoted library noted (p .position) (p .name) then 3 else 2
+
+  -- the names at a position: a symbol neither valid nor noted there is dropped
+  abbrev pub stays : ℕ → Placing → Bool
+  stays at p = eqb (p .position) at && (p .valid || isNoted library noted at (p .name))
+
+  abbrev pub placedLine : Placing → Line
+  placedLine p = record { address = p .position; grade = grade p; name = p .name }
+
+  unfoldable pub gradedAt : ℕ → List Line
+  gradedAt at =
+      map placedLine (keep (stays at) placed)
+      ++ map notedLine (keep (λ n. eqb (n .target) at && n .valid) noted)
+
+  -- only the best grade is listed, in byte order; with more such names than the skip amount the position is left out
+  unfoldable pub linesAt : Skip → ℕ → List Line
+  linesAt skip at =
+      let lines = best (gradedAt at) in
+      if crowded skip (length lines) then [] else sorted (λ x y. nameBefore library (x .name) (y .name)) lines
+
+-- then targets at or past the image's end, ascending, their valid names in the order first noted; the skip test counts all
+abbrev pub isLeftover : ℕ → Skip → List Noting → Noting → Bool
+isLeftover end skip noted n =
+    leb end (n .target) && n .valid && not (crowded skip (length (keep (λ q. eqb (q .target) (n .target)) noted)))
+
+unfoldable pub leftovers : ℕ → Skip → List Noting → List Line
+leftovers end skip noted = map notedLine (sorted (λ x y. ltb (x .target) (y .target)) (keep (isLeftover end skip noted) noted))
+
+unfoldable pub listing : List ℕ → List ℕ → Asked → Skip → List Collected → List Placing → List Noting → List Line
+listing library cells a skip segments placed noted =
+    joined (linesAt library cells a segments placed noted skip) (from 0 (length cells)) ++ leftovers (length cells) skip noted
+
+-- what the lent rows of the listing hold: address, grade, place and length of the name
+abbrev pub lineWidth : ℕ
+lineWidth = 4
+
+abbrev pub lineCells : Line → List ℕ
+lineCells l = l .address ∷ l .grade ∷ l .name .at ∷ l .name .len ∷ []
+
+unfoldable pub lineNumbers : List Line → List ℕ
+lineNumbers lines = joined lineCells lines

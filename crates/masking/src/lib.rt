@@ -1,2 +1,0 @@
-// The masks that a fixup leaves.
-pub mod masks;

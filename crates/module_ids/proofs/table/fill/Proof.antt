@@ -1,0 +1,103 @@
+-- `fill` notes one definition after another. The invariant: the table tells of those that are done, and the rest is left. Assumes nothing.
+use Prim.Native.Nat.{ℕ, _+_, _≤_}
+use mathlib.Core.Path.{_≡_, refl, sym, ap, _∙_}
+use mathlib.Core.List.{List, [], _∷_, _++_, append-assoc}
+use native.Mathlib.Omega.{arith}
+use lib.ListN.{length}
+use denote.Ref.{now}
+use Rattle.lent.specs.Lists.{one, keep}
+use Rattle.omf51.specs.declared.Definition.{Definition}
+use Rattle.omf51.specs.Module.{definitionsAt}
+use Rattle.library.specs.Found.{found}
+use Rattle.library.specs.declared.items.Cursor.{Cursor}
+use Rattle.library.specs.items.Left.{definitionsLeft}
+use Rattle.library.specs.items.Yields.{definitionsAfter, next-definition-yields, definitions-start}
+use Rattle.library.specs.items.ForwardLaws.{Ordered, Forward, definition-goes}
+use Rattle.segments.specs.Ids.{isKept}
+use Rattle.module_ids.specs.Noted.{Tells}
+use Rattle.module_ids.specs.NotedLaws.{noted, kept-more, kept-step, none-kept, all-noted, note-length}
+use borrow.Author.Needs.{needs}
+use Rattle.module_ids.proofs.table.fill.Statement.{statement}
+use Rattle.module_ids.proofs.table.fill.Tie as tie
+
+record Inv (library : List ℕ) (at : ℕ) (table₀ table : List ℕ) (c : Cursor) (n : ℕ) : Type 0 where
+  long : length table ≡ length table₀
+  done : List Definition
+  whole : done ++ definitionsLeft library c ≡ found library (definitionsAt library) at
+  tells : Tells done table
+  number : n ≡ length (keep isKept done)
+  few : n ≤ c .at
+  ordered : Ordered c
+
+abbrev Inv-loop : tie.InvT-loop
+Inv-loop library at table₀ c₀ n₀ table c n = Inv library at table₀ table c n
+
+abbrev μ-loop : tie.MeasureT-loop
+μ-loop library at table₀ c₀ n₀ table c n = length (definitionsLeft library c)
+
+-- the next definition, once it is known
+abbrev Told : Type 0
+Told = tie.After-known-told Inv-loop μ-loop
+
+yields : (c : Told) → definitionsLeft (now (c .before .before .before .before .before .before .before .before .args .library)) (c .before .before .before .before .loop .c) ≡ c .before .definition .given .0 .0 ∷ definitionsLeft (now (c .before .before .before .before .before .before .before .before .args .library)) (c .before .definition .given .0 .1 .0)
+yields c =
+    let a = c .before .before .before .before .before .before .before .before .args in
+    next-definition-yields (a .library .now) (c .before .before .before .before .loop .c) ∙ ap (definitionsAfter (a .library .now)) (sym (c .before .before .before .next-definition .ensures) ∙ c .before .definition .given .1)
+
+goes : (c : Told) → Forward (now (c .before .before .before .before .before .before .before .before .args .library)) (c .before .before .before .before .loop .c) (c .before .definition .given .0 .1 .0)
+goes c = definition-goes (c .before .before .before .before .before .before .before .before .args .library .now) (c .before .before .before .before .loop .c) (c .before .before .before .before .loop .inv .ordered) (sym (c .before .before .before .next-definition .ensures) ∙ c .before .definition .given .1)
+
+loop-holds : tie.Need-loop-holds Inv-loop μ-loop
+loop-holds c =
+    let a = c .before .before .before .args in
+    rw (c .start .ensures) (record { long = refl; done = []; whole = definitions-start (a .library .now) (a .at); tells = c .before .before .before .pre; number = none-kept; few = omega arith; ordered = record { before = omega arith; body-before = omega arith } })
+
+kept-after-requires : tie.Need-kept-after-requires Inv-loop μ-loop
+kept-after-requires c κs = omega (arith, c .before .before .before .before .before .before .before .before .loop .inv .few, goes (c .before .before .before .before), c .before .before .before .before .before .before .before .before .before .before .before .shared-slice-known .given 0)
+
+loop-less : tie.Need-loop-less Inv-loop μ-loop
+loop-less c = rw (yields (c .before .before .before .before .before)) (omega arith)
+
+loop-again : tie.Need-loop-again Inv-loop μ-loop
+loop-again c =
+    let a = c .before .before .before .before .before .before .before .before .before .before .before .before .before .args in
+    let i = c .before .before .before .before .before .before .before .before .before .loop .inv in
+    let d = c .before .before .before .before .before .before .definition .given .0 .0 in
+    let f = goes (c .before .before .before .before .before) in
+    record {
+      long = ap length (c .before .before .before .note .ensures .0) ∙ note-length (c .before .before .before .before .before .before .before .before .before .loop .table) (c .before .before .before .before .before .before .before .before .before .loop .n) d ∙ i .long;
+      done = i .done ++ one d;
+      whole = append-assoc (i .done) (one d) _ ∙ ap (λ xs. i .done ++ xs) (sym (yields (c .before .before .before .before .before))) ∙ i .whole;
+      tells = rw (c .before .before .before .note .ensures .0, i .number) (noted (i .done) _ d (i .tells) (c .before .before .before .note .ensures .1));
+      number = c .kept-after .ensures ∙ rw (i .number) (sym (kept-more (i .done) d));
+      few = omega (arith, i .few, f, c .kept-after .ensures, kept-step (c .before .before .before .before .before .before .before .before .before .loop .n) d);
+      ordered = f .ordered;
+    }
+
+same-length : tie.Need-same-length Inv-loop μ-loop
+same-length c = c .before .before .before .loop .inv .long
+
+returns : tie.Need-returns Inv-loop μ-loop
+returns c =
+    let l = c .before .before .before .loop in
+    let lib = c .before .before .before .before .before .before .before .args .library .now in
+    let e = next-definition-yields lib (l .c) ∙ ap (definitionsAfter lib) (sym (c .before .before .next-definition .ensures) ∙ c .enum-told .given .1) in
+    all-noted (l .table) (l .inv .whole) e (l .inv .tells) (l .inv .number)
+
+pub fill-spec : {M : Type 1} → statement M
+fill-spec =
+    tie.close
+    (tie.spec
+    Inv-loop
+    μ-loop
+    (λ c κs. search needs)
+    loop-holds
+    (λ c κs. search needs)
+    (λ c. search needs)
+    (λ c κs. search needs)
+    kept-after-requires
+    loop-less
+    loop-again
+    (λ c. search needs)
+    same-length
+    returns)

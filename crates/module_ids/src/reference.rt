@@ -1,0 +1,100 @@
+// What a fixup leaves: a reference out of its content, or nothing.
+ghost use mathlib.Core.Path.{_≡_};
+ghost use Prim.Native.Nat.{_+_, _<_, _^_};
+ghost use Rattle.module_ids.specs.reference.Leaving.{codeNamed, placeIn, goalBy, kindKnown, leavesBy, leftBy};
+use crate::IdRow;
+use crate::KeptAs;
+use crate::fault::Verdict;
+use crate::fault::one::fixup_fault;
+use crate::fault::one::is_code;
+use image::fixup::Kind;
+use omf51::Fixup;
+use segments::Goal;
+use segments::Reference;
+use segments::SegmentNumber;
+
+// The kinds of fixup that leave a reference, and all others.
+pub enum Known {
+    Kind(Kind),
+    Other,
+}
+
+pub enum Leaves {
+    One(Reference),
+    Nothing,
+}
+
+fn kind_of(n: u8) -> Known
+    ensures { λ r. ⌜ r ≡ kindKnown n ⌝ }
+{
+    if n == 2 {
+        return Known::Kind(Kind::Relative);
+    }
+    if n == 4 {
+        return Known::Kind(Kind::Word);
+    }
+    if n == 5 {
+        return Known::Kind(Kind::Inblock);
+    }
+    Known::Other
+}
+
+// Whether what the fixup names is code: the first segment of its id for block 1, the first external for block 2.
+fn code_named(row: IdRow, f: Fixup) -> bool
+    ensures { λ r. ⌜ r ≡ codeNamed row f ⌝ }
+{
+    let segment = row.segment;
+    let external = row.external;
+    if f.block == 1 {
+        return is_code(segment);
+    }
+    if f.block == 2 {
+        return is_code(external);
+    }
+    false
+}
+
+fn place_in(kept: KeptAs) -> usize
+    ensures { λ r. ⌜ r ≡ placeIn kept ⌝ }
+{
+    match kept {
+        KeptAs::None => 0,
+        KeptAs::Place { place, size } => place,
+    }
+}
+
+// Block 1 leads to the first kept segment of the id, block 2 to the external's name.
+fn goal_by(row: IdRow, number: usize, f: Fixup) -> Goal
+    requires { ⌜ number + placeIn (row .kept) < 2 ^ 64 ⌝ }
+    ensures { λ r. ⌜ r ≡ goalBy row number f ⌝ }
+{
+    let kept = row.kept;
+    let name = row.name;
+    if f.block == 1 {
+        return Goal::Segment(SegmentNumber(number + place_in(kept)));
+    }
+    Goal::Name(name)
+}
+
+// What a fixup leaves whose id has this row, in a module whose first segment has this number, `base` added to its place.
+pub fn reference_of(row: IdRow, number: usize, base: usize, f: Fixup) -> Leaves
+    requires { ⌜ (number + placeIn (row .kept) < 2 ^ 64) × (base + f .location < 2 ^ 64) ⌝ }
+    ensures { λ r. ⌜ leftBy r ≡ leavesBy row number base f ⌝ }
+{
+    let verdict = fixup_fault(row, f);
+    if let Verdict::Refused(r) = verdict {
+        return Leaves::Nothing;
+    }
+    if !code_named(row, f) {
+        return Leaves::Nothing;
+    }
+    match kind_of(f.kind) {
+        Known::Kind(kind) => Leaves::One(Reference {
+            place: base + f.location,
+            kind,
+            offset: f.offset,
+            goal: goal_by(row, number, f),
+        }),
+        Known::Other => Leaves::Nothing,
+    }
+}

@@ -1,0 +1,207 @@
+// The table of a module's ids: filled from its definitions, and cleared after it.
+ghost use mathlib.Core.Path.{_≡_};
+ghost use mathlib.Core.List.{[]};
+ghost use Prim.Native.Nat.{_+_, _<_, _^_};
+ghost use Rattle.omf51.specs.Module.{definitionsAt};
+ghost use Rattle.library.specs.Found.{found};
+ghost use Rattle.segments.specs.Ids.{codeInfo, isKept, idOf};
+ghost use Rattle.module_ids.specs.Noted.{firstMark, firstName, firstKeptAs, changed as changedRow, noteIn, keptAfter, noRow, Tells, Filled};
+use crate::IdRow;
+use crate::KeptAs;
+use crate::Mark;
+use crate::row::id_row;
+use crate::row::put_id;
+use lent::part::Part;
+use library::items::NextDefinition;
+use library::items::decoded::next_definition;
+use library::items::entries::start;
+use omf51::Definition;
+use omf51::ModuleId;
+
+// Type code: the low three info bits are 0.
+pub fn code_info(info: u8) -> bool
+    ensures { λ r. ⌜ r ≡ codeInfo info ⌝ }
+{
+    info & 7 == 0
+}
+
+// Kept: a segment of id not 0, type code, and relocation byte not 0.
+pub fn is_kept(d: Definition) -> bool
+    ensures { λ r. ⌜ r ≡ isKept d ⌝ }
+{
+    match d {
+        Definition::Segment {
+            id,
+            info,
+            relocation,
+            size,
+            name,
+        } => {
+            if id.0 == 0 {
+                return false;
+            }
+            if code_info(info) {
+                return relocation != 0;
+            }
+            false
+        }
+        Definition::Public { id, offset, name } => false,
+        Definition::External { id, info, name } => false,
+    }
+}
+
+pub fn id_of(d: Definition) -> ModuleId
+    ensures { λ r. ⌜ (r ≡ idOf d) × (r .0 < 65536) ⌝ }
+{
+    match d {
+        Definition::Segment {
+            id,
+            info,
+            relocation,
+            size,
+            name,
+        } => id,
+        Definition::Public { id, offset, name } => id,
+        Definition::External { id, info, name } => id,
+    }
+}
+
+// The first definition of an id stays.
+fn first_mark(old: Mark, code: bool) -> Mark
+    ensures { λ r. ⌜ r ≡ firstMark old code ⌝ }
+{
+    match old {
+        Mark::Missing => {
+            if code {
+                return Mark::Code;
+            }
+            Mark::Other
+        }
+        Mark::Other => Mark::Other,
+        Mark::Code => Mark::Code,
+    }
+}
+
+fn first_name(mark: Mark, old: Part, new: Part) -> Part
+    ensures { λ r. ⌜ r ≡ firstName mark old new ⌝ }
+{
+    match mark {
+        Mark::Missing => new,
+        Mark::Other => old,
+        Mark::Code => old,
+    }
+}
+
+fn first_kept(old: KeptAs, kept: bool, place: usize, size: usize) -> KeptAs
+    ensures { λ r. ⌜ r ≡ firstKeptAs old kept place size ⌝ }
+{
+    match old {
+        KeptAs::None => {
+            if kept {
+                return KeptAs::Place { place, size };
+            }
+            KeptAs::None
+        }
+        KeptAs::Place { place: p, size: s } => KeptAs::Place { place: p, size: s },
+    }
+}
+
+// What a definition changes in the row of its id; `n` segments were kept before it.
+fn changed(row: IdRow, n: usize, d: Definition) -> IdRow
+    ensures { λ r. ⌜ r ≡ changedRow row n d ⌝ }
+{
+    let segment = row.segment;
+    let kept = row.kept;
+    let external = row.external;
+    let old = row.name;
+    match d {
+        Definition::Segment {
+            id,
+            info,
+            relocation,
+            size,
+            name,
+        } => IdRow {
+            segment: first_mark(segment, code_info(info)),
+            kept: first_kept(kept, is_kept(d), n, size),
+            external,
+            name: old,
+        },
+        Definition::Public { id, offset, name } => row,
+        Definition::External { id, info, name } => IdRow {
+            segment,
+            kept,
+            external: first_mark(external, code_info(info)),
+            name: first_name(external, old, name),
+        },
+    }
+}
+
+fn note(table: &mut [u64], n: usize, d: Definition)
+    ensures { λ _. ⌜ (now (table .exit) ≡ noteIn (now (table .entry)) n d) × (idOf d .0 < 65536) ⌝ }
+{
+    let id = id_of(d);
+    let row = id_row(table, id);
+    put_id(table, id, changed(row, n, d));
+}
+
+fn kept_after(n: usize, d: Definition) -> usize
+    requires { ⌜ n + 1 < 2 ^ 64 ⌝ }
+    ensures { λ r. ⌜ r ≡ keptAfter n d ⌝ }
+{
+    if is_kept(d) {
+        return n + 1;
+    }
+    n
+}
+
+// Notes all definitions from a place on in a table that is clear, and answers how many segments are kept.
+pub fn fill(library: &[u8], at: usize, table: &mut [u64]) -> usize
+    requires { ⌜ Tells [] (now table) ⌝ }
+    ensures { λ r. ⌜ Filled (found (now (library .entry)) (definitionsAt (now (library .entry))) at) (now (table .exit)) r ⌝ }
+{
+    let mut c = start(at);
+    let mut n = 0;
+    loop {
+        match next_definition(library, c) {
+            NextDefinition::Item { definition, rest } => {
+                note(table, n, definition);
+                n = kept_after(n, definition);
+                c = rest;
+            }
+            NextDefinition::Done => {
+                return n;
+            }
+        }
+    }
+}
+
+// Clears the rows of all ids that these definitions have.
+pub fn clear(library: &[u8], at: usize, table: &mut [u64])
+    requires { ⌜ Tells (found (now library) (definitionsAt (now library)) at) (now table) ⌝ }
+    ensures { λ _. ⌜ Tells [] (now (table .exit)) ⌝ }
+{
+    let mut c = start(at);
+    loop {
+        match next_definition(library, c) {
+            NextDefinition::Item { definition, rest } => {
+                put_id(table, id_of(definition), no_row());
+                c = rest;
+            }
+            NextDefinition::Done => {
+                return;
+            }
+        }
+    }
+}
+
+fn no_row() -> IdRow
+    ensures { λ r. ⌜ r ≡ noRow ⌝ }
+{
+    IdRow {
+        segment: Mark::Missing,
+        kept: KeptAs::None,
+        external: Mark::Missing,
+        name: Part { at: 0, len: 0 },
+    }
+}

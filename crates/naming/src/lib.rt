@@ -1,2 +1,0 @@
-// What is met along links becomes symbols.
-pub mod names;

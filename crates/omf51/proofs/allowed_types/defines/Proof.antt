@@ -1,0 +1,10 @@
+-- `defines` searches its list. Assumes nothing.
+use borrow.Author.Needs.{needs}
+use Rattle.omf51.proofs.allowed_types.defines.Statement.{statement}
+use Rattle.omf51.proofs.allowed_types.defines.Tie as tie
+
+returns : tie.Need-returns
+returns c = c .is-in .ensures
+
+pub defines-spec : {M : Type 1} → statement M
+defines-spec = tie.close (tie.spec (λ c. search needs) (λ c κs. search needs) returns)

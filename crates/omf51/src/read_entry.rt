@@ -1,0 +1,129 @@
+// The entries of bodies: where each ends, if it is whole.
+ghost use mathlib.Core.Path.{_≡_};
+ghost use Prim.Native.Nat.{_≤_};
+ghost use Rattle.omf51.specs.Record.{recordOf};
+ghost use Rattle.omf51.specs.Entry.{idSize, isSegment, isPublic, nameOffset, nameWith, definitionAt, fixupAt};
+ghost use Rattle.omf51.specs.Expected.{oneType};
+ghost use Rattle.omf51.specs.Ends.{endOf, nameRead, entryEnd};
+use crate::End;
+use crate::Frame;
+use crate::entry::Entries;
+use crate::entry::Named;
+use crate::read_record::byte_at;
+use crate::read_record::record_at;
+use crate::record::Framed;
+use crate::types::Allowed;
+use lent::part::Part;
+use lent::refusal::Refusal;
+
+fn wide(x: u8) -> usize
+    ensures { λ r. ⌜ (r ≡ x) × (r ≤ 255) ⌝ }
+{
+    x as usize
+}
+
+pub fn is_segment(f: Frame) -> bool
+    ensures { λ r. ⌜ r ≡ isSegment f ⌝ }
+{
+    f.kind == 0x0e || f.kind == 0x0f
+}
+
+pub fn is_public(f: Frame) -> bool
+    ensures { λ r. ⌜ r ≡ isPublic f ⌝ }
+{
+    f.kind == 0x16 || f.kind == 0x17
+}
+
+// Records of odd type carry two-byte ids.
+pub fn id_size(f: Frame) -> usize
+    ensures { λ r. ⌜ (r ≡ idSize f) × (r ≤ 2) ⌝ }
+{
+    1 + wide(f.kind % 2)
+}
+
+// How far into a definition its name stands.
+pub fn name_offset(f: Frame) -> usize
+    ensures { λ r. ⌜ (r ≡ nameOffset f) × (r ≤ 9) ⌝ }
+{
+    let ids = id_size(f);
+    if is_segment(f) {
+        return ids + 7;
+    }
+    if is_public(f) {
+        return ids + 4;
+    }
+    ids + 3
+}
+
+// A definition: its name comes last.
+fn definition_end(library: &[u8], f: Frame, at: usize) -> End
+    ensures { λ r. ⌜ r ≡ endOf (definitionAt (now (library .entry)) f at) ⌝ }
+{
+    let end = f.end;
+    if end < at {
+        return End::Stop;
+    }
+    let before = name_offset(f);
+    if end - at <= before {
+        return End::Stop;
+    }
+    let name = at + before;
+    let len = wide(byte_at(library, name));
+    if end - name <= len {
+        return End::Stop;
+    }
+    End::At(name + 1 + len)
+}
+
+// A fixup: one of block 3 has a byte more.
+fn fixup_end(library: &[u8], f: Frame, at: usize) -> End
+    ensures { λ r. ⌜ r ≡ endOf (fixupAt (now (library .entry)) f at) ⌝ }
+{
+    let end = f.end;
+    if end < at {
+        return End::Stop;
+    }
+    let size = 4 + id_size(f) + 2;
+    if end - at < size {
+        return End::Stop;
+    }
+    if byte_at(library, at + 3) != 3 {
+        return End::At(at + size);
+    }
+    if end - at == size {
+        return End::Stop;
+    }
+    End::At(at + size + 1)
+}
+
+// Where the entry at a place ends, if it is whole.
+pub fn entry_end(library: &[u8], what: Entries, f: Frame, at: usize) -> End
+    ensures { λ r. ⌜ r ≡ entryEnd what (now (library .entry)) f at ⌝ }
+{
+    match what {
+        Entries::Definitions => definition_end(library, f, at),
+        Entries::Fixups => fixup_end(library, f, at),
+    }
+}
+
+// The record of a header or an end: a name, and some bytes more.
+pub fn named_at(library: &[u8], kind: u8, more: u8, at: usize) -> Named
+    ensures { λ r. ⌜ nameRead r ≡ recordOf (now (library .entry)) (oneType kind) (nameWith more (now (library .entry))) at ⌝ }
+{
+    match record_at(library, Allowed::One(kind), at) {
+        Framed::Read(f) => {
+            let body = f.body;
+            let end = f.end;
+            let len = wide(byte_at(library, body));
+            if end - body < 1 + len + wide(more) {
+                return Named::Stop;
+            }
+            Named::Read {
+                name: Part { at: body + 1, len },
+                next: end + 1,
+            }
+        }
+        Framed::Stop => Named::Stop,
+        Framed::Refused(r) => Named::Refused(r),
+    }
+}

@@ -1,2 +1,0 @@
-// The repetitions of a module: where its definitions and contents end.
-pub mod passes;

@@ -1,0 +1,34 @@
+-- `take_in_contents` goes over the contents: each step leaves fewer. Assumes nothing.
+use mathlib.Core.Path.{sym, _∙_}
+use lib.ListN.{length}
+use Rattle.omf51.specs.Module.{sectionsAt}
+use Rattle.library.specs.Found.{found}
+use Rattle.library.specs.items.Fewer.{fewer-sections}
+use borrow.Author.Needs.{needs}
+use Rattle.recorded.proofs.digest.contents.take_in_contents.Statement.{statement}
+use Rattle.recorded.proofs.digest.contents.take_in_contents.Tie as tie
+
+abbrev Inv-loop : tie.InvT-loop
+Inv-loop before library contents h₀ at₀ h at = Unit
+
+abbrev μ-loop : tie.MeasureT-loop
+μ-loop before library contents h₀ at₀ h at = length (found library (sectionsAt library) at)
+
+loop-less : tie.Need-loop-less Inv-loop μ-loop
+loop-less c = fewer-sections (c .before .before .before .before .before .before .before .before .args .library .now) (c .before .before .before .before .before .before .loop .at) (sym (c .before .before .before .before .before .next-content .ensures) ∙ c .before .before .before .content .given .1)
+
+pub take-in-contents-spec : {M : Type 1} → statement M
+take-in-contents-spec =
+    tie.close
+    (tie.spec
+    Inv-loop
+    μ-loop
+    (λ c. search needs)
+    (λ c κs. search needs)
+    (λ c. search needs)
+    (λ c κs. search needs)
+    (λ c κs. search needs)
+    loop-less
+    (λ c. search needs)
+    (λ c. search needs)
+    (λ c. search needs))

@@ -1,2 +1,0 @@
-// The first refusal of 10 to 13, over all modules.
-pub mod scan;

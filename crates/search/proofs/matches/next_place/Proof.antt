@@ -1,0 +1,83 @@
+-- `next_place` by the case of the cursor. Assumes nothing.
+use Prim.Native.Nat.{_+_}
+use mathlib.Core.Path.{sym, subst, _∙_}
+use native.Mathlib.Omega.{arith}
+use denote.Ref.{now}
+use Rattle.search.specs.declared.matches.Cursor.{Cursor}
+use Rattle.search.specs.declared.matches.Cursor.the-variants.{Plain, Over}
+use Rattle.search.specs.declared.matches.Next.the-variants.{Done}
+use Rattle.search.specs.matches.Cursor.{Sound, Reached, Stepped}
+use Rattle.search.specs.matches.StepLaws.{plain-at, plain-done, once-at, once-done, reached-fits}
+use borrow.Author.Needs.{needs}
+use Rattle.search.proofs.matches.next_place.Statement.{statement}
+use Rattle.search.proofs.matches.next_place.Tie as tie
+
+-- a match by trying each place
+plain : (c : tie.After-at) → let a = c .before .before .before .before .before .before .before .before .before .before .args in
+    let at = c .at .given .0 .0 in
+    Reached (a .image .now) (a .s) (a .bytes .now) (a .masks .now) (Plain (c .before .before .before .before .c2 .given .0 .0)) at (Plain (at + 1))
+plain c =
+    let a = c .before .before .before .before .before .before .before .before .before .before .args in
+    plain-at (a .image .now) (a .s) (a .bytes .now) (a .masks .now) (c .before .before .before .before .c2 .given .0 .0) (c .at .given .0 .0) (sym (c .before .before .next-match .ensures) ∙ c .at .given .1)
+
+step-along-requires : tie.Need-step-along-requires
+step-along-requires c κs =
+    let a = c .before .before .before .before .before .before .before .args in
+    record { nexts = c .before .before .before .before .before .before .before .pre .nexts; sound = subst (Sound (a .image .now) (a .bytes .now) (a .masks .now)) (c .before .c .given .1) (c .before .before .before .before .before .before .before .pre .sound) }
+
+add-t15 : tie.Need-add-t15
+add-t15 c =
+    let a = c .before .before .before .before .before .before .before .before .before .before .before .args in
+    omega (arith, reached-fits (a .image .now) (a .s) (a .bytes .now) (a .masks .now) (Plain (c .before .before .before .before .before .c2 .given .0 .0)) (plain (c .before)), c .before .before .before .before .before .before .before .before .before .before .before .good .0)
+
+returns : tie.Need-returns
+returns c =
+    let a = c .before .before .before .before .before .before .before .before .before .args in
+    let at = c .before .before .before .c3 .given .0 .0 in
+    subst (λ (x : Cursor). Reached (a .image .now) (a .s) (a .bytes .now) (a .masks .now) x at Over) (sym (c .before .before .before .c3 .given .1))
+    (once-at (a .image .now) (a .s) (a .bytes .now) (a .masks .now) at (sym (c .before .match-at .ensures) ∙ c .if1 .taken))
+
+returns-2 : tie.Need-returns-2
+returns-2 c =
+    let a = c .before .before .before .before .before .before .before .before .args in
+    subst (λ (x : Cursor). Stepped (a .image .now) (a .s) (a .bytes .now) (a .masks .now) x (c .step-along .result)) (sym (c .before .before .c .given .1)) (c .step-along .ensures)
+
+returns-3 : tie.Need-returns-3
+returns-3 c =
+    let a = c .before .before .before .before .before .before .before .before .before .before .before .args in
+    let at = c .before .at .given .0 .0 in
+    subst (λ (x : Cursor). Reached (a .image .now) (a .s) (a .bytes .now) (a .masks .now) x at (Plain (at + 1))) (sym (c .before .before .before .before .before .c2 .given .1)) (plain (c .before))
+
+returns-4 : tie.Need-returns-4
+returns-4 c =
+    let a = c .before .before .before .before .before .before .before .before .before .before .args in
+    subst (λ (x : Cursor). Stepped (a .image .now) (a .s) (a .bytes .now) (a .masks .now) x Done) (sym (c .before .before .before .before .c2 .given .1))
+    (plain-done (a .image .now) (a .s) (a .bytes .now) (a .masks .now) (c .before .before .before .before .c2 .given .0 .0) (sym (c .before .before .next-match .ensures) ∙ c .enum-told .given .1))
+
+returns-5 : tie.Need-returns-5
+returns-5 c =
+    let a = c .before .before .before .before .before .before .before .before .before .args in
+    let at = c .before .before .before .c3 .given .0 .0 in
+    subst (λ (x : Cursor). Stepped (a .image .now) (a .s) (a .bytes .now) (a .masks .now) x Done) (sym (c .before .before .before .c3 .given .1))
+    (once-done (a .image .now) (a .s) (a .bytes .now) (a .masks .now) at (sym (c .before .match-at .ensures) ∙ c .if1 .left))
+
+pub next-place-spec : {M : Type 1} → statement M
+next-place-spec =
+    tie.close
+    (tie.spec
+    (λ c. search needs)
+    step-along-requires
+    (λ c. search needs)
+    (λ c κs. search needs)
+    (λ c. search needs)
+    add-t15
+    (λ c. search needs)
+    (λ c. search needs)
+    (λ c κs. search needs)
+    returns
+    (λ c. search needs)
+    returns-2
+    returns-3
+    returns-4
+    returns-5
+    (λ c. search needs))

@@ -1,0 +1,42 @@
+-- `refer_one`, case by case. Assumes nothing.
+use mathlib.Core.Path.{sym, _∙_}
+use Rattle.image.specs.View.{view}
+use Rattle.search.specs.note.ReferLaws.{refers-nowhere, refers-segment, refers-name}
+use borrow.Author.Needs.{needs}
+use Rattle.search.proofs.note.refer.refer_one.Statement.{statement}
+use Rattle.search.proofs.note.refer.refer_one.Tie as tie
+
+returns : tie.Need-returns
+returns c =
+    let a = c .before .before .before .before .before .before .before .before .before .before .args in
+    refers-nowhere (view (a .image .now) (a .s)) (a .rules) (a .position) (a .valid) (a .library .now) (a .segments .now) (a .n) (a .bytes .now) (a .masks .now) (a .r) (a .noted .now) (a .heads .now) (a .f)
+    (sym (c .before .before .target-of .ensures) ∙ c .enum-told .given .1)
+
+returns-2 : tie.Need-returns-2
+returns-2 c =
+    let a = c .before .before .before .before .before .before .before .before .before .before .before .before .before .before .before .args in
+    refers-segment (view (a .image .now) (a .s)) (a .rules) (a .position) (a .valid) (a .library .now) (a .segments .now) (a .n) (a .bytes .now) (a .masks .now) (a .r) (a .noted .now) (a .heads .now) (a .f)
+    (c .before .before .before .before .before .t .given .0 .0) (sym (c .before .before .before .before .before .before .before .target-of .ensures) ∙ c .before .before .before .before .before .t .given .1) (c .before .before .goal .given .0 .0) (c .before .before .goal .given .1) (c .is-match .result) (c .is-match .ensures)
+
+returns-3 : tie.Need-returns-3
+returns-3 c =
+    let a = c .before .before .before .before .before .before .before .before .before .before .before .before .before .before .before .before .before .before .before .before .before .args in
+    refers-name (view (a .image .now) (a .s)) (a .rules) (a .position) (a .valid) (a .library .now) (a .segments .now) (a .n) (a .bytes .now) (a .masks .now) (a .r) (a .noted .now) (a .heads .now) (a .f)
+    (c .before .before .before .before .before .before .before .before .before .before .before .t .given .0 .0) (sym (c .before .before .before .before .before .before .before .before .before .before .before .before .before .target-of .ensures) ∙ c .before .before .before .before .before .before .before .before .before .before .before .t .given .1) (c .before .before .before .before .before .before .before .before .goal2 .given .0 .0) (c .before .before .before .before .before .before .before .before .goal2 .given .1) (c .before .before .before .before .note-name .last .1 .1 .1 .1 .0) (c .before .before .before .before .note-name .last .1 .1 .1 .1 .1 .0) (c .before .before .before .before .note-name .result) (c .before .before .before .before .note-name .ensures)
+
+pub refer-one-spec : {M : Type 1} → statement M
+refer-one-spec =
+    tie.close
+    (tie.spec
+    (λ c κs. search needs)
+    (λ c. search needs)
+    (λ c. search needs)
+    returns
+    (λ c. search needs)
+    (λ c κs. search needs)
+    (λ c. search needs)
+    (λ c κs. search needs)
+    returns-2
+    (λ c. search needs)
+    (λ c. search needs)
+    returns-3)

@@ -1,0 +1,115 @@
+-- `search_all` goes from segment to segment. The invariant: whoever searches those that are left has searched all. Assumes nothing.
+use Prim.Native.Nat.{ℕ, _+_, _-_, _≤_}
+use mathlib.Core.Path.{_≡_, refl, sym, subst, _∙_}
+use mathlib.Core.List.{List}
+use native.Mathlib.Omega.{arith}
+use lib.ListN.{length}
+use Rattle.lent.specs.Lists.{joined, from}
+use Rattle.image.specs.View.{view}
+use Rattle.search_rules.specs.declared.Asked.{Asked}
+use Rattle.search.specs.declared.visit.Fills.{Fills}
+use Rattle.search.specs.visit.Visits.{Stored, stored, segmentsIn, Visits}
+use Rattle.search.specs.visit.VisitLaws.{matchesBy, all-by-number, next-number, no-number}
+use Rattle.search.specs.visit.Leading.{Leading}
+use Rattle.search.specs.visit.LeadingLaws.{leading-starts, leading-on, leading-ends}
+use Rattle.search.proofs.visit.all.search_all.Statement.{statement}
+use Rattle.search.proofs.visit.all.search_all.Tie as tie
+
+record Inv (cells : List ℕ) (asked : Asked) (library : List ℕ) (t : Stored) (n : ℕ) (placed₀ positions₀ noted₀ goals₀ : List ℕ) (f₀ : Fills) (placed positions noted goals : List ℕ) (f : Fills) (i : ℕ) : Type 0 where
+  within : i ≤ n
+  placed-long : length placed ≡ length placed₀
+  positions-long : length positions ≡ length positions₀
+  noted-long : length noted ≡ length noted₀
+  goals-long : length goals ≡ length goals₀
+  leads : Leading cells asked library (segmentsIn t n) (joined (matchesBy cells t) (from 0 (n - 0))) placed₀ positions₀ noted₀ goals₀ f₀
+      (joined (matchesBy cells t) (from i (n - i))) placed positions noted goals f
+
+abbrev Inv-loop : tie.InvT-loop
+Inv-loop image s asked library segments n references symbols bytes masks first next placed₀ positions₀ noted₀ goals₀ f₀ i₀ placed positions noted goals f i = Inv (view image s) asked library (stored segments references symbols bytes masks) n placed₀ positions₀ noted₀ goals₀ f₀ placed positions noted goals f i
+
+abbrev μ-loop : tie.MeasureT-loop
+μ-loop image s asked library segments n references symbols bytes masks first next placed₀ positions₀ noted₀ goals₀ f₀ i₀ placed positions noted goals f i = n - i
+
+abbrev rows : tie.Start Inv-loop μ-loop → Stored
+rows c = stored (c .args .segments .now) (c .args .references .now) (c .args .symbols .now) (c .args .bytes .now) (c .args .masks .now)
+
+abbrev seen : tie.Start Inv-loop μ-loop → List ℕ
+seen c = view (c .args .image .now) (c .args .s)
+
+loop-holds : tie.Need-loop-holds Inv-loop μ-loop
+loop-holds c =
+    let a = c .before .before .before .before .before .before .before .before .before .before .before .before .before .args in
+    record {
+      within = omega arith;
+      placed-long = refl;
+      positions-long = refl;
+      noted-long = refl;
+      goals-long = refl;
+      leads = leading-starts (seen (c .before .before .before .before .before .before .before .before .before .before .before .before .before)) (a .asked) (a .library .now) (segmentsIn (rows (c .before .before .before .before .before .before .before .before .before .before .before .before .before)) (a .n)) (joined (matchesBy (seen (c .before .before .before .before .before .before .before .before .before .before .before .before .before)) (rows (c .before .before .before .before .before .before .before .before .before .before .before .before .before))) (from 0 (a .n - 0))) (a .placed .now) (a .positions .now) (a .noted .now) (a .goals .now) (a .before);
+    }
+
+search-segment-requires : tie.Need-search-segment-requires Inv-loop μ-loop
+search-segment-requires c κs = c .before .before .before .before .before .before .before .before .before .before .before .before .before .before .before .before .before .before .before .pre
+
+add-i : tie.Need-add-i Inv-loop μ-loop
+add-i c = omega (arith, c .before .before .before .before .before .before .before .before .before .before .before .before .before .loop-test .taken, c .before .before .before .before .before .before .before .before .before .before .before .before .before .before .before .before .before .before .before .before .before .before .before .before .before .before .before .before .fits)
+
+loop-less : tie.Need-loop-less Inv-loop μ-loop
+loop-less c = omega (arith, c .before .before .before .before .before .before .before .before .before .before .before .before .before .loop-test .taken)
+
+loop-again : tie.Need-loop-again Inv-loop μ-loop
+loop-again c =
+    let a = c .before .before .before .before .before .before .before .before .before .before .before .before .before .before .before .before .before .before .before .before .before .before .before .before .before .before .before .before .args in
+    let l = c .before .before .before .before .before .before .before .before .before .before .before .before .before .before .loop in
+    let v = c .before .before .before .before .before .before .before .before .search-segment in
+    let more = joined (matchesBy (seen (c .before .before .before .before .before .before .before .before .before .before .before .before .before .before .before .before .before .before .before .before .before .before .before .before .before .before .before .before)) (rows (c .before .before .before .before .before .before .before .before .before .before .before .before .before .before .before .before .before .before .before .before .before .before .before .before .before .before .before .before))) in
+    record {
+      within = omega (arith, c .before .before .before .before .before .before .before .before .before .before .before .before .before .loop-test .taken);
+      placed-long = c .before .before .before .before .before .before .before .placed .given ∙ l .inv .placed-long;
+      positions-long = c .before .before .before .before .before .positions .given ∙ l .inv .positions-long;
+      noted-long = c .before .before .before .noted .given ∙ l .inv .noted-long;
+      goals-long = c .before .goals .given ∙ l .inv .goals-long;
+      leads =
+          leading-on (seen (c .before .before .before .before .before .before .before .before .before .before .before .before .before .before .before .before .before .before .before .before .before .before .before .before .before .before .before .before)) (a .asked) (a .library .now) (segmentsIn (rows (c .before .before .before .before .before .before .before .before .before .before .before .before .before .before .before .before .before .before .before .before .before .before .before .before .before .before .before .before)) (a .n)) (more (from 0 (a .n - 0))) (a .placed .now) (a .positions .now) (a .noted .now) (a .goals .now) (a .before) {left = more (from (l .i) (a .n - l .i))} (l .placed) (l .positions) (l .noted) (l .goals) (l .f) (l .inv .leads)
+          (matchesBy (seen (c .before .before .before .before .before .before .before .before .before .before .before .before .before .before .before .before .before .before .before .before .before .before .before .before .before .before .before .before)) (rows (c .before .before .before .before .before .before .before .before .before .before .before .before .before .before .before .before .before .before .before .before .before .before .before .before .before .before .before .before)) (l .i)) (more (from (l .i + 1) (a .n - (l .i + 1)))) (v .last .1 .1 .1 .1 .1 .1 .1 .1 .1 .1 .1 .1 .1 .0) (v .last .1 .1 .1 .1 .1 .1 .1 .1 .1 .1 .1 .1 .1 .1 .0) (v .last .1 .1 .1 .1 .1 .1 .1 .1 .1 .1 .1 .1 .1 .1 .1 .0) (v .last .1 .1 .1 .1 .1 .1 .1 .1 .1 .1 .1 .1 .1 .1 .1 .1 .0) (v .result)
+          (next-number (seen (c .before .before .before .before .before .before .before .before .before .before .before .before .before .before .before .before .before .before .before .before .before .before .before .before .before .before .before .before)) (rows (c .before .before .before .before .before .before .before .before .before .before .before .before .before .before .before .before .before .before .before .before .before .before .before .before .before .before .before .before)) (l .i) (a .n) (omega (arith, c .before .before .before .before .before .before .before .before .before .before .before .before .before .loop-test .taken)))
+          (v .ensures);
+    }
+
+same-length : tie.Need-same-length Inv-loop μ-loop
+same-length c = c .before .loop .inv .placed-long
+
+same-length-2 : tie.Need-same-length-2 Inv-loop μ-loop
+same-length-2 c = c .before .loop .inv .positions-long
+
+same-length-3 : tie.Need-same-length-3 Inv-loop μ-loop
+same-length-3 c = c .before .loop .inv .noted-long
+
+same-length-4 : tie.Need-same-length-4 Inv-loop μ-loop
+same-length-4 c = c .before .loop .inv .goals-long
+
+returns : tie.Need-returns Inv-loop μ-loop
+returns c =
+    let a = c .before .before .before .before .before .before .before .before .before .before .before .before .before .before .before .args in
+    let l = c .before .loop in
+    subst (λ ms. Visits (seen (c .before .before .before .before .before .before .before .before .before .before .before .before .before .before .before)) (a .asked) (a .library .now) (segmentsIn (rows (c .before .before .before .before .before .before .before .before .before .before .before .before .before .before .before)) (a .n)) ms (a .placed .now) (a .positions .now) (a .noted .now) (a .goals .now) (a .before) (l .placed) (l .positions) (l .noted) (l .goals) (l .f))
+    (sym (all-by-number (seen (c .before .before .before .before .before .before .before .before .before .before .before .before .before .before .before)) (rows (c .before .before .before .before .before .before .before .before .before .before .before .before .before .before .before)) (a .n)))
+    (leading-ends (seen (c .before .before .before .before .before .before .before .before .before .before .before .before .before .before .before)) (a .asked) (a .library .now) (segmentsIn (rows (c .before .before .before .before .before .before .before .before .before .before .before .before .before .before .before)) (a .n)) (joined (matchesBy (seen (c .before .before .before .before .before .before .before .before .before .before .before .before .before .before .before)) (rows (c .before .before .before .before .before .before .before .before .before .before .before .before .before .before .before))) (from 0 (a .n - 0))) (a .placed .now) (a .positions .now) (a .noted .now) (a .goals .now) (a .before) {left = joined (matchesBy (seen (c .before .before .before .before .before .before .before .before .before .before .before .before .before .before .before)) (rows (c .before .before .before .before .before .before .before .before .before .before .before .before .before .before .before))) (from (l .i) (a .n - l .i))} (l .placed) (l .positions) (l .noted) (l .goals) (l .f) (l .inv .leads)
+    (no-number (seen (c .before .before .before .before .before .before .before .before .before .before .before .before .before .before .before)) (rows (c .before .before .before .before .before .before .before .before .before .before .before .before .before .before .before)) (l .i) (a .n) (omega (arith, c .loop-test .left))))
+
+pub search-all-spec : {M : Type 1} → statement M
+search-all-spec =
+    tie.close
+    (tie.spec
+    Inv-loop
+    μ-loop
+    loop-holds
+    search-segment-requires
+    add-i
+    loop-less
+    loop-again
+    same-length
+    same-length-2
+    same-length-3
+    same-length-4
+    returns)

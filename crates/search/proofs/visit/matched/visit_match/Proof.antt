@@ -1,0 +1,84 @@
+-- `visit_match`: the references are gone over, and the symbols placed unless a check keeps them out. Assumes nothing.
+use Prim.Native.Nat.{ℕ}
+use mathlib.Core.Path.{sym, subst}
+use mathlib.Core.List.{List, map}
+use lib.ListN.{length}
+use Rattle.lent.specs.Lists.{one}
+use Rattle.image.specs.View.{view}
+use Rattle.image.specs.ViewLaws.{view-length}
+use Rattle.segments.specs.SegmentLayouts.{symbolLayout}
+use Rattle.tables.specs.by_name.Tables.{table, Takes}
+use Rattle.tables.specs.by_name.TakeLaws.{takes-none}
+use Rattle.segments.specs.recalled.Recall.{rowsOf}
+use Rattle.search_rules.specs.Search.{place, note}
+use Rattle.search_rules.specs.SearchRows.{placedSheet, notedSheet}
+use Rattle.search.specs.place.Placing.{placingOf}
+use Rattle.search.specs.declared.visit.Fills.{Fills}
+use Rattle.search.specs.visit.Visits.{Stored, stored, segmentsIn, Visits, matchOf}
+use Rattle.search.specs.visit.VisitLaws.{match-notes, match-fails, match-passes}
+use borrow.Author.Needs.{needs}
+use Rattle.search.proofs.visit.matched.visit_match.Statement.{statement}
+use Rattle.search.proofs.visit.matched.visit_match.Tie as tie
+
+-- where the segments are stored, and what is seen
+abbrev rows : tie.Start → Stored
+rows c = stored (c .args .segments .now) (c .args .references .now) (c .args .symbols .now) (c .args .bytes .now) (c .args .masks .now)
+
+abbrev seen : tie.Start → List ℕ
+seen c = view (c .args .image .now) (c .args .s)
+
+-- what the match leaves in these lists
+abbrev Left : tie.Start → List ℕ → List ℕ → List ℕ → List ℕ → Fills → Type 0
+Left c placed positions noted goals f =
+    let a = c .args in
+    Visits (seen c) (a .asked) (a .library .now) (segmentsIn (rows c) (a .n)) (one (matchOf (seen c) (a .asked) (a .library .now) (rows c) (a .n) (a .number) (a .row) (a .at)))
+    (a .placed .now) (a .positions .now) (a .noted .now) (a .goals .now) (a .f) placed positions noted goals f
+
+returns : tie.Need-returns
+returns c =
+    let a = c .before .before .before .before .before .before .before .before .before .before .before .before .before .before .before .before .before .before .before .before .before .before .before .before .args in
+    let q = c .before .before .before .before .before .before .before .before .refer-all in
+    λ known. subst (Left (c .before .before .before .before .before .before .before .before .before .before .before .before .before .before .before .before .before .before .before .before .before .before .before .before) (a .placed .now) (a .positions .now) (q .last .1 .1 .1 .1 .1 .1 .1 .1 .1 .1 .1 .1 .0) (q .last .1 .1 .1 .1 .1 .1 .1 .1 .1 .1 .1 .1 .1 .0)) (sym (c .fills .ensures)) record {
+      places =
+          subst (λ xs. Takes placedSheet (a .library .now) (place (a .library .now) (length (seen (c .before .before .before .before .before .before .before .before .before .before .before .before .before .before .before .before .before .before .before .before .before .before .before .before)))) xs (table (a .placed .now) (a .positions .now) (a .f .placed)) (table (a .placed .now) (a .positions .now) (a .f .placed)))
+          (match-fails (seen (c .before .before .before .before .before .before .before .before .before .before .before .before .before .before .before .before .before .before .before .before .before .before .before .before)) (a .asked) (a .library .now) (rows (c .before .before .before .before .before .before .before .before .before .before .before .before .before .before .before .before .before .before .before .before .before .before .before .before)) (a .n) (a .number) (a .row) (a .valid) (a .at) known (q .result .holds) (c .before .before .keeps-out .result) (q .ensures .holds (a .references .now) (a .symbols .now)) (c .before .before .keeps-out .ensures) (c .before .if1 .taken))
+          (takes-none placedSheet (a .library .now) (place (a .library .now) (length (seen (c .before .before .before .before .before .before .before .before .before .before .before .before .before .before .before .before .before .before .before .before .before .before .before .before)))) (table (a .placed .now) (a .positions .now) (a .f .placed)));
+      notes =
+          subst (λ xs. Takes notedSheet (a .library .now) (note (a .library .now)) xs (table (a .noted .now) (a .goals .now) (a .f .noted)) (table (q .last .1 .1 .1 .1 .1 .1 .1 .1 .1 .1 .1 .1 .0) (q .last .1 .1 .1 .1 .1 .1 .1 .1 .1 .1 .1 .1 .1 .0) (q .result .fill)))
+          (match-notes (seen (c .before .before .before .before .before .before .before .before .before .before .before .before .before .before .before .before .before .before .before .before .before .before .before .before)) (a .asked) (a .library .now) (rows (c .before .before .before .before .before .before .before .before .before .before .before .before .before .before .before .before .before .before .before .before .before .before .before .before)) (a .n) (a .number) (a .row) (a .valid) (a .at) known)
+          (q .ensures .notes);
+    }
+
+returns-2 : tie.Need-returns-2
+returns-2 c =
+    let a = c .before .before .before .before .before .before .before .before .before .before .before .before .before .before .before .before .before .before .before .before .before .before .before .before .before .before .before .before .before .before .before .args in
+    let q = c .before .before .before .before .before .before .before .before .before .before .before .before .before .before .before .refer-all in
+    let p = c .before .before .before .before .before .place-symbols in
+    λ known. subst (Left (c .before .before .before .before .before .before .before .before .before .before .before .before .before .before .before .before .before .before .before .before .before .before .before .before .before .before .before .before .before .before .before) (p .last .1 .1 .1 .1 .1 .1 .1 .0) (p .last .1 .1 .1 .1 .1 .1 .1 .1 .0) (q .last .1 .1 .1 .1 .1 .1 .1 .1 .1 .1 .1 .1 .0) (q .last .1 .1 .1 .1 .1 .1 .1 .1 .1 .1 .1 .1 .1 .0)) (sym (c .fills2 .ensures)) record {
+      places =
+          subst (λ xs. Takes placedSheet (a .library .now) (place (a .library .now) (length (seen (c .before .before .before .before .before .before .before .before .before .before .before .before .before .before .before .before .before .before .before .before .before .before .before .before .before .before .before .before .before .before .before)))) xs (table (a .placed .now) (a .positions .now) (a .f .placed)) (table (p .last .1 .1 .1 .1 .1 .1 .1 .0) (p .last .1 .1 .1 .1 .1 .1 .1 .1 .0) (p .result)))
+          (match-passes (seen (c .before .before .before .before .before .before .before .before .before .before .before .before .before .before .before .before .before .before .before .before .before .before .before .before .before .before .before .before .before .before .before)) (a .asked) (a .library .now) (rows (c .before .before .before .before .before .before .before .before .before .before .before .before .before .before .before .before .before .before .before .before .before .before .before .before .before .before .before .before .before .before .before)) (a .n) (a .number) (a .row) (a .valid) (a .at) known (q .result .holds) (c .before .before .before .before .before .before .before .before .before .keeps-out .result) (q .ensures .holds (a .references .now) (a .symbols .now)) (c .before .before .before .before .before .before .before .before .before .keeps-out .ensures) (c .before .before .before .before .before .before .before .before .if1 .left))
+          (subst (λ end. Takes placedSheet (a .library .now) (place (a .library .now) end) (map (placingOf (a .number) (a .at) (a .valid)) (rowsOf symbolLayout (a .symbols .now) (a .row .symbols))) (table (a .placed .now) (a .positions .now) (a .f .placed)) (table (p .last .1 .1 .1 .1 .1 .1 .1 .0) (p .last .1 .1 .1 .1 .1 .1 .1 .1 .0) (p .result))) (sym (view-length (a .image .now) (a .s))) (p .ensures));
+      notes =
+          subst (λ xs. Takes notedSheet (a .library .now) (note (a .library .now)) xs (table (a .noted .now) (a .goals .now) (a .f .noted)) (table (q .last .1 .1 .1 .1 .1 .1 .1 .1 .1 .1 .1 .1 .0) (q .last .1 .1 .1 .1 .1 .1 .1 .1 .1 .1 .1 .1 .1 .0) (q .result .fill)))
+          (match-notes (seen (c .before .before .before .before .before .before .before .before .before .before .before .before .before .before .before .before .before .before .before .before .before .before .before .before .before .before .before .before .before .before .before)) (a .asked) (a .library .now) (rows (c .before .before .before .before .before .before .before .before .before .before .before .before .before .before .before .before .before .before .before .before .before .before .before .before .before .before .before .before .before .before .before)) (a .n) (a .number) (a .row) (a .valid) (a .at) known)
+          (q .ensures .notes);
+    }
+
+pub visit-match-spec : {M : Type 1} → statement M
+visit-match-spec =
+    tie.close
+    (tie.spec
+    (λ c κs. search needs)
+    (λ c κs. search needs)
+    (λ c κs. search needs)
+    (λ c. search needs)
+    (λ c. search needs)
+    returns
+    (λ c κs. search needs)
+    (λ c κs. search needs)
+    (λ c. search needs)
+    (λ c. search needs)
+    (λ c. search needs)
+    (λ c. search needs)
+    returns-2)

@@ -1,0 +1,70 @@
+-- What the search comes to: the answer, and what is left in the memory that was lent to it.
+use Prim.Native.Nat.{ℕ}
+use mathlib.Core.Bool.{Bool, _||_}
+use mathlib.Core.List.{List, [], _∷_}
+use mathlib.Core.Option.{Option, none, some}
+use lib.Dec.{leb, ltb}
+use lib.ListN.{length}
+use Rattle.lent.specs.declared.refusal.Refusal.{Refusal}
+use Rattle.lent.specs.declared.refusal.Refusal.the-variants.{ImageTooLong, TooFewRows}
+use Rattle.lent.specs.Choice.{if_then_else_, when, leading}
+use Rattle.lent.specs.Refusals.{refusalNumber}
+use Rattle.lent.specs.Rows.{zeros, padded, tooMany}
+use Rattle.search_rules.specs.declared.Asked.{Asked}
+use Rattle.search_rules.specs.Search.{Placing, Noting, placed, noted}
+use Rattle.search_rules.specs.SearchRows.{placedWidth, notedWidth, placedNumbers, notedNumbers}
+use Rattle.search.specs.declared.Searched.{Searched}
+use Rattle.search.specs.declared.Searched.the-variants.{Done, Refused}
+use Rattle.search.specs.visit.Visits.{Stored, segmentsIn}
+
+-- the lent lists: those in which the segments are stored, and those of the search's rows
+pub record Lists : Type 0 where
+  pub stored : Stored
+  pub placed : List ℕ
+  pub noted : List ℕ
+
+pub record Outcome : Type 0 where
+  pub answer : Searched
+  pub left : Lists
+
+-- refusal 9: more rows than were lent
+abbrev pub tooFew : Lists → List Placing → List Noting → Bool
+tooFew l p n = tooMany placedWidth (l .placed) (length p) || tooMany notedWidth (l .noted) (length n)
+
+-- the refusals in their order, of which the first counts; what is seen is as long as the image
+unfoldable pub refusalOf : List ℕ → Lists → List Placing → List Noting → Option Refusal
+refusalOf cells l p n = leading (when (ltb 65536 (length cells)) ImageTooLong ∷ when (tooFew l p n) TooFewRows ∷ [])
+
+-- lent memory set to zero; and filled with rows, the rest zero
+unfoldable pub zeroed : Lists → Lists
+zeroed l = record {
+  stored = record {
+    segments = zeros (length (l .stored .segments));
+    references = zeros (length (l .stored .references));
+    symbols = zeros (length (l .stored .symbols));
+    bytes = zeros (length (l .stored .bytes));
+    masks = zeros (length (l .stored .masks));
+  };
+  placed = zeros (length (l .placed));
+  noted = zeros (length (l .noted));
+}
+
+unfoldable pub filledWith : List ℕ → List Placing → List Noting → Lists → Lists
+filledWith library p n l = record {
+  stored = l .stored;
+  placed = padded (length (l .placed)) (placedNumbers library p);
+  noted = padded (length (l .noted)) (notedNumbers library n);
+}
+
+-- a refusal up to 8 writes nothing, 9 sets all that was lent to zero
+abbrev pub outcomeOf : List ℕ → Option Refusal → List Placing → List Noting → Lists → Outcome
+outcomeOf library none p n l = record { answer = Done (record { placed = length p; noted = length n }); left = filledWith library p n l }
+outcomeOf library (some r) p n l = record { answer = Refused r; left = if leb (refusalNumber r) 8 then l else zeroed l }
+
+-- THE SEARCH of what is seen of an image for the first n segments that are stored
+unfoldable pub searched : List ℕ → Asked → List ℕ → ℕ → Lists → Outcome
+searched cells a library n l =
+    let gs = segmentsIn (l .stored) n in
+    let p = placed library cells a gs in
+    let q = noted library cells a gs in
+    outcomeOf library (refusalOf cells l p q) p q l

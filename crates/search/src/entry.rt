@@ -1,0 +1,84 @@
+// The entry point of the search.
+ghost use mathlib.Core.Path.{_≡_};
+ghost use Rattle.image.specs.View.{view};
+ghost use Rattle.search.specs.visit.Visits.{stored};
+ghost use Rattle.search.specs.Outcome.{zeroed, searched};
+use crate::Rows;
+use crate::Searched;
+use crate::fill::fill_rows;
+use crate::fill::lacks_room;
+use image::Stretch;
+use lent::refusal::Refusal;
+use lent::rows::clear;
+use lent::rows::clear_bytes;
+use search_rules::Asked;
+
+// All that was lent is set to zero.
+pub fn clear_all(
+    segments: &mut [u64],
+    references: &mut [u64],
+    symbols: &mut [u64],
+    bytes: &mut [u8],
+    masks: &mut [u8],
+    placed: &mut [u64],
+    noted: &mut [u64],
+)
+    ensures { λ _. ⌜ record { stored = stored (now (segments .exit)) (now (references .exit)) (now (symbols .exit)) (now (bytes .exit)) (now (masks .exit)); placed = now (placed .exit); noted = now (noted .exit) }
+        ≡ zeroed (record { stored = stored (now (segments .entry)) (now (references .entry)) (now (symbols .entry)) (now (bytes .entry)) (now (masks .entry)); placed = now (placed .entry); noted = now (noted .entry) }) ⌝ }
+{
+    clear(segments);
+    clear(references);
+    clear(symbols);
+    clear_bytes(bytes);
+    clear_bytes(masks);
+    clear(placed);
+    clear(noted);
+}
+
+// Searches the image, with a stretch withheld, for the first n segments that are stored, and writes rows of placed symbols and of
+// noted names. An image that is too long is refused, and nothing is written; too few rows are refused, and all that was lent is zero.
+pub fn search(
+    image: &[u8],
+    s: Stretch,
+    asked: Asked,
+    library: &[u8],
+    n: usize,
+    segments: &mut [u64],
+    references: &mut [u64],
+    symbols: &mut [u64],
+    bytes: &mut [u8],
+    masks: &mut [u8],
+    placed: &mut [u64],
+    noted: &mut [u64],
+) -> Searched
+    ensures { λ r. ⌜ record { answer = r; left = record { stored = stored (now (segments .exit)) (now (references .exit)) (now (symbols .exit)) (now (bytes .exit)) (now (masks .exit)); placed = now (placed .exit); noted = now (noted .exit) } }
+        ≡ searched (view (now (image .entry)) s) asked (now (library .entry)) n (record { stored = stored (now (segments .entry)) (now (references .entry)) (now (symbols .entry)) (now (bytes .entry)) (now (masks .entry)); placed = now (placed .entry); noted = now (noted .entry) }) ⌝ }
+{
+    if 65536 < image.len() {
+        return Searched::Refused(Refusal::ImageTooLong);
+    }
+    let f = fill_rows(
+        image,
+        s,
+        asked,
+        library,
+        segments,
+        n,
+        references,
+        symbols,
+        bytes,
+        masks,
+        placed,
+        noted,
+    );
+    if lacks_room(f) {
+        clear_all(segments, references, symbols, bytes, masks, placed, noted);
+        return Searched::Refused(Refusal::TooFewRows);
+    }
+    let placings = f.placed;
+    let notings = f.noted;
+    Searched::Done(Rows {
+        placed: placings.rows,
+        noted: notings.rows,
+    })
+}

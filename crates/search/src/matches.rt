@@ -1,0 +1,119 @@
+// The matches of a pattern, one after another.
+ghost use Rattle.search.specs.byte_index.Index.{Heads};
+ghost use Rattle.search.specs.matches.Cursor.{Walk, Search, Started, Stepped};
+ghost use Rattle.search.specs.declared.matches.Cursor.the-variants.{Along};
+use crate::byte_index::anchor::anchor;
+use image::Found;
+use image::Seat;
+use image::Stretch;
+use image::match_at;
+use image::next_match;
+
+// Where a search stands: at a link of the byte at `anchor`, at a place from which on each is tried, at the one place to try, or
+// past the last.
+pub enum Cursor {
+    Along { anchor: usize, link: u32 },
+    Plain(usize),
+    Once(usize),
+    Over,
+}
+
+// A match, and where the search goes on.
+pub enum Next {
+    At { at: usize, rest: Cursor },
+    Done,
+}
+
+// How many places are too many for an anchor: more than half of the image's, or more than those at which so long a pattern fits.
+// It is quicker then to try each place.
+fn most_places(image: usize, pattern: usize) -> usize {
+    if image < pattern {
+        return 0;
+    }
+    let fit = image - pattern;
+    if fit < image / 2 + 1 {
+        return fit;
+    }
+    image / 2 + 1
+}
+
+// A search with all matches before it.
+pub fn start(image: &[u8], seat: Seat, bytes: &[u8], masks: &[u8], first: &[u32]) -> Cursor
+    requires { ⌜ Heads (now image) (now first) ⌝ }
+    ensures { λ r. ⌜ Started (now (image .entry)) seat (now (bytes .entry)) (now (masks .entry)) r ⌝ }
+{
+    match seat {
+        Seat::Anywhere => match anchor(bytes, masks, first, most_places(image.len(), bytes.len())) {
+            Found::At(place) => Cursor::Along {
+                anchor: place,
+                link: first[bytes[place] as usize],
+            },
+            Found::Nothing => Cursor::Plain(0),
+        },
+        Seat::Only(at) => Cursor::Once(at),
+    }
+}
+
+// The next match along the links of the anchor's byte.
+fn step_along(
+    image: &[u8],
+    s: Stretch,
+    bytes: &[u8],
+    masks: &[u8],
+    next: &[u32],
+    anchor: usize,
+    from: u32,
+) -> Next
+    requires { ⌜ Walk (now image) (now bytes) (now masks) (now next) anchor from ⌝ }
+    ensures { λ r. ⌜ Stepped (now (image .entry)) s (now (bytes .entry)) (now (masks .entry)) (Along anchor from) r ⌝ }
+{
+    let mut link = from;
+    while link != 0 {
+        let place = link as usize - 1;
+        link = next[place];
+        if anchor <= place {
+            let at = place - anchor;
+            if match_at(image, s, bytes, masks, at) {
+                return Next::At {
+                    at,
+                    rest: Cursor::Along { anchor, link },
+                };
+            }
+        }
+    }
+    Next::Done
+}
+
+// The next match, with a stretch withheld.
+pub fn next_place(
+    image: &[u8],
+    s: Stretch,
+    bytes: &[u8],
+    masks: &[u8],
+    next: &[u32],
+    c: Cursor,
+) -> Next
+    requires { ⌜ Search (now image) (now bytes) (now masks) (now next) c ⌝ }
+    ensures { λ r. ⌜ Stepped (now (image .entry)) s (now (bytes .entry)) (now (masks .entry)) c r ⌝ }
+{
+    match c {
+        Cursor::Along { anchor, link } => step_along(image, s, bytes, masks, next, anchor, link),
+        Cursor::Plain(from) => match next_match(image, s, bytes, masks, from) {
+            Found::At(at) => Next::At {
+                at,
+                rest: Cursor::Plain(at + 1),
+            },
+            Found::Nothing => Next::Done,
+        },
+        Cursor::Once(at) => {
+            if match_at(image, s, bytes, masks, at) {
+                return Next::At {
+                    at,
+                    rest: Cursor::Over,
+                };
+            }
+            Next::Done
+        }
+        Cursor::Over => Next::Done,
+    }
+}

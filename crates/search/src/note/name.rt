@@ -1,0 +1,92 @@
+// A name noted at a target.
+ghost use mathlib.Core.Path.{_≡_};
+ghost use lib.ListN.{length};
+ghost use Rattle.lent.specs.Rows.{putRow};
+ghost use Rattle.tables.specs.fill.Filling.{oneMore, putMore};
+ghost use Rattle.search_rules.specs.SearchRows.{notedLayout, notedCells};
+ghost use Rattle.search_rules.specs.SearchLayouts.{notedAt};
+ghost use Rattle.search.specs.note.Noting.{validated, NotesOne};
+use crate::rows::noted_at;
+use crate::rows::put_noted;
+use lent::part::Part;
+use search_rules::Noted;
+use tables::by_name::bucket;
+use tables::by_name::find;
+use tables::by_name::head_at;
+use tables::by_name::set_heads;
+use tables::fill::Fill;
+use tables::fill::one_more;
+
+// One row more, behind those before, if there is room.
+fn append_noted(m: &mut [u64], f: Fill, row: Noted) -> Fill
+    ensures { λ r. ⌜ (now (m .exit) ≡ putMore notedLayout f row (now (m .entry))) × (r ≡ oneMore f 6 (length (now (m .entry)))) ⌝ }
+{
+    let next = one_more(f, 6, m.len());
+    if next.over {
+        return next;
+    }
+    put_noted(m, f.rows, row);
+    next
+}
+
+// A row that a valid match notes once more.
+fn validate(m: &mut [u64], i: usize)
+    ensures { λ _. ⌜ now (m .exit) ≡ putRow 6 (now (m .entry)) i (notedCells (validated (notedAt (now (m .entry)) i))) ⌝ }
+{
+    let row = noted_at(m, i);
+    let name = row.name;
+    put_noted(
+        m,
+        i,
+        Noted {
+            target: row.target,
+            name,
+            valid: true,
+            link: row.link,
+            alike: row.alike,
+        },
+    );
+}
+
+// A name is noted at a target once, and is valid if any match that noted it was.
+pub fn note_name(
+    library: &[u8],
+    target: u64,
+    name: Part,
+    valid: bool,
+    noted: &mut [u64],
+    heads: &mut [u64],
+    f: Fill,
+) -> Fill
+    ensures { λ r. ⌜ NotesOne (now (library .entry)) target name valid (now (noted .entry)) (now (heads .entry)) f (now (noted .exit)) (now (heads .exit)) r ⌝ }
+{
+    if f.over {
+        return f;
+    }
+    let shared = bucket(library, target, name);
+    let alike = head_at(heads, 65536 + shared);
+    let there = find(library, noted, 6, alike, target, name);
+    if there != 0 {
+        if valid {
+            validate(noted, there - 1);
+        }
+        return f;
+    }
+    let link = head_at(heads, (target % 65536) as usize);
+    let more = append_noted(
+        noted,
+        f,
+        Noted {
+            target,
+            name,
+            valid,
+            link,
+            alike,
+        },
+    );
+    if more.over {
+        return more;
+    }
+    set_heads(heads, target, shared, more.rows);
+    more
+}

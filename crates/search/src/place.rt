@@ -1,0 +1,113 @@
+// Symbols of a match, placed in lent memory.
+ghost use mathlib.Core.Path.{_≡_};
+ghost use lib.ListN.{length};
+ghost use Rattle.tables.specs.fill.Filling.{oneMore, putMore};
+ghost use Rattle.search_rules.specs.SearchRows.{placedLayout};
+ghost use Rattle.search.specs.place.Placing.{PlacesOne, PlacesAll};
+use crate::rows::put_placed;
+use lent::part::Part;
+use search_rules::Placed;
+use segments::SegmentNumber;
+use segments::Symbol;
+use segments::recalled::lies_within;
+use segments::rows::symbol_at;
+use tables::by_name::bucket;
+use tables::by_name::find;
+use tables::by_name::head_at;
+use tables::by_name::set_heads;
+use tables::fill::Fill;
+use tables::fill::one_more;
+
+// One row more, behind those before, if there is room.
+fn append_placed(m: &mut [u64], f: Fill, row: Placed) -> Fill
+    ensures { λ r. ⌜ (now (m .exit) ≡ putMore placedLayout f row (now (m .entry))) × (r ≡ oneMore f 8 (length (now (m .entry)))) ⌝ }
+{
+    let next = one_more(f, 8, m.len());
+    if next.over {
+        return next;
+    }
+    put_placed(m, f.rows, row);
+    next
+}
+
+// A symbol of a match at `found`, in an image of `end` bytes. It is omitted at or past the end, and where its name stands already.
+pub fn place_symbol(
+    library: &[u8],
+    end: usize,
+    number: SegmentNumber,
+    found: usize,
+    valid: bool,
+    y: Symbol,
+    placed: &mut [u64],
+    heads: &mut [u64],
+    f: Fill,
+) -> Fill
+    ensures { λ r. ⌜ PlacesOne (now (library .entry)) end number found valid y (now (placed .entry)) (now (heads .entry)) f (now (placed .exit)) (now (heads .exit)) r ⌝ }
+{
+    if f.over {
+        return f;
+    }
+    if end <= found {
+        return f;
+    }
+    if end - found <= y.offset {
+        return f;
+    }
+    let position = found + y.offset;
+    let key = position as u64;
+    let name = y.name;
+    let shared = bucket(library, key, name);
+    let alike = head_at(heads, 65536 + shared);
+    if find(library, placed, 8, alike, key, name) != 0 {
+        return f;
+    }
+    let link = head_at(heads, position % 65536);
+    let more = append_placed(
+        placed,
+        f,
+        Placed {
+            position,
+            name,
+            valid,
+            segment: number,
+            found,
+            link,
+            alike,
+        },
+    );
+    if more.over {
+        return more;
+    }
+    set_heads(heads, key, shared, more.rows);
+    more
+}
+
+// The symbols of a part of the rows, in their order.
+pub fn place_symbols(
+    library: &[u8],
+    end: usize,
+    number: SegmentNumber,
+    found: usize,
+    valid: bool,
+    symbols: &[u64],
+    part: Part,
+    placed: &mut [u64],
+    heads: &mut [u64],
+    before: Fill,
+) -> Fill
+    ensures { λ r. ⌜ PlacesAll (now (library .entry)) end number found valid (now (symbols .entry)) part (now (placed .entry)) (now (heads .entry)) before (now (placed .exit)) (now (heads .exit)) r ⌝ }
+{
+    let mut f = before;
+    let at = part.at;
+    let len = part.len;
+    if !lies_within(part, symbols.len() / 3) {
+        return f;
+    }
+    let mut k = 0;
+    while k < len {
+        let y = symbol_at(symbols, at + k);
+        f = place_symbol(library, end, number, found, valid, y, placed, heads, f);
+        k += 1;
+    }
+    f
+}

@@ -1,0 +1,59 @@
+// All segments, in their order.
+ghost use Rattle.image.specs.View.{view};
+ghost use Rattle.search.specs.byte_index.Index.{Indexed};
+ghost use Rattle.search.specs.visit.Visits.{stored, VisitsAll};
+use crate::visit::Fills;
+use crate::visit::segment::search_segment;
+use image::Stretch;
+use search_rules::Asked;
+
+pub fn search_all(
+    image: &[u8],
+    s: Stretch,
+    asked: Asked,
+    library: &[u8],
+    segments: &[u64],
+    n: usize,
+    references: &[u64],
+    symbols: &[u64],
+    bytes: &[u8],
+    masks: &[u8],
+    first: &[u32],
+    next: &[u32],
+    placed: &mut [u64],
+    positions: &mut [u64],
+    noted: &mut [u64],
+    goals: &mut [u64],
+    before: Fills,
+) -> Fills
+    requires { ⌜ Indexed (now image) (now first) (now next) ⌝ }
+    ensures { λ r. ⌜ VisitsAll (view (now (image .entry)) s) asked (now (library .entry)) (stored (now (segments .entry)) (now (references .entry)) (now (symbols .entry)) (now (bytes .entry)) (now (masks .entry))) n
+        (now (placed .entry)) (now (positions .entry)) (now (noted .entry)) (now (goals .entry)) before (now (placed .exit)) (now (positions .exit)) (now (noted .exit)) (now (goals .exit)) r ⌝ }
+{
+    let mut f = before;
+    let mut i = 0;
+    while i < n {
+        f = search_segment(
+            image,
+            s,
+            asked,
+            library,
+            segments,
+            n,
+            references,
+            symbols,
+            bytes,
+            masks,
+            first,
+            next,
+            i,
+            placed,
+            positions,
+            noted,
+            goals,
+            f,
+        );
+        i += 1;
+    }
+    f
+}

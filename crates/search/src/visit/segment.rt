@@ -1,0 +1,81 @@
+// All matches of a segment, ascending.
+ghost use Rattle.image.specs.View.{view};
+ghost use Rattle.search.specs.byte_index.Index.{Indexed};
+ghost use Rattle.search.specs.visit.Visits.{stored, VisitsSegment};
+use crate::matches::Next;
+use crate::matches::next_place;
+use crate::matches::start;
+use crate::targets::reaches;
+use crate::visit::Fills;
+use crate::visit::matched::visit_match;
+use image::Stretch;
+use lent::names::name;
+use search_rules::Asked;
+use segments::SegmentNumber;
+use segments::rows::segment_at;
+
+// One with no symbol and no reference leaves nothing, wherever it matches, and is not searched.
+pub fn search_segment(
+    image: &[u8],
+    s: Stretch,
+    asked: Asked,
+    library: &[u8],
+    segments: &[u64],
+    n: usize,
+    references: &[u64],
+    symbols: &[u64],
+    bytes: &[u8],
+    masks: &[u8],
+    first: &[u32],
+    next: &[u32],
+    i: usize,
+    placed: &mut [u64],
+    positions: &mut [u64],
+    noted: &mut [u64],
+    goals: &mut [u64],
+    before: Fills,
+) -> Fills
+    requires { ⌜ Indexed (now image) (now first) (now next) ⌝ }
+    ensures { λ r. ⌜ VisitsSegment (view (now (image .entry)) s) asked (now (library .entry)) (stored (now (segments .entry)) (now (references .entry)) (now (symbols .entry)) (now (bytes .entry)) (now (masks .entry))) n i
+        (now (placed .entry)) (now (positions .entry)) (now (noted .entry)) (now (goals .entry)) before (now (placed .exit)) (now (positions .exit)) (now (noted .exit)) (now (goals .exit)) r ⌝ }
+{
+    let row = segment_at(segments, i);
+    let seat = row.seat;
+    let mut f = before;
+    if row.references.len == 0 {
+        if row.symbols.len == 0 {
+            return f;
+        }
+    }
+    let pattern = name(bytes, row.pattern);
+    let masked = name(masks, row.pattern);
+    let valid = reaches(masked, asked.minimum);
+    let mut c = start(image, seat, pattern, masked, first);
+    loop {
+        let Next::At { at, rest } = next_place(image, s, pattern, masked, next, c) else {
+            return f;
+        };
+        f = visit_match(
+            image,
+            s,
+            asked,
+            library,
+            segments,
+            n,
+            references,
+            symbols,
+            bytes,
+            masks,
+            SegmentNumber(i),
+            row,
+            valid,
+            at,
+            placed,
+            positions,
+            noted,
+            goals,
+            f,
+        );
+        c = rest;
+    }
+}

@@ -1,7 +1,0 @@
--- Searching an image for the segments that are stored in lent memory.
-pub mod Fills
-pub mod FillLaws
-pub mod Outcome
-pub mod EndLaws
-pub mod LookupLaws
-pub mod OneOutcome

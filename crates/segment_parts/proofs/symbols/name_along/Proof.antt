@@ -1,0 +1,82 @@
+-- `name_along` goes from link to link. Assumes nothing.
+use Prim.Native.Nat.{ℕ, _-_, _<_, _^_}
+use mathlib.Core.Path.{_≡_, refl, ap, subst, _∙_}
+use mathlib.Core.List.{List}
+use native.Mathlib.Omega.{arith}
+use lib.ListN.{length}
+use Rattle.tables.specs.declared.fill.Fill.{Fill}
+use Rattle.tables.specs.fill.Filling.{Adds}
+use Rattle.omf51.specs.declared.Definition.{Definition}
+use Rattle.segments.specs.Ids.{idOf}
+use Rattle.segments.specs.SegmentLayouts.{symbolLayout}
+use Rattle.tables.specs.links.Follow.{Follows}
+use Rattle.module_index.specs.gather.Places.{publicAt, PublicIs}
+use Rattle.segment_parts.specs.declared.carried.Carried.{Carried}
+use Rattle.segment_parts.specs.Along.{Adding}
+use Rattle.segment_parts.specs.AlongLaws.{adding-starts, adding-on, adding-ends}
+use Rattle.segment_parts.specs.Naming.{symbolBy}
+use borrow.Author.Needs.{needs}
+use Rattle.segment_parts.proofs.symbols.name_along.Statement.{statement}
+use Rattle.segment_parts.proofs.symbols.name_along.Tie as tie
+
+record Inv (library : List ℕ) (link : ℕ) (next places : List ℕ) (c : Carried) (m₀ : List ℕ) (f₀ : Fill) (m : List ℕ) (last here : ℕ) (f : Fill) : Type 0 where
+  long : length m ≡ length m₀
+  small : here < 2 ^ 32
+  adding : (publics : List Definition) → Follows (PublicIs library places) next 0 link publics
+      → Adding (PublicIs library places) next symbolLayout (symbolBy c) publics m₀ f₀ last here m f
+
+abbrev Inv-loop : tie.InvT-loop
+Inv-loop library link next places c m₀ last₀ here₀ f₀ m last here f = Inv library link next places c m₀ f₀ m last here f
+
+abbrev μ-loop : tie.MeasureT-loop
+μ-loop library link next places c m₀ last₀ here₀ f₀ m last here f = 2 ^ 32 - last
+
+loop-holds : tie.Need-loop-holds Inv-loop μ-loop
+loop-holds c =
+    let a = c .before .before .before .before .args in
+    record { long = refl; small = omega (arith, c .before .before .before .before .fits); adding = λ publics f. adding-starts (PublicIs (a .library .now) (a .places .now)) (a .next .now) publics (a .m .now) symbolLayout (symbolBy (a .c)) (a .before) f }
+
+append-public-requires : tie.Need-append-public-requires Inv-loop μ-loop
+append-public-requires c κs = rw (c .before .number-at .ensures) (omega (arith, c .before .before .before .before .before .shared-slice-known3 .given (c .before .before .before .loop .here - 1)))
+
+loop-less : tie.Need-loop-less Inv-loop μ-loop
+loop-less c = omega (arith, c .before .before .before .before .before .before .before .loop .inv .small)
+
+loop-again : tie.Need-loop-again Inv-loop μ-loop
+loop-again c =
+    let a = c .before .before .before .before .before .before .before .before .before .before .before .before .args in
+    let l = c .before .before .before .before .before .before .before .loop in
+    let is = PublicIs (a .library .now) (a .places .now) in
+    let new = c .before .before .before .append-public .last .1 .1 .1 .0 in
+    record {
+      long = c .before .before .before .append-public .ensures .long ∙ l .inv .long;
+      small = rw (c .number-at2 .ensures) (omega (arith, c .before .before .before .before .before .before .before .before .before .before .shared-slice-known2 .given (l .here - 1)));
+      adding = λ publics f. rw (c .number-at2 .ensures) (adding-on is (a .next .now) publics (a .m .now) symbolLayout (symbolBy (a .c)) (a .before) (l .last) (l .here) (l .m) new (l .f) (c .before .before .before .append-public .result) (omega arith) (l .inv .adding publics f)
+          (λ d s. subst (λ x. Adds symbolLayout (symbolBy (a .c) x) (l .m) (l .f) new (c .before .before .before .append-public .result)) (ap (publicAt (a .library .now) (idOf d)) (c .before .before .before .before .before .number-at .ensures) ∙ s) (c .before .before .before .append-public .ensures .adds (idOf d))));
+    }
+
+same-length : tie.Need-same-length Inv-loop μ-loop
+same-length c = c .before .loop .inv .long
+
+returns : tie.Need-returns Inv-loop μ-loop
+returns c =
+    let a = c .before .before .before .before .before .before .args in
+    let l = c .before .loop in
+    record { long = l .inv .long; adds = λ publics f. adding-ends (PublicIs (a .library .now) (a .places .now)) (a .next .now) publics (a .m .now) symbolLayout (symbolBy (a .c)) (a .before) (l .last) (l .here) (l .m) (l .f) (omega arith) (l .inv .adding publics f) }
+
+pub name-along-spec : {M : Type 1} → statement M
+name-along-spec =
+    tie.close
+    (tie.spec
+    Inv-loop
+    μ-loop
+    loop-holds
+    (λ c. search needs)
+    (λ c κs. search needs)
+    append-public-requires
+    (λ c. search needs)
+    (λ c κs. search needs)
+    loop-less
+    loop-again
+    same-length
+    returns)

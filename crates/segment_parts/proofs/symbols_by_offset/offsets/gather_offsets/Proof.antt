@@ -1,0 +1,233 @@
+-- `gather_offsets` stores one public definition of id 0 after another. The invariant: those that are done are gathered, and the rest is left. Assumes nothing.
+use Prim.Native.Nat.{ℕ, _+_, _-_, _*_, _≤_, _<_}
+use mathlib.Core.Path.{_≡_, refl, sym, ap, subst, _∙_}
+use mathlib.Core.Logic.{inl, inr}
+use mathlib.Core.Bool.{false}
+use mathlib.Core.List.{List, [], _∷_, _++_, append-assoc}
+use native.Mathlib.Omega.{arith}
+use borrow.Author.Tests.{eq-eqb, ne-eqb}
+use lib.ListN.{length, length-set}
+use denote.Ref.{now}
+use denote.Enum.Declared.{tagOf}
+use types.Run.{OneOf}
+use Rattle.lent.specs.Lists.{one}
+use Rattle.omf51.proofs.Definition.{the-type}
+use Rattle.omf51.specs.declared.Definition.{Definition}
+use Rattle.omf51.specs.declared.Definition.the-variants.{Segment, Public, External}
+use Rattle.omf51.specs.Module.{definitionsAt}
+use Rattle.library.specs.Found.{found}
+use Rattle.library.specs.declared.items.Cursor.{Cursor}
+use Rattle.library.specs.declared.items.NextDefinition.the-variants.{Item}
+use Rattle.library.specs.items.Items.{nextDefinition}
+use Rattle.library.specs.items.Left.{definitionsLeft}
+use Rattle.library.specs.items.Yields.{definitionsAfter, next-definition-yields, definitions-start}
+use Rattle.library.specs.items.Fewer.{fewer-definitions}
+use Rattle.library.specs.items.ContentSizeLaws.{word-small}
+use Rattle.library.specs.items.ForwardLaws.{Ordered, Sized, definition-sized}
+use Rattle.library.specs.items.EntrySizeLaws.{PublicAgain, public-again}
+use Rattle.segments.specs.Ids.{idOf}
+use Rattle.module_index.specs.gather.Places.{publicAt, noDefinition, isPublicDefinition}
+use Rattle.module_index.specs.gather.GatherLaws.{Held, none-gathered, gather-turn, all-done}
+use Rattle.module_index.specs.gather.PublicLaws.{read-again}
+use Rattle.segment_parts.specs.symbols_by_offset.Offsets.{offsetKey, zeroPublics}
+use Rattle.segment_parts.specs.symbols_by_offset.OffsetLaws.{zero-kept, other-id-passed, not-public-passed, no-zeros}
+use borrow.Author.Needs.{needs}
+use Rattle.segment_parts.proofs.symbols_by_offset.offsets.gather_offsets.Statement.{statement}
+use Rattle.segment_parts.proofs.symbols_by_offset.offsets.gather_offsets.Tie as tie
+
+-- a public definition is read at a place
+abbrev Stands : List ℕ → ℕ → Definition → Type 0
+Stands library p d = publicAt library (idOf d) p ≡ d
+
+-- those of id 0 among these are gathered
+abbrev Zero-held : List ℕ → List Definition → List ℕ → List ℕ → ℕ → Type 0
+Zero-held library ds keys places n = Held offsetKey (Stands library) noDefinition (zeroPublics ds) keys places n
+
+record Inv (library : List ℕ) (from : ℕ) (keys₀ places₀ keys places : List ℕ) (c : Cursor) (n : ℕ) : Type 0 where
+  keys-long : length keys ≡ length keys₀
+  places-long : length places ≡ length places₀
+  done : List Definition
+  whole : done ++ definitionsLeft library c ≡ found library (definitionsAt library) from
+  gathered : Zero-held library done keys places n
+  few : 5 * n ≤ c .at
+  ordered : Ordered c
+
+not-public : (d : Definition) → OneOf (0 ∷ 2 ∷ []) (tagOf the-type d) → isPublicDefinition d ≡ false
+not-public (Segment id info relocation size name) h = refl
+not-public (Public id offset name) (inl z) = absurd (omega arith)
+not-public (Public id offset name) (inr z) = absurd (omega arith)
+not-public (External id info name) h = refl
+
+abbrev Inv-loop : tie.InvT-loop
+Inv-loop library from keys₀ places₀ c₀ n₀ keys places c n = Inv library from keys₀ places₀ keys places c n
+
+abbrev μ-loop : tie.MeasureT-loop
+μ-loop library from keys₀ places₀ c₀ n₀ keys places c n = length (definitionsLeft library c)
+
+-- the next definition, once it is known
+abbrev Told : Type 0
+Told = tie.After-known-told Inv-loop μ-loop
+
+step : (c : Told) → nextDefinition (now (c .before .before .before .before .before .before .before .before .before .args .library)) (c .before .before .before .before .loop .c) ≡ Item (c .before .definition .given .0 .0) (c .before .definition .given .0 .1 .0)
+step c = sym (c .before .before .before .next-definition .ensures) ∙ c .before .definition .given .1
+
+goes : (c : Told) → Sized (now (c .before .before .before .before .before .before .before .before .before .args .library)) 5 (c .before .before .before .before .loop .c) (c .before .definition .given .0 .1 .0)
+goes c = definition-sized (c .before .before .before .before .before .before .before .before .before .args .library .now) (c .before .before .before .before .loop .c) (c .before .before .before .before .loop .inv .ordered) (step c)
+
+-- there is room for it
+below : (c : Told) → 5 * c .before .before .before .before .loop .n + 5 < 4294967296
+below c = omega (arith, c .before .before .before .before .loop .inv .few, goes c .size-later, goes c .forward .inside, c .before .before .before .before .before .before .before .before .before .pre .short)
+
+room : (c : Told) → (c .before .before .before .before .loop .n < length (c .before .before .before .before .loop .keys)) × (c .before .before .before .before .loop .n < length (c .before .before .before .before .loop .places))
+room c =
+    let i = c .before .before .before .before .loop .inv in
+    let g = goes c in
+    let r = c .before .before .before .before .before .before .before .before .before .pre in
+    (omega (arith, i .few, g .size-later, g .forward .inside, r .for-keys, i .keys-long), omega (arith, i .few, g .size-later, g .forward .inside, r .for-places, i .places-long))
+
+-- with it the rest goes on, whether it is stored or not
+goes-on : (c : Told) (n : ℕ) (keys places : List ℕ) (d : Definition) → d ≡ c .before .definition .given .0 .0 → length keys ≡ length (c .before .before .before .before .before .before .before .before .before .args .keys .now) → length places ≡ length (c .before .before .before .before .before .before .before .before .before .args .places .now)
+    → 5 * n ≤ c .before .before .before .before .loop .c .at + 5 → Zero-held (c .before .before .before .before .before .before .before .before .before .args .library .now) (c .before .before .before .before .loop .inv .done ++ one d) keys places n
+    → Inv (c .before .before .before .before .before .before .before .before .before .args .library .now) (c .before .before .before .before .before .before .before .before .before .args .from) (c .before .before .before .before .before .before .before .before .before .args .keys .now) (c .before .before .before .before .before .before .before .before .before .args .places .now) keys places (c .before .definition .given .0 .1 .0) n
+goes-on c n keys places d e k p few held =
+    let lib = c .before .before .before .before .before .before .before .before .before .args .library .now in
+    let l = c .before .before .before .before .loop in
+    let same : nextDefinition lib (l .c) ≡ Item d (c .before .definition .given .0 .1 .0) = step c ∙ ap (λ x. Item x (c .before .definition .given .0 .1 .0)) (sym e) in
+    record {
+      keys-long = k;
+      places-long = p;
+      done = l .inv .done ++ one d;
+      whole = append-assoc (l .inv .done) (one d) _ ∙ ap (λ xs. l .inv .done ++ xs) (sym (next-definition-yields lib (l .c) ∙ ap (definitionsAfter lib) same)) ∙ l .inv .whole;
+      gathered = held;
+      few = omega (arith, few, goes c .size-later);
+      ordered = goes c .forward .ordered;
+    }
+
+-- and once it is known to be public
+abbrev Found : Type 0
+Found = tie.After-known-told2 Inv-loop μ-loop
+
+abbrev this : Found → Definition
+this c = Public (c .before .definition2 .given .0 .0) (c .before .definition2 .given .0 .1 .0) (c .before .definition2 .given .0 .1 .1 .0)
+
+step-public : (c : Found) → nextDefinition (now (c .before .before .before .before .before .before .before .before .before .before .before .before .args .library)) (c .before .before .before .before .before .before .before .loop .c) ≡ Item (this c) (c .before .before .before .before .definition .given .0 .1 .0)
+step-public c = step (c .before .before .before) ∙ ap (λ d. Item d (c .before .before .before .before .definition .given .0 .1 .0)) (c .before .definition2 .given .1)
+
+again : (c : Found) → PublicAgain (now (c .before .before .before .before .before .before .before .before .before .before .before .before .args .library)) (c .before .definition2 .given .0 .1 .0) (c .before .definition2 .given .0 .1 .1 .0)
+again c = public-again (c .before .before .before .before .before .before .before .before .before .before .before .before .args .library .now) (c .before .before .before .before .before .before .before .loop .c) (step-public c)
+
+loop-holds : tie.Need-loop-holds Inv-loop μ-loop
+loop-holds c =
+    let a = c .before .before .before .before .args in
+    rw
+    (c .start .ensures)
+    (record {
+      keys-long = refl;
+      places-long = refl;
+      done = [];
+      whole = definitions-start (a .library .now) (a .from);
+      gathered = rw no-zeros (none-gathered offsetKey (Stands (a .library .now)) noDefinition (a .keys .now) (a .places .now));
+      few = omega arith;
+      ordered = record { before = omega arith; body-before = omega arith };
+    })
+
+cast-keys : tie.Need-cast-keys Inv-loop μ-loop
+cast-keys c = omega (arith, again (c .before .before) .offset-is, word-small (c .before .before .before .before .before .before .before .before .before .before .before .before .before .before .args .library .now) (λ i. omega (arith, c .before .before .before .before .before .before .before .before .before .before .before .before .before .shared-slice-known .given i)) (c .before .before .before .definition2 .given .0 .1 .1 .0 .at - 4))
+
+mul-keys : tie.Need-mul-keys Inv-loop μ-loop
+mul-keys c = omega (arith, below (c .before .before .before .before .before))
+
+slice-write-keys : tie.Need-slice-write-keys Inv-loop μ-loop
+slice-write-keys c = room (c .before .before .before .before .before) .0
+
+sub-places : tie.Need-sub-places Inv-loop μ-loop
+sub-places c = omega (arith, again (c .before .before .before) .front)
+
+cast-places : tie.Need-cast-places Inv-loop μ-loop
+cast-places c = omega (arith, again (c .before .before .before) .inside, c .before .before .before .before .before .before .before .before .before .before .before .before .before .before .before .pre .short)
+
+mul-places : tie.Need-mul-places Inv-loop μ-loop
+mul-places c = omega (arith, below (c .before .before .before .before .before .before))
+
+slice-write-places : tie.Need-slice-write-places Inv-loop μ-loop
+slice-write-places c = room (c .before .before .before .before .before .before) .1
+
+add-n : tie.Need-add-n Inv-loop μ-loop
+add-n c = omega (arith, below (c .before .before .before .before .before .before))
+
+loop-less : tie.Need-loop-less Inv-loop μ-loop
+loop-less c = fewer-definitions (c .before .before .before .before .before .before .before .before .before .before .before .before .before .before .before .args .library .now) (c .before .before .before .before .before .before .before .before .before .before .loop .c) (step (c .before .before .before .before .before .before))
+
+loop-again : tie.Need-loop-again Inv-loop μ-loop
+loop-again c =
+    let lib = c .before .before .before .before .before .before .before .before .before .before .before .before .before .before .before .args .library .now in
+    let l = c .before .before .before .before .before .before .before .before .before .before .loop in
+    let d : Definition = this (c .before .before .before) in
+    let name = c .before .before .before .before .definition2 .given .0 .1 .1 .0 in
+    goes-on (c .before .before .before .before .before .before) (l .n + 1) _ _ d (sym (c .before .before .before .before .definition2 .given .1)) (length-set (l .keys) (l .n) _ ∙ l .inv .keys-long) (length-set (l .places) (l .n) _ ∙ l .inv .places-long) (omega (arith, l .inv .few))
+    (rw (zero-kept (l .inv .done) d refl (eq-eqb _ _ (c .before .if1 .taken))) (gather-turn offsetKey (Stands lib) noDefinition (zeroPublics (l .inv .done)) (l .keys) (l .places) (l .n) d (name .at - 4) (room (c .before .before .before .before .before .before) .0) (room (c .before .before .before .before .before .before) .1) (read-again lib _ _ name (again (c .before .before .before))) (l .inv .gathered)))
+
+loop-less-2 : tie.Need-loop-less-2 Inv-loop μ-loop
+loop-less-2 c = fewer-definitions (c .before .before .before .before .before .before .before .before .before .before .before .before .before .before .args .library .now) (c .before .before .before .before .before .before .before .before .before .loop .c) (step (c .before .before .before .before .before))
+
+loop-again-2 : tie.Need-loop-again-2 Inv-loop μ-loop
+loop-again-2 c =
+    let l = c .before .before .before .before .before .before .before .before .before .loop in
+    let d : Definition = this (c .before .before) in
+    goes-on (c .before .before .before .before .before) (l .n) (l .keys) (l .places) d (sym (c .before .before .before .definition2 .given .1)) (l .inv .keys-long) (l .inv .places-long) (omega (arith, l .inv .few)) (rw (other-id-passed (l .inv .done) d refl (ne-eqb _ _ (c .if1 .left))) (l .inv .gathered))
+
+loop-less-3 : tie.Need-loop-less-3 Inv-loop μ-loop
+loop-less-3 c = fewer-definitions (c .before .before .before .before .before .before .before .before .before .before .args .library .now) (c .before .before .before .before .before .loop .c) (step (c .before))
+
+loop-again-3 : tie.Need-loop-again-3 Inv-loop μ-loop
+loop-again-3 c =
+    let l = c .before .before .before .before .before .loop in
+    let d = c .before .before .definition .given .0 .0 in
+    goes-on (c .before) (l .n) (l .keys) (l .places) d refl (l .inv .keys-long) (l .inv .places-long) (omega (arith, l .inv .few)) (rw (not-public-passed (l .inv .done) d (not-public d (c .match2 .keys2))) (l .inv .gathered))
+
+same-length : tie.Need-same-length Inv-loop μ-loop
+same-length c = c .before .before .before .loop .inv .keys-long
+
+same-length-2 : tie.Need-same-length-2 Inv-loop μ-loop
+same-length-2 c = c .before .before .before .loop .inv .places-long
+
+returns : tie.Need-returns Inv-loop μ-loop
+returns c =
+    let lib = c .before .before .before .before .before .before .before .before .args .library .now in
+    let l = c .before .before .before .loop in
+    let none = next-definition-yields lib (l .c) ∙ ap (definitionsAfter lib) (sym (c .before .before .next-definition .ensures) ∙ c .enum-told .given .1) in
+    record {
+      gathered = subst (λ ds. Zero-held lib ds (l .keys) (l .places) (l .n)) (all-done (l .inv .whole) none) (l .inv .gathered);
+      keys-long = l .inv .keys-long;
+      places-long = l .inv .places-long;
+    }
+
+pub gather-offsets-spec : {M : Type 1} → statement M
+gather-offsets-spec =
+    tie.close
+    (tie.spec
+    Inv-loop
+    μ-loop
+    (λ c κs. search needs)
+    loop-holds
+    (λ c κs. search needs)
+    (λ c. search needs)
+    (λ c. search needs)
+    cast-keys
+    mul-keys
+    slice-write-keys
+    sub-places
+    cast-places
+    mul-places
+    slice-write-places
+    add-n
+    loop-less
+    loop-again
+    loop-less-2
+    loop-again-2
+    loop-less-3
+    loop-again-3
+    (λ c. search needs)
+    same-length
+    same-length-2
+    returns)

@@ -1,0 +1,96 @@
+// The patterns of segments: contents merged into the stretch of pattern memory that a segment has.
+ghost use mathlib.Core.Path.{_≡_};
+ghost use Prim.Native.Nat.{_<_, _≤_};
+ghost use lib.ListN.{length};
+ghost use Rattle.segments.specs.Masks.{masksOf};
+ghost use Rattle.library.specs.items.Left.{fixupsLeft};
+ghost use Rattle.segment_parts.specs.merge.MergedAt.{mergedAt};
+ghost use Rattle.segment_parts.specs.Patterns.{Merges, MergesAlong};
+use crate::merge::masks::content_masks;
+use crate::merge::stretch::merge_at;
+use lent::names::name;
+use library::items::Cursor;
+use library::items::NextContent;
+use library::items::contents::next_content;
+use omf51::Content;
+use tables::links::number_at;
+
+// Where something is merged: the stretch of a segment, and the offset in it.
+pub struct Spot {
+    pub start: usize,
+    pub size: usize,
+    pub offset: usize,
+}
+
+// The masks of `len` bytes are made apart, since those of an earlier content stay where they are set.
+fn merge_masks(
+    library: &[u8],
+    fixups: Cursor,
+    len: usize,
+    spot: Spot,
+    masks: &mut [u8],
+    apart: &mut [u8],
+)
+    requires { ⌜ len ≤ length (now apart) ⌝ }
+    ensures { λ _. ⌜ (now (masks .exit) ≡ mergedAt (now (masks .entry)) (spot .start) (spot .size) (spot .offset) (masksOf len (fixupsLeft (now (library .entry)) fixups))) × (length (now (apart .exit)) ≡ length (now (apart .entry))) ⌝ }
+{
+    content_masks(library, fixups, &mut apart[0..len]);
+    merge_at(masks, spot.start, spot.size, spot.offset, &apart[0..len]);
+}
+
+// One content, with the fixups that follow it.
+pub fn merge_content(
+    library: &[u8],
+    content: Content,
+    fixups: Cursor,
+    spot: Spot,
+    bytes: &mut [u8],
+    masks: &mut [u8],
+    apart: &mut [u8],
+)
+    requires { ⌜ (65536 ≤ length (now apart)) × (content .part .len < 65536) ⌝ }
+    ensures { λ _. ⌜ Merges (now (library .entry)) content (fixupsLeft (now (library .entry)) fixups) spot (now (bytes .entry)) (now (masks .entry)) (now (apart .entry)) (now (bytes .exit)) (now (masks .exit)) (now (apart .exit)) ⌝ }
+{
+    let data = name(library, content.part);
+    let len = data.len();
+    merge_at(bytes, spot.start, spot.size, spot.offset, data);
+    merge_masks(library, fixups, len, spot, masks, apart);
+}
+
+// All contents from a link on.
+pub fn merge_along(
+    library: &[u8],
+    link: u32,
+    next: &[u32],
+    places: &[u32],
+    start: usize,
+    size: usize,
+    bytes: &mut [u8],
+    masks: &mut [u8],
+    apart: &mut [u8],
+)
+    requires { ⌜ 65536 ≤ length (now apart) ⌝ }
+    ensures { λ _. ⌜ MergesAlong (now (library .entry)) link (now (next .entry)) (now (places .entry)) start size (now (bytes .entry)) (now (masks .entry)) (now (apart .entry)) (now (bytes .exit)) (now (masks .exit)) (now (apart .exit)) ⌝ }
+{
+    let mut last = 0;
+    let mut here = link as usize;
+    while last < here {
+        let place = number_at(places, here - 1);
+        let NextContent::Item {
+            content,
+            fixups,
+            rest,
+        } = next_content(library, place)
+        else {
+            return;
+        };
+        let spot = Spot {
+            start,
+            size,
+            offset: content.offset,
+        };
+        merge_content(library, content, fixups, spot, bytes, masks, apart);
+        last = here;
+        here = number_at(next, here - 1);
+    }
+}

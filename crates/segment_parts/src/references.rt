@@ -1,0 +1,93 @@
+// The references of contents.
+ghost use mathlib.Core.Path.{_≡_};
+ghost use lib.ListN.{length};
+ghost use Rattle.segments.specs.SegmentLayouts.{referenceLayout};
+ghost use Rattle.tables.specs.fill.Filling.{Adds};
+ghost use Rattle.library.specs.items.Left.{fixupsLeft};
+ghost use Rattle.module_ids.specs.reference.Leaving.{leftBy};
+ghost use Rattle.segment_parts.specs.Referring.{Placeable, Refers, RefersAlong};
+use library::items::Cursor;
+use library::items::NextContent;
+use library::items::NextFixup;
+use library::items::contents::next_content;
+use library::items::decoded::next_fixup;
+use module_ids::reference::Leaves;
+use module_ids::reference::reference_of;
+use module_ids::row::id_row;
+use segments::append::append_reference;
+use tables::fill::Fill;
+use tables::links::number_at;
+
+fn append_left(leaves: Leaves, m: &mut [u64], f: Fill) -> Fill
+    ensures { λ r. ⌜ Adds referenceLayout (leftBy leaves) (now (m .entry)) f (now (m .exit)) r × (length (now (m .exit)) ≡ length (now (m .entry))) ⌝ }
+{
+    match leaves {
+        Leaves::One(reference) => append_reference(m, f, reference),
+        Leaves::Nothing => f,
+    }
+}
+
+// The references that the fixups from a cursor on leave, in a module whose first segment has this number; `base` is added to
+// the places.
+pub fn refer(
+    library: &[u8],
+    table: &[u64],
+    number: usize,
+    base: usize,
+    from: Cursor,
+    m: &mut [u64],
+    before: Fill,
+) -> Fill
+    requires { ⌜ Placeable (now table) number base ⌝ }
+    ensures { λ r. ⌜ Refers (now (table .entry)) number base (fixupsLeft (now (library .entry)) from) (now (m .entry)) before (now (m .exit)) r ⌝ }
+{
+    let mut c = from;
+    let mut f = before;
+    loop {
+        match next_fixup(library, c) {
+            NextFixup::Item { fixup, rest } => {
+                let row = id_row(table, fixup.id);
+                let leaves = reference_of(row, number, base, fixup);
+                f = append_left(leaves, m, f);
+                c = rest;
+            }
+            NextFixup::Done => {
+                return f;
+            }
+        }
+    }
+}
+
+// Those of all contents from a link on.
+pub fn refer_along(
+    library: &[u8],
+    table: &[u64],
+    number: usize,
+    link: u32,
+    next: &[u32],
+    places: &[u32],
+    m: &mut [u64],
+    before: Fill,
+) -> Fill
+    requires { ⌜ Placeable (now table) number 0 ⌝ }
+    ensures { λ r. ⌜ RefersAlong (now (library .entry)) (now (table .entry)) number link (now (next .entry)) (now (places .entry)) (now (m .entry)) before (now (m .exit)) r ⌝ }
+{
+    let mut last = 0;
+    let mut here = link as usize;
+    let mut f = before;
+    while last < here {
+        let place = number_at(places, here - 1);
+        let NextContent::Item {
+            content,
+            fixups,
+            rest,
+        } = next_content(library, place)
+        else {
+            return f;
+        };
+        f = refer(library, table, number, content.offset, fixups, m, f);
+        last = here;
+        here = number_at(next, here - 1);
+    }
+    f
+}

@@ -1,0 +1,92 @@
+// The symbols of segments, from the public definitions of their ids.
+ghost use mathlib.Core.Path.{_≡_};
+ghost use Prim.Native.Nat.{_-_, _<_, _^_};
+ghost use Rattle.segment_parts.specs.Naming.{carriesAt, baseOf, NamesOne, NamesAlong};
+use crate::carried::Carried;
+use lent::part::Part;
+use library::items::decoded::word;
+use omf51::read_record::byte_at;
+use segments::Symbol;
+use segments::append::append_symbol;
+use tables::fill::Fill;
+use tables::links::number_at;
+
+fn carries(c: Carried, offset: usize) -> bool
+    ensures { λ r. ⌜ r ≡ carriesAt c offset ⌝ }
+{
+    match c {
+        Carried::All => true,
+        Carried::Inside { at, len, own } => {
+            if offset < at {
+                return false;
+            }
+            offset - at < len
+        }
+    }
+}
+
+fn offset_in(c: Carried, offset: usize) -> usize
+    ensures { λ r. ⌜ r ≡ offset - baseOf c ⌝ }
+{
+    match c {
+        Carried::All => offset,
+        Carried::Inside { at, len, own } => {
+            if own {
+                if offset < at {
+                    return 0;
+                }
+                return offset - at;
+            }
+            offset
+        }
+    }
+}
+
+fn wide(x: u8) -> usize
+    ensures { λ r. ⌜ r ≡ x ⌝ }
+{
+    x as usize
+}
+
+// The public definition whose offset stands at a place of the library.
+pub fn append_public(library: &[u8], place: usize, c: Carried, m: &mut [u64], f: Fill) -> Fill
+    requires { ⌜ place < 2 ^ 32 ⌝ }
+    ensures { λ r. ⌜ NamesOne (now (library .entry)) place c (now (m .entry)) f (now (m .exit)) r ⌝ }
+{
+    let offset = word(library, place);
+    if carries(c, offset) {
+        let symbol = Symbol {
+            name: Part {
+                at: place + 4,
+                len: wide(byte_at(library, place + 3)),
+            },
+            offset: offset_in(c, offset),
+        };
+        return append_symbol(m, f, symbol);
+    }
+    f
+}
+
+// All of them from a link on.
+pub fn name_along(
+    library: &[u8],
+    link: u32,
+    next: &[u32],
+    places: &[u32],
+    c: Carried,
+    m: &mut [u64],
+    before: Fill,
+) -> Fill
+    ensures { λ r. ⌜ NamesAlong (now (library .entry)) link (now (next .entry)) (now (places .entry)) c (now (m .entry)) before (now (m .exit)) r ⌝ }
+{
+    let mut last = 0;
+    let mut here = link as usize;
+    let mut f = before;
+    while last < here {
+        let place = number_at(places, here - 1);
+        f = append_public(library, place, c, m, f);
+        last = here;
+        here = number_at(next, here - 1);
+    }
+    f
+}

@@ -1,0 +1,112 @@
+// Flags of blocks: 256 places are one block, and a block is flagged where one of its places is sought.
+ghost use mathlib.Core.Path.{_≡_};
+ghost use Prim.Native.Nat.{_<_, _≤_, _^_};
+ghost use lib.ListN.{getD, set};
+ghost use Rattle.segment_parts.specs.symbols_by_offset.Flags.{FlagsBlock, FlagsAlong, FlagsInside, Clears};
+use tables::links::number_at;
+
+// All flagged blocks lie from `low` up to `high`, which is not one of them.
+pub struct Blocks {
+    pub low: usize,
+    pub high: usize,
+}
+
+// The flag of a block, 0 where there is none.
+pub fn flag_at(flags: &[u8], b: usize) -> u8
+    ensures { λ r. ⌜ r ≡ getD (now (flags .entry)) b 0 ⌝ }
+{
+    if b < flags.len() {
+        return flags[b];
+    }
+    0
+}
+
+fn put_flag(flags: &mut [u8], b: usize, flag: u8)
+    ensures { λ _. ⌜ now (flags .exit) ≡ set (now (flags .entry)) b flag ⌝ }
+{
+    if b < flags.len() {
+        flags[b] = flag;
+    }
+}
+
+fn lower(low: usize, b: usize) -> usize
+    ensures { λ r. ⌜ (r ≤ low) × (r ≤ b) ⌝ }
+{
+    if b < low {
+        return b;
+    }
+    low
+}
+
+fn higher(high: usize, b: usize) -> usize
+    requires { ⌜ b < 2 ^ 32 ⌝ }
+    ensures { λ r. ⌜ (high ≤ r) × ((b < r) × (high ≤ 2 ^ 32 → r ≤ 2 ^ 32)) ⌝ }
+{
+    if high <= b {
+        return b + 1;
+    }
+    high
+}
+
+fn flag_block(flags: &mut [u8], s: Blocks, b: usize) -> Blocks
+    requires { ⌜ b < 2 ^ 32 ⌝ }
+    ensures { λ r. ⌜ FlagsBlock b (now (flags .entry)) s (now (flags .exit)) r ⌝ }
+{
+    put_flag(flags, b, 1);
+    Blocks {
+        low: lower(s.low, b),
+        high: higher(s.high, b),
+    }
+}
+
+// The blocks of all places from a link on.
+fn flag_along(link: u32, next: &[u32], before: Blocks, flags: &mut [u8]) -> Blocks
+    ensures { λ r. ⌜ FlagsAlong link (now (next .entry)) (now (flags .entry)) before (now (flags .exit)) r ⌝ }
+{
+    let mut last = 0;
+    let mut here = link as usize;
+    let mut s = before;
+    while last < here {
+        s = flag_block(flags, s, (here - 1) / 256);
+        last = here;
+        here = number_at(next, here - 1);
+    }
+    s
+}
+
+fn head_at(first: &[u32], v: usize) -> u32
+    ensures { λ r. ⌜ r ≡ getD (now (first .entry)) v 0 ⌝ }
+{
+    if v < first.len() {
+        return first[v];
+    }
+    0
+}
+
+// The blocks of all places whose key is inside `len` numbers from `at` on.
+pub fn flag_inside(at: usize, len: usize, first: &[u32], next: &[u32], flags: &mut [u8]) -> Blocks
+    requires { ⌜ (at < 65536) × (len < 65536) ⌝ }
+    ensures { λ r. ⌜ FlagsInside at len (now (first .entry)) (now (next .entry)) (now (flags .entry)) (now (flags .exit)) r ⌝ }
+{
+    let mut s = Blocks {
+        low: 4294967296,
+        high: 0,
+    };
+    let mut i = 0;
+    while i < len {
+        s = flag_along(head_at(first, at + i), next, s, flags);
+        i += 1;
+    }
+    s
+}
+
+// No flag is left.
+pub fn clear_blocks(flags: &mut [u8], s: Blocks)
+    ensures { λ _. ⌜ Clears s (now (flags .entry)) (now (flags .exit)) ⌝ }
+{
+    let mut b = s.low;
+    while b < s.high {
+        put_flag(flags, b, 0);
+        b += 1;
+    }
+}

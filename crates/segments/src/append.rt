@@ -1,0 +1,46 @@
+// One row of the collection more, behind those before, if there is room.
+ghost use mathlib.Core.Path.{_≡_};
+ghost use lib.ListN.{length};
+ghost use Rattle.tables.specs.fill.Filling.{oneMore, putMore};
+ghost use Rattle.segments.specs.SegmentLayouts.{segmentLayout, referenceLayout, symbolLayout};
+use crate::Reference;
+use crate::SegmentRow;
+use crate::Symbol;
+use crate::put::put_reference;
+use crate::put::put_segment;
+use crate::put::put_symbol;
+use tables::fill::Fill;
+use tables::fill::one_more;
+
+pub fn append_segment(m: &mut [u64], f: Fill, row: SegmentRow) -> Fill
+    ensures { λ r. ⌜ (now (m .exit) ≡ putMore segmentLayout f row (now (m .entry))) × (r ≡ oneMore f 8 (length (now (m .entry)))) ⌝ }
+{
+    let next = one_more(f, 8, m.len());
+    if next.over {
+        return next;
+    }
+    put_segment(m, f.rows, row);
+    next
+}
+
+pub fn append_reference(m: &mut [u64], f: Fill, row: Reference) -> Fill
+    ensures { λ r. ⌜ (now (m .exit) ≡ putMore referenceLayout f row (now (m .entry))) × (r ≡ oneMore f 6 (length (now (m .entry)))) ⌝ }
+{
+    let next = one_more(f, 6, m.len());
+    if next.over {
+        return next;
+    }
+    put_reference(m, f.rows, row);
+    next
+}
+
+pub fn append_symbol(m: &mut [u64], f: Fill, row: Symbol) -> Fill
+    ensures { λ r. ⌜ (now (m .exit) ≡ putMore symbolLayout f row (now (m .entry))) × (r ≡ oneMore f 3 (length (now (m .entry)))) ⌝ }
+{
+    let next = one_more(f, 3, m.len());
+    if next.over {
+        return next;
+    }
+    put_symbol(m, f.rows, row);
+    next
+}

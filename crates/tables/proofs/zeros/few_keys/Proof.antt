@@ -1,0 +1,12 @@
+-- `few_keys` makes zeros. Assumes nothing.
+use mathlib.Core.Path.{refl}
+use Rattle.tables.specs.zeros.Zeros.{zeroList}
+use Rattle.tables.proofs.zeros.few_keys.Statement.{statement}
+use Rattle.tables.proofs.zeros.few_keys.Tie as tie
+
+returns : tie.Need-returns
+unfolding zeroList
+returns c = refl
+
+pub few-keys-spec : {M : Type 1} → statement M
+few-keys-spec = tie.close (tie.spec returns)

@@ -1,0 +1,12 @@
+-- `heads` makes zeros. Assumes nothing.
+use mathlib.Core.Path.{refl}
+use Rattle.tables.specs.zeros.Zeros.{zeroList}
+use Rattle.tables.proofs.zeros.heads.Statement.{statement}
+use Rattle.tables.proofs.zeros.heads.Tie as tie
+
+returns : tie.Need-returns
+unfolding zeroList
+returns c = refl
+
+pub heads-spec : {M : Type 1} → statement M
+heads-spec = tie.close (tie.spec returns)

@@ -1,0 +1,15 @@
+-- What makes a sheet's rows ones that are found: they are read back, and have the key, the name and the link where it is looked for.
+use Prim.Native.Nat.{ℕ, _-_, _≤_}
+use mathlib.Core.Path.{_≡_}
+use lib.ListN.{getD}
+use Rattle.lent.specs.RowLaws.{Wide, Back}
+use Rattle.tables.specs.by_name.Sheet.{Sheet}
+
+pub record Reads {A R : Type 0} (s : Sheet A R) : Type 0 where
+  pub wide : Wide (s .layout)
+  pub back : (r : R) → Back (s .layout) r
+  pub some : 4 ≤ s .layout .width
+  pub keyed : (x : A) (link alike : ℕ) → getD (s .layout .cells (s .row x link alike)) 0 0 ≡ s .key x
+  pub placed : (x : A) (link alike : ℕ) → getD (s .layout .cells (s .row x link alike)) 1 0 ≡ s .name x .at
+  pub long : (x : A) (link alike : ℕ) → getD (s .layout .cells (s .row x link alike)) 2 0 ≡ s .name x .len
+  pub leads : (x : A) (link alike : ℕ) → getD (s .layout .cells (s .row x link alike)) (s .layout .width - 1) 0 ≡ alike

@@ -1,0 +1,62 @@
+-- Things that have a key and a name, kept as rows in the order in which they came. Each row has two links: to the newest
+-- row before it of its key's bucket, and to the newest before it of the bucket of its key and name together.
+use Prim.Native.Nat.{ℕ, _+_, _*_, _%_}
+use mathlib.Core.Bool.{Bool, _&&_}
+use mathlib.Core.List.{List, [], _∷_, _++_}
+use lib.Dec.{eqb}
+use Rattle.lent.specs.declared.part.Part.{Part}
+use Rattle.lent.specs.Lists.{one, fold}
+use Rattle.lent.specs.Parts.{bytesOf, sameName}
+use Rattle.lent.specs.Rows.{Layout}
+use Rattle.tables.specs.by_name.Newest.{newest}
+
+-- what such a thing has, and the row that it makes with its two links
+pub record Sheet (A R : Type 0) : Type 0 where
+  pub layout : Layout R
+  pub key : A → ℕ
+  pub name : A → Part
+  pub row : A → ℕ → ℕ → R
+
+-- how many buckets there are of each kind
+abbrev pub keyBuckets : ℕ
+keyBuckets = 65536
+
+abbrev pub nameBuckets : ℕ
+nameBuckets = 65536
+
+-- the bucket of a key: its low 16 bits; and of a key and a name: a number from the key and the name's bytes, spread so that
+-- few others share it
+abbrev pub keyBucket : ℕ → ℕ
+keyBucket key = key % keyBuckets
+
+abbrev pub spread : ℕ → List ℕ → ℕ
+spread h bytes = fold (λ k byte. (k * 31 + byte) % nameBuckets) h bytes
+
+unfoldable pub nameBucket : ℕ → List ℕ → ℕ
+nameBucket key bytes = spread (key % nameBuckets) bytes
+
+module _ {A R : Type 0} (s : Sheet A R) (library : List ℕ) where
+  -- a thing has this key and name
+  abbrev pub isNamed : ℕ → Part → A → Bool
+  isNamed key name x = eqb (s .key x) key && sameName library (s .name x) name
+
+  -- a thing is in a bucket of either kind
+  abbrev pub inKey : ℕ → A → Bool
+  inKey b x = eqb (keyBucket (s .key x)) b
+
+  abbrev pub bucketOf : A → ℕ
+  bucketOf x = nameBucket (s .key x) (bytesOf library (s .name x))
+
+  abbrev pub inName : ℕ → A → Bool
+  inName b x = eqb (bucketOf x) b
+
+  -- the row of a thing behind others
+  abbrev pub rowAfter : List A → A → R
+  rowAfter earlier x = s .row x (newest (inKey (keyBucket (s .key x))) earlier) (newest (inName (bucketOf x)) earlier)
+
+  unfoldable pub linkedFrom : List A → List A → List R
+  linkedFrom earlier [] = []
+  linkedFrom earlier (x ∷ rest) = rowAfter earlier x ∷ linkedFrom (earlier ++ one x) rest
+
+  abbrev pub linked : List A → List R
+  linked xs = linkedFrom [] xs

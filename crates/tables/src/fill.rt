@@ -1,0 +1,34 @@
+// Lent memory that is filled with rows, one after another, until there is no room.
+ghost use mathlib.Core.Path.{_≡_};
+ghost use Rattle.tables.specs.fill.Filling.{oneMore};
+
+// How many rows were put, and whether there was one for which there was no room. After that nothing is put, and the number says nothing.
+pub struct Fill {
+    pub rows: usize,
+    pub over: bool,
+}
+
+// One row more, of a width, in memory of a length.
+pub fn one_more(f: Fill, width: usize, len: usize) -> Fill
+    ensures { λ r. ⌜ r ≡ oneMore f width len ⌝ }
+{
+    if f.over {
+        return f;
+    }
+    if width == 0 {
+        return Fill {
+            rows: f.rows,
+            over: true,
+        };
+    }
+    if f.rows < len / width {
+        return Fill {
+            rows: f.rows + 1,
+            over: false,
+        };
+    }
+    Fill {
+        rows: f.rows,
+        over: true,
+    }
+}

@@ -1,2 +1,0 @@
-// Where a whole module stands.
-pub mod module;
