@@ -20,22 +20,22 @@ use Rattle.segments.specs.Refuse.{collectRefusal}
 use Rattle.segments.specs.RefuseLaws.{collect-late}
 use Rattle.segments.specs.SegmentRows.{segmentCells, referenceCells, symbolCells, segmentRows, segmentNumbers, referenceNumbers, symbolNumbers, patternBytes, patternMasks}
 use Rattle.segments.specs.SegmentRowLaws.{bytes-take, masks-take}
-use Rattle.collect.specs.declared.stored.Counts.{Counts}
-use Rattle.collect.specs.stored.Stores.{Lists, referencesIn, symbolsIn, Room, Stores, SameLengths}
+use Rattle.collect.specs.declared.stored.CollectCounts.{CollectCounts}
+use Rattle.collect.specs.stored.Stores.{CollectLists, referencesIn, symbolsIn, Room, Stores, SameLengths}
 use Rattle.collect.specs.stored.Segments.{lists}
 use Rattle.collect.specs.declared.Collection.{Collection}
 use Rattle.collect.specs.declared.Collection.the-variants.{Done, Refused}
 use Rattle.collect.specs.all_modules.All.{nothing}
 use Rattle.collect.specs.all_modules.AllLaws.{stores-none}
-use Rattle.collect.specs.Outcome.{Outcome, countedIn, tooFew, refusalOf, zeroed, filledWith, outcomeOf, collection}
+use Rattle.collect.specs.Outcome.{CollectOutcome, countedIn, tooFew, refusalOf, collectZeroed, collectFilled, collectOutcomeOf, collection}
 use Rattle.collect.specs.OutcomeLaws.{refused-9, refused-late, counted, stored-room, no-room}
 
 same-lists : {a a′ b b′ c c′ d d′ e e′ : List ℕ} → a ≡ a′ → b ≡ b′ → c ≡ c′ → d ≡ d′ → e ≡ e′ → lists a b c d e ≡ lists a′ b′ c′ d′ e′
 same-lists p q r s t = rw (p, q, r, s, t) refl
 
 -- memory that holds segments is what the definition fills
-stored-fills : (gs : List Collected) {l after : Lists} {c : Counts} → SameLengths l after → Stores gs after c → after ≡ filledWith gs l
-unfolding filledWith segmentNumbers referenceNumbers symbolNumbers
+stored-fills : (gs : List Collected) {l after : CollectLists} {c : CollectCounts} → SameLengths l after → Stores gs after c → after ≡ collectFilled gs l
+unfolding collectFilled segmentNumbers referenceNumbers symbolNumbers
 stored-fills gs n s =
     same-lists
     (s .segments .memory ∙ ap (λ k. padded k (joined segmentCells (segmentRows gs))) (n .segments))
@@ -45,24 +45,24 @@ stored-fills gs n s =
     (s .masks .memory ∙ ap (λ k. padded k (patternMasks gs)) (n .masks))
 
 -- zeros depend on the lengths only, and so does whether there is room
-zeroed-same : {l after : Lists} → SameLengths l after → zeroed after ≡ zeroed l
-unfolding zeroed
+zeroed-same : {l after : CollectLists} → SameLengths l after → collectZeroed after ≡ collectZeroed l
+unfolding collectZeroed
 zeroed-same n = rw (n .segments, n .references, n .symbols, n .bytes, n .masks) refl
 
-few-same : {l after : Lists} (c : Counts) → SameLengths l after → tooFew after c ≡ tooFew l c
+few-same : {l after : CollectLists} (c : CollectCounts) → SameLengths l after → tooFew after c ≡ tooFew l c
 few-same c n = rw (n .segments, n .references, n .symbols, n .bytes, n .masks) refl
 
 -- zeros hold nothing yet
-pub zeroed-stores : (l : Lists) {after : Lists} → after ≡ zeroed l → Stores [] after nothing
-unfolding zeroed
+pub zeroed-stores : (l : CollectLists) {after : CollectLists} → after ≡ collectZeroed l → Stores [] after nothing
+unfolding collectZeroed
 zeroed-stores l {after} e =
-    subst (λ x. Stores [] x nothing) (sym e) (stores-none (zeroed l) (zero (length (l .segments))) (zero (length (l .references))) (zero (length (l .symbols))) (zero (length (l .bytes))) (zero (length (l .masks))))
+    subst (λ x. Stores [] x nothing) (sym e) (stores-none (collectZeroed l) (zero (length (l .segments))) (zero (length (l .references))) (zero (length (l .symbols))) (zero (length (l .bytes))) (zero (length (l .masks))))
   where
     zero : (n : ℕ) → zeros n ≡ zeros (length (zeros n))
     zero n = ap zeros (sym (length-replicate n 0))
 
-pub zeroed-lengths : (l : Lists) {after : Lists} → after ≡ zeroed l → SameLengths l after
-unfolding zeroed
+pub zeroed-lengths : (l : CollectLists) {after : CollectLists} → after ≡ collectZeroed l → SameLengths l after
+unfolding collectZeroed
 zeroed-lengths l e = rw e (record {
   segments = length-replicate (length (l .segments)) 0;
   references = length-replicate (length (l .references)) 0;
@@ -71,41 +71,41 @@ zeroed-lengths l e = rw e (record {
   masks = length-replicate (length (l .masks)) 0;
 })
 
-abbrev comes : Collection → Lists → Outcome
+abbrev comes : Collection → CollectLists → CollectOutcome
 comes answer left = record { answer = answer; left = left }
 
-module _ (rules : Rules) (library : List ℕ) (modules : List Module) (l after : Lists) (short : length library ≤ 1048576) (n : SameLengths l after) where
+module _ (rules : Rules) (library : List ℕ) (modules : List Module) (l after : CollectLists) (short : length library ≤ 1048576) (n : SameLengths l after) where
   abbrev gs : List Collected
   gs = collect rules library modules
 
-  by-refusal : {o : Option Refusal} → refusalOf library modules l (countedIn gs) ≡ o → outcomeOf o gs l ≡ collection rules library modules l
+  by-refusal : {o : Option Refusal} → refusalOf library modules l (countedIn gs) ≡ o → collectOutcomeOf o gs l ≡ collection rules library modules l
   unfolding collection
-  by-refusal e = ap (λ o. outcomeOf o gs l) (sym e)
+  by-refusal e = ap (λ o. collectOutcomeOf o gs l) (sym e)
 
-  pub done-is : {c : Counts} → Stores gs after c → collectRefusal modules ≡ none → comes (Done c) after ≡ collection rules library modules l
+  pub done-is : {c : CollectCounts} → Stores gs after c → collectRefusal modules ≡ none → comes (Done c) after ≡ collection rules library modules l
   done-is s r =
       rw (counted gs s, stored-fills gs n s) refl
       ∙ by-refusal (refused-late library modules l (countedIn gs) short (sym (few-same (countedIn gs) n) ∙ stored-room gs s) r)
 
-  zero-left : {left : Lists} (r : Refusal) → 9 ≤ refusalNumber r → left ≡ zeroed after → comes (Refused r) left ≡ outcomeOf (some r) gs l
+  zero-left : {left : CollectLists} (r : Refusal) → 9 ≤ refusalNumber r → left ≡ collectZeroed after → comes (Refused r) left ≡ collectOutcomeOf (some r) gs l
   zero-left r h e = rw (lt-leb (refusalNumber r) 8 (omega arith), e) (ap (comes (Refused r)) (zeroed-same n))
 
-  pub lacks-is : {left : Lists} → (Room gs after → ⊥) → left ≡ zeroed after → comes (Refused TooFewRows) left ≡ collection rules library modules l
+  pub lacks-is : {left : CollectLists} → (Room gs after → ⊥) → left ≡ collectZeroed after → comes (Refused TooFewRows) left ≡ collection rules library modules l
   lacks-is lacks e =
       let even = masks-take rules library modules ∙ sym (bytes-take gs) in
       zero-left TooFewRows (omega arith) e ∙ by-refusal (refused-9 library modules l (countedIn gs) short (sym (few-same (countedIn gs) n) ∙ no-room gs even lacks))
 
-  pub refused-is : {c : Counts} {r : Refusal} {left : Lists} → Stores gs after c → collectRefusal modules ≡ some r → left ≡ zeroed after → comes (Refused r) left ≡ collection rules library modules l
+  pub refused-is : {c : CollectCounts} {r : Refusal} {left : CollectLists} → Stores gs after c → collectRefusal modules ≡ some r → left ≡ collectZeroed after → comes (Refused r) left ≡ collection rules library modules l
   refused-is {c} {r} s q e =
       zero-left r (omega (arith, collect-late modules q)) e ∙ by-refusal (refused-late library modules l (countedIn gs) short (sym (few-same (countedIn gs) n) ∙ stored-room gs s) q)
 
 -- all five lists set to zero
-pub zeroed-is : (l : Lists) {a b c d e : List ℕ} → a ≡ zeros (length (l .segments)) → b ≡ zeros (length (l .references)) → c ≡ zeros (length (l .symbols)) → d ≡ zeros (length (l .bytes)) → e ≡ zeros (length (l .masks))
-    → lists a b c d e ≡ zeroed l
-unfolding zeroed
+pub zeroed-is : (l : CollectLists) {a b c d e : List ℕ} → a ≡ zeros (length (l .segments)) → b ≡ zeros (length (l .references)) → c ≡ zeros (length (l .symbols)) → d ≡ zeros (length (l .bytes)) → e ≡ zeros (length (l .masks))
+    → lists a b c d e ≡ collectZeroed l
+unfolding collectZeroed
 zeroed-is l p q r s t = rw (p, q, r, s, t) refl
 
 -- a library that is too long: nothing is written
-pub long-is : (rules : Rules) (library : List ℕ) (modules : List Module) (l : Lists) → 1048576 < length library → comes (Refused LibraryTooLong) l ≡ collection rules library modules l
+pub long-is : (rules : Rules) (library : List ℕ) (modules : List Module) (l : CollectLists) → 1048576 < length library → comes (Refused LibraryTooLong) l ≡ collection rules library modules l
 unfolding collection refusalOf leading
 long-is rules library modules l h = rw (lt-ltb 1048576 (length library) h) refl

@@ -5,8 +5,8 @@ use mathlib.Core.List.{List}
 use Rattle.lent.specs.OneOutcome.{Determines, by-equation}
 use Rattle.image.specs.declared.fixup.Rules.{Rules}
 use Rattle.omf51.specs.Module.{Module}
-use Rattle.collect.specs.stored.Stores.{Lists}
-use Rattle.collect.specs.Outcome.{Outcome, collection}
+use Rattle.collect.specs.stored.Stores.{CollectLists}
+use Rattle.collect.specs.Outcome.{CollectOutcome, collection}
 
-pub collect-one : (rules : Rules) (library : List ℕ) (modules : List Module) (l : Lists) → Determines (λ (o : Outcome). o ≡ collection rules library modules l)
+pub collect-one : (rules : Rules) (library : List ℕ) (modules : List Module) (l : CollectLists) → Determines (λ (o : CollectOutcome). o ≡ collection rules library modules l)
 collect-one rules library modules l = by-equation (collection rules library modules l)

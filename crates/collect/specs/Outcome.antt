@@ -16,17 +16,17 @@ use Rattle.omf51.specs.Module.{Module}
 use Rattle.segments.specs.Collect.{Collected, collect}
 use Rattle.segments.specs.Refuse.{collectRefusal}
 use Rattle.segments.specs.SegmentRows.{segmentWidth, referenceWidth, symbolWidth, segmentNumbers, referenceNumbers, symbolNumbers, patternBytes, patternMasks}
-use Rattle.collect.specs.declared.stored.Counts.{Counts}
-use Rattle.collect.specs.stored.Stores.{Lists}
+use Rattle.collect.specs.declared.stored.CollectCounts.{CollectCounts}
+use Rattle.collect.specs.stored.Stores.{CollectLists}
 use Rattle.collect.specs.declared.Collection.{Collection}
 use Rattle.collect.specs.declared.Collection.the-variants.{Done, Refused}
 
-pub record Outcome : Type 0 where
+pub record CollectOutcome : Type 0 where
   pub answer : Collection
-  pub left : Lists
+  pub left : CollectLists
 
 -- the rows and pattern bytes that segments take
-unfoldable pub countedIn : List Collected → Counts
+unfoldable pub countedIn : List Collected → CollectCounts
 countedIn gs = record {
   segments = length gs;
   references = total (λ g. length (g .references)) gs;
@@ -35,20 +35,20 @@ countedIn gs = record {
 }
 
 -- refusal 9: more than were lent; a pattern byte takes a byte and a mask
-abbrev pub tooFew : Lists → Counts → Bool
+abbrev pub tooFew : CollectLists → CollectCounts → Bool
 tooFew l c =
     tooMany segmentWidth (l .segments) (c .segments)
     || (tooMany referenceWidth (l .references) (c .references)
     || (tooMany symbolWidth (l .symbols) (c .symbols) || (tooMany 1 (l .bytes) (c .pattern) || tooMany 1 (l .masks) (c .pattern))))
 
 -- the refusals in their order, of which the first counts
-unfoldable pub refusalOf : List ℕ → List Module → Lists → Counts → Option Refusal
+unfoldable pub refusalOf : List ℕ → List Module → CollectLists → CollectCounts → Option Refusal
 refusalOf library modules l c =
     leading (when (ltb 1048576 (length library)) LibraryTooLong ∷ when (tooFew l c) TooFewRows ∷ collectRefusal modules ∷ [])
 
 -- lent memory set to zero; and filled with segments, the rest zero
-unfoldable pub zeroed : Lists → Lists
-zeroed l = record {
+unfoldable pub collectZeroed : CollectLists → CollectLists
+collectZeroed l = record {
   segments = zeros (length (l .segments));
   references = zeros (length (l .references));
   symbols = zeros (length (l .symbols));
@@ -56,8 +56,8 @@ zeroed l = record {
   masks = zeros (length (l .masks));
 }
 
-unfoldable pub filledWith : List Collected → Lists → Lists
-filledWith gs l = record {
+unfoldable pub collectFilled : List Collected → CollectLists → CollectLists
+collectFilled gs l = record {
   segments = padded (length (l .segments)) (segmentNumbers gs);
   references = padded (length (l .references)) (referenceNumbers gs);
   symbols = padded (length (l .symbols)) (symbolNumbers gs);
@@ -66,11 +66,11 @@ filledWith gs l = record {
 }
 
 -- a refusal up to 8 writes nothing, 9 to 13 set all that was lent to zero
-abbrev pub outcomeOf : Option Refusal → List Collected → Lists → Outcome
-outcomeOf none gs l = record { answer = Done (countedIn gs); left = filledWith gs l }
-outcomeOf (some r) gs l = record { answer = Refused r; left = if leb (refusalNumber r) 8 then l else zeroed l }
+abbrev pub collectOutcomeOf : Option Refusal → List Collected → CollectLists → CollectOutcome
+collectOutcomeOf none gs l = record { answer = Done (countedIn gs); left = collectFilled gs l }
+collectOutcomeOf (some r) gs l = record { answer = Refused r; left = if leb (refusalNumber r) 8 then l else collectZeroed l }
 
-unfoldable pub collection : Rules → List ℕ → List Module → Lists → Outcome
+unfoldable pub collection : Rules → List ℕ → List Module → CollectLists → CollectOutcome
 collection rules library modules l =
     let gs = collect rules library modules in
-    outcomeOf (refusalOf library modules l (countedIn gs)) gs l
+    collectOutcomeOf (refusalOf library modules l (countedIn gs)) gs l

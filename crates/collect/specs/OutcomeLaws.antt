@@ -17,14 +17,14 @@ use Rattle.omf51.specs.Module.{Module}
 use Rattle.segments.specs.Collect.{Collected}
 use Rattle.segments.specs.Refuse.{collectRefusal}
 use Rattle.segments.specs.SegmentRows.{patternBytes, patternMasks}
-use Rattle.collect.specs.declared.stored.Counts.{Counts}
-use Rattle.collect.specs.stored.Stores.{Lists, Room, Stores}
+use Rattle.collect.specs.declared.stored.CollectCounts.{CollectCounts}
+use Rattle.collect.specs.stored.Stores.{CollectLists, Room, Stores}
 use Rattle.collect.specs.stored.StoreLaws.{stored-count}
 use Rattle.collect.specs.all_modules.All.{nothing}
 use Rattle.collect.specs.Outcome.{countedIn, tooFew, refusalOf}
 
 -- the order of the refusals, once the library is short enough
-module _ (library : List ℕ) (modules : List Module) (l : Lists) (c : Counts) (short : length library ≤ 1048576) where
+module _ (library : List ℕ) (modules : List Module) (l : CollectLists) (c : CollectCounts) (short : length library ≤ 1048576) where
   pub refused-9 : tooFew l c ≡ true → refusalOf library modules l c ≡ some TooFewRows
   unfolding refusalOf leading
   refused-9 e = rw (le-ltb 1048576 (length library) short, e) refl
@@ -39,16 +39,16 @@ module _ (library : List ℕ) (modules : List Module) (l : Lists) (c : Counts) (
 
 -- the counts of segments, and room for them
 module _ (gs : List Collected) where
-  pub counted : {l : Lists} {c : Counts} → Stores gs l c → c ≡ countedIn gs
+  pub counted : {l : CollectLists} {c : CollectCounts} → Stores gs l c → c ≡ countedIn gs
   unfolding countedIn patternBytes
   counted {l} {c} s =
       same (stored-count s) (s .references .number ∙ joined-length (λ g. g .references) gs) (s .symbols .number ∙ joined-length (λ g. g .symbols) gs) (s .pattern ∙ joined-length (λ g. g .bytes) gs)
     where
       same : {a a′ b b′ d d′ e e′ : ℕ} → a ≡ a′ → b ≡ b′ → d ≡ d′ → e ≡ e′
-          → _≡_ {A = Counts} (record { segments = a; references = b; symbols = d; pattern = e }) (record { segments = a′; references = b′; symbols = d′; pattern = e′ })
+          → _≡_ {A = CollectCounts} (record { segments = a; references = b; symbols = d; pattern = e }) (record { segments = a′; references = b′; symbols = d′; pattern = e′ })
       same a b d e = rw (a, b, d, e) refl
 
-  pub stored-room : {l : Lists} {c : Counts} → Stores gs l c → tooFew l (countedIn gs) ≡ false
+  pub stored-room : {l : CollectLists} {c : CollectCounts} → Stores gs l c → tooFew l (countedIn gs) ≡ false
   stored-room {l} {c} s = rw (← counted s) (go
       (le-ltb (length (l .segments)) (c .segments * 8) (rw (s .segments .number) (s .segments .room)))
       (le-ltb (length (l .references)) (c .references * 6) (rw (s .references .number) (s .references .room)))
@@ -59,7 +59,7 @@ module _ (gs : List Collected) where
       go : {a b d e f : Bool} → a ≡ false → b ≡ false → d ≡ false → e ≡ false → f ≡ false → (a || (b || (d || (e || f)))) ≡ false
       go a b d e f = rw (a, b, d, e, f) refl
 
-  pub no-room : {l : Lists} → length (patternMasks gs) ≡ length (patternBytes gs) → (Room gs l → ⊥) → tooFew l (countedIn gs) ≡ true
+  pub no-room : {l : CollectLists} → length (patternMasks gs) ≡ length (patternBytes gs) → (Room gs l → ⊥) → tooFew l (countedIn gs) ≡ true
   unfolding countedIn patternBytes patternMasks
   no-room {l} even lacks = go (tooFew l (countedIn gs)) refl
     where

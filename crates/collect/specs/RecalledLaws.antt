@@ -16,8 +16,8 @@ use Rattle.segments.specs.SegmentRows.{segmentWidth, segmentNumbers, referenceN
 use Rattle.segments.specs.SegmentRowLaws.{segments-take, references-take, symbols-take, bytes-take, masks-take, masks-like-bytes}
 use Rattle.segments.specs.recalled.Recall.{recalled}
 use Rattle.segments.specs.recalled.RecallLaws.{Filled, recalled-all}
-use Rattle.collect.specs.stored.Stores.{Lists}
-use Rattle.collect.specs.Outcome.{countedIn, tooFew, zeroed, filledWith}
+use Rattle.collect.specs.stored.Stores.{CollectLists}
+use Rattle.collect.specs.Outcome.{countedIn, tooFew, collectZeroed, collectFilled}
 
 -- none of five tests holds
 none-of : (a b c d e : Bool) → (a || (b || (c || (d || e)))) ≡ false → (a ≡ false) × (b ≡ false) × (c ≡ false) × (d ≡ false) × (e ≡ false)
@@ -31,12 +31,12 @@ none-of true b c d e h = absurd (false≢true (sym h))
 again : (room : ℕ) (xs : List ℕ) → length xs ≤ room → padded room xs ≡ padded (length (padded room xs)) xs
 again room xs h = ap (λ n. padded n xs) (sym (padded-length room xs h))
 
-module _ (rules : Rules) (library : List ℕ) (modules : List Module) (l : Lists) (fits : tooFew l (countedIn (collect rules library modules)) ≡ false) where
+module _ (rules : Rules) (library : List ℕ) (modules : List Module) (l : CollectLists) (fits : tooFew l (countedIn (collect rules library modules)) ≡ false) where
   abbrev gs : List Collected
   gs = collect rules library modules
 
-  abbrev left : Lists
-  left = filledWith gs l
+  abbrev left : CollectLists
+  left = collectFilled gs l
 
   -- there is room for all of it
   record Fits : Type 0 where
@@ -59,7 +59,7 @@ module _ (rules : Rules) (library : List ℕ) (modules : List Module) (l : Lists
       }
 
   pub collection-filled : Filled gs (left .segments) (left .references) (left .symbols) (left .bytes) (left .masks)
-  unfolding filledWith
+  unfolding collectFilled
   collection-filled =
       let h = all-fits in
       record {
@@ -75,8 +75,8 @@ module _ (rules : Rules) (library : List ℕ) (modules : List Module) (l : Lists
       }
 
   -- each list keeps its length, so what is set to zero later is as much as was lent
-  pub collection-zeroed : zeroed left ≡ zeroed l
-  unfolding filledWith zeroed
+  pub collection-zeroed : collectZeroed left ≡ collectZeroed l
+  unfolding collectFilled collectZeroed
   collection-zeroed =
       let h = all-fits in
       rw (

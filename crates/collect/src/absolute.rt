@@ -9,7 +9,7 @@ ghost use Rattle.collect.specs.absolute.Absolute.{StoresAbsolutes};
 pub mod one;
 
 use crate::absolute::one::store_absolute;
-use crate::stored::Counts;
+use crate::stored::CollectCounts;
 use crate::stored::Stored;
 use library::items::NextContent;
 use library::items::contents::next_content;
@@ -29,7 +29,7 @@ pub fn store_absolutes(
     entries: &[u32],
     heads: &[u32],
     onward: &[u32],
-    before: Counts,
+    before: CollectCounts,
     segments: &mut [u64],
     references: &mut [u64],
     symbols: &mut [u64],

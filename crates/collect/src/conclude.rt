@@ -4,10 +4,10 @@ ghost use mathlib.Core.List.{[]};
 ghost use Prim.Native.Nat.{_≤_};
 ghost use lib.ListN.{length};
 ghost use Rattle.omf51.specs.Module.{moduleAt};
-ghost use Rattle.library.specs.Found.{found};
+ghost use Rattle.library.specs.Gathered.{itemsAt};
 ghost use Rattle.module_ids.specs.Noted.{Tells};
 ghost use Rattle.collect.specs.stored.Segments.{lists};
-ghost use Rattle.collect.specs.Outcome.{zeroed};
+ghost use Rattle.collect.specs.Outcome.{collectZeroed};
 ghost use Rattle.collect.specs.Concluded.{Concludes};
 use crate::Collection;
 use crate::stored::Stored;
@@ -25,7 +25,7 @@ pub fn clear_all(
     bytes: &mut [u8],
     masks: &mut [u8],
 )
-    ensures { λ _. ⌜ lists (now (segments .exit)) (now (references .exit)) (now (symbols .exit)) (now (bytes .exit)) (now (masks .exit)) ≡ zeroed (lists (now (segments .entry)) (now (references .entry)) (now (symbols .entry)) (now (bytes .entry)) (now (masks .entry))) ⌝ }
+    ensures { λ _. ⌜ lists (now (segments .exit)) (now (references .exit)) (now (symbols .exit)) (now (bytes .exit)) (now (masks .exit)) ≡ collectZeroed (lists (now (segments .entry)) (now (references .entry)) (now (symbols .entry)) (now (bytes .entry)) (now (masks .entry))) ⌝ }
 {
     clear(segments);
     clear(references);
@@ -47,7 +47,7 @@ pub fn conclude(
     masks: &mut [u8],
 ) -> Collection
     requires { ⌜ Tells [] (now table) × (length (now library) ≤ 1048576) ⌝ }
-    ensures { λ r. ⌜ Concludes (now (library .entry)) (found (now (library .entry)) (moduleAt (now (library .entry))) from) (lists (now (segments .entry)) (now (references .entry)) (now (symbols .entry)) (now (bytes .entry)) (now (masks .entry))) stored
+    ensures { λ r. ⌜ Concludes (now (library .entry)) (itemsAt (now (library .entry)) (moduleAt (now (library .entry))) from) (lists (now (segments .entry)) (now (references .entry)) (now (symbols .entry)) (now (bytes .entry)) (now (masks .entry))) stored
         (record { answer = r; left = lists (now (segments .exit)) (now (references .exit)) (now (symbols .exit)) (now (bytes .exit)) (now (masks .exit)) }) ⌝ }
 {
     let Stored::Rows(c) = stored else {

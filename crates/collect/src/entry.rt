@@ -4,7 +4,7 @@ ghost use mathlib.Core.List.{[]};
 ghost use Prim.Native.Nat.{_≤_};
 ghost use lib.ListN.{length};
 ghost use Rattle.omf51.specs.Module.{moduleAt};
-ghost use Rattle.library.specs.Found.{found};
+ghost use Rattle.library.specs.Gathered.{itemsAt};
 ghost use Rattle.module_ids.specs.Noted.{Tells};
 ghost use Rattle.collect.specs.stored.Stores.{Stores};
 ghost use Rattle.collect.specs.stored.Segments.{lists};
@@ -42,7 +42,7 @@ fn store_short(
     masks: &mut [u8],
 ) -> Stored
     requires { ⌜ (length (now library) ≤ 65536) × (Tells [] (now table) × Stores [] (lists (now segments) (now references) (now symbols) (now bytes) (now masks)) nothing) ⌝ }
-    ensures { λ r. ⌜ StoresAll (now (library .entry)) rules (found (now (library .entry)) (moduleAt (now (library .entry))) from) (now (table .exit))
+    ensures { λ r. ⌜ StoresAll (now (library .entry)) rules (itemsAt (now (library .entry)) (moduleAt (now (library .entry))) from) (now (table .exit))
         (lists (now (segments .entry)) (now (references .entry)) (now (symbols .entry)) (now (bytes .entry)) (now (masks .entry)))
         (lists (now (segments .exit)) (now (references .exit)) (now (symbols .exit)) (now (bytes .exit)) (now (masks .exit))) r ⌝ }
 {
@@ -90,7 +90,7 @@ fn store_long(
     masks: &mut [u8],
 ) -> Stored
     requires { ⌜ (length (now library) ≤ 1048576) × (Tells [] (now table) × Stores [] (lists (now segments) (now references) (now symbols) (now bytes) (now masks)) nothing) ⌝ }
-    ensures { λ r. ⌜ StoresAll (now (library .entry)) rules (found (now (library .entry)) (moduleAt (now (library .entry))) from) (now (table .exit))
+    ensures { λ r. ⌜ StoresAll (now (library .entry)) rules (itemsAt (now (library .entry)) (moduleAt (now (library .entry))) from) (now (table .exit))
         (lists (now (segments .entry)) (now (references .entry)) (now (symbols .entry)) (now (bytes .entry)) (now (masks .entry)))
         (lists (now (segments .exit)) (now (references .exit)) (now (symbols .exit)) (now (bytes .exit)) (now (masks .exit))) r ⌝ }
 {
@@ -138,7 +138,7 @@ fn store(
     masks: &mut [u8],
 ) -> Stored
     requires { ⌜ (length (now library) ≤ 1048576) × (Tells [] (now table) × Stores [] (lists (now segments) (now references) (now symbols) (now bytes) (now masks)) nothing) ⌝ }
-    ensures { λ r. ⌜ StoresAll (now (library .entry)) rules (found (now (library .entry)) (moduleAt (now (library .entry))) from) (now (table .exit))
+    ensures { λ r. ⌜ StoresAll (now (library .entry)) rules (itemsAt (now (library .entry)) (moduleAt (now (library .entry))) from) (now (table .exit))
         (lists (now (segments .entry)) (now (references .entry)) (now (symbols .entry)) (now (bytes .entry)) (now (masks .entry)))
         (lists (now (segments .exit)) (now (references .exit)) (now (symbols .exit)) (now (bytes .exit)) (now (masks .exit))) r ⌝ }
 {
@@ -180,7 +180,7 @@ pub fn collect(
     masks: &mut [u8],
 ) -> Collection
     ensures { λ r. ⌜ record { answer = r; left = lists (now (segments .exit)) (now (references .exit)) (now (symbols .exit)) (now (bytes .exit)) (now (masks .exit)) }
-        ≡ collection rules (now (library .entry)) (found (now (library .entry)) (moduleAt (now (library .entry))) from) (lists (now (segments .entry)) (now (references .entry)) (now (symbols .entry)) (now (bytes .entry)) (now (masks .entry))) ⌝ }
+        ≡ collection rules (now (library .entry)) (itemsAt (now (library .entry)) (moduleAt (now (library .entry))) from) (lists (now (segments .entry)) (now (references .entry)) (now (symbols .entry)) (now (bytes .entry)) (now (masks .entry))) ⌝ }
 {
     if library.len() > 1048576 {
         return Collection::Refused(Refusal::LibraryTooLong);

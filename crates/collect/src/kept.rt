@@ -10,7 +10,7 @@ ghost use Rattle.collect.specs.kept.Kept.{StoresDefinition, StoresKeeps}
 pub mod one;
 
 use crate::kept::one::store_kept;
-use crate::stored::Counts;
+use crate::stored::CollectCounts;
 use crate::stored::Stored;
 use crate::stored::row::since;
 use library::items::NextDefinition;
@@ -51,7 +51,7 @@ fn store_definition(
     heads: &[u32],
     onward: &[u32],
     entries: &[u32],
-    c: Counts,
+    c: CollectCounts,
     segments: &mut [u64],
     references: &mut [u64],
     symbols: &mut [u64],
@@ -102,7 +102,7 @@ pub fn store_keeps(
     heads: &[u32],
     onward: &[u32],
     entries: &[u32],
-    before: Counts,
+    before: CollectCounts,
     segments: &mut [u64],
     references: &mut [u64],
     symbols: &mut [u64],

@@ -7,11 +7,11 @@ pub mod kept;
 pub mod one_module;
 pub mod stored;
 
-use crate::stored::Counts;
+use crate::stored::CollectCounts;
 use lent::refusal::Refusal;
 
 // How many rows and pattern bytes were written, or why there are none.
 pub enum Collection {
-    Done(Counts),
+    Done(CollectCounts),
     Refused(Refusal),
 }

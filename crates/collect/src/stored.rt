@@ -3,7 +3,7 @@ pub mod row;
 pub mod rules;
 
 // What is stored so far: rows of each kind, and bytes of pattern memory.
-pub struct Counts {
+pub struct CollectCounts {
     pub segments: usize,
     pub references: usize,
     pub symbols: usize,
@@ -12,6 +12,6 @@ pub struct Counts {
 
 // All of it is stored, or there is no room; then the memory is not looked at again.
 pub enum Stored {
-    Rows(Counts),
+    Rows(CollectCounts),
     NoRoom,
 }

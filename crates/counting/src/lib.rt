@@ -52,7 +52,7 @@ pub extern "C" fn count_collecting(
     match read(library) {
         Reading::Modules { first, count } => match collect(
             library,
-            Rules::Found,
+            Rules::AsFound,
             first,
             segments,
             references,
@@ -95,7 +95,7 @@ pub extern "C" fn count_searching(
     noted: &mut [u64],
 ) -> u8 {
     let asked = Asked {
-        rules: Rules::Found,
+        rules: Rules::AsFound,
         check,
         minimum,
     };
@@ -151,7 +151,7 @@ pub extern "C" fn count_listing(
     let filled = list_rows(
         image,
         Stretch { start: 0, len: 0 },
-        Rules::Found,
+        Rules::AsFound,
         skip,
         library,
         segments,

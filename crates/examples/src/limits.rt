@@ -65,7 +65,7 @@ fn leads_beside(pos: usize, kind: Kind) {
 }
 
 fn less(offset: u64) {
-    target(&IMAGE, plain(), Rules::Found, 0, Kind::Word, offset);
+    target(&IMAGE, plain(), Rules::AsFound, 0, Kind::Word, offset);
 }
 
 // References at the end, in the stretch, and with offsets up to the end of 64 bits.

@@ -42,7 +42,7 @@ fn patterns() {
 }
 
 fn by_both_rules(image: &[u8; 2048], pos: usize, kind: Kind) {
-    target(image, plain(), Rules::Found, pos, kind, 0);
+    target(image, plain(), Rules::AsFound, pos, kind, 0);
     target(image, plain(), Rules::Documented, pos, kind, 0);
     say(b"\n");
 }
@@ -68,11 +68,18 @@ fn targets() {
     say(b"P9");
     both(0, Kind::Relative, 0xfe, 0);
     say(b"P10");
-    target(b"\x00\x00\x00\x12", plain(), Rules::Found, 3, Kind::Word, 0);
+    target(
+        b"\x00\x00\x00\x12",
+        plain(),
+        Rules::AsFound,
+        3,
+        Kind::Word,
+        0,
+    );
     target(
         b"\x00\x00\x00\x12\x34",
         plain(),
-        Rules::Found,
+        Rules::AsFound,
         3,
         Kind::Word,
         0,

@@ -1,5 +1,5 @@
 // How examples are shown, on standard output.
-use image::Found;
+use image::FirstPlace;
 use image::Stretch;
 use image::fixup::Kind;
 use image::fixup::Rules;
@@ -35,11 +35,11 @@ pub fn matches(image: &[u8], s: Stretch, bytes: &[u8], masks: &[u8]) {
     while turns < 16 {
         turns += 1;
         match image::next_match(image, s, bytes, masks, at) {
-            Found::At(p) => {
+            FirstPlace::At(p) => {
                 number(p);
                 at = std::num::wrapping_add_usize(p, 1);
             }
-            Found::Nothing => {
+            FirstPlace::Nothing => {
                 say(b"\n");
                 return;
             }

@@ -3,8 +3,8 @@ use Prim.Native.Nat.{ℕ, _+_, _-_}
 use mathlib.Core.List.{List, [], _∷_}
 use lib.ListN.{length}
 use Rattle.lent.specs.Lists.{keep, from}
-use Rattle.image.specs.declared.Found.{Found}
-use Rattle.image.specs.declared.Found.the-variants.{At, Nothing}
+use Rattle.image.specs.declared.FirstPlace.{FirstPlace}
+use Rattle.image.specs.declared.FirstPlace.the-variants.{At, Nothing}
 use Rattle.image.specs.Match.{matchesAt}
 
 -- all matches at or after a place, ascending
@@ -12,9 +12,9 @@ unfoldable pub matchesFrom : List ℕ → List ℕ → List ℕ → ℕ → List
 matchesFrom cells bytes masks at = keep (matchesAt cells bytes masks) (from at (length cells + 1 - at))
 
 -- the first of them
-abbrev pub firstFound : List ℕ → Found
+abbrev pub firstFound : List ℕ → FirstPlace
 firstFound [] = Nothing
 firstFound (at ∷ rest) = At at
 
-unfoldable pub nextMatch : List ℕ → List ℕ → List ℕ → ℕ → Found
+unfoldable pub nextMatch : List ℕ → List ℕ → List ℕ → ℕ → FirstPlace
 nextMatch cells bytes masks at = firstFound (matchesFrom cells bytes masks at)

@@ -9,7 +9,7 @@ use lib.ListN.{length}
 use Rattle.lent.specs.Lists.{one, keep, from}
 use Rattle.lent.specs.ListLaws.{from-turn}
 use Rattle.lent.specs.Members.{_among_, to-keep, to-from}
-use Rattle.image.specs.declared.Found.the-variants.{At, Nothing}
+use Rattle.image.specs.declared.FirstPlace.the-variants.{At, Nothing}
 use Rattle.image.specs.declared.Seat.the-variants.{Anywhere, Only}
 use Rattle.image.specs.Match.{matchesAt, matches}
 use Rattle.image.specs.MatchLaws.{match-past, matches-at}

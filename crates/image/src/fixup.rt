@@ -8,7 +8,7 @@ use crate::Stretch;
 
 // The rule sets: 0, as found, and 1, as documented.
 pub enum Rules {
-    Found,
+    AsFound,
     Documented,
 }
 
@@ -63,7 +63,7 @@ fn top_bits(rules: Rules, a: u8) -> u64
     ensures { λ r. ⌜ r ≡ topBits rules a ⌝ }
 {
     match rules {
-        Rules::Found => 0,
+        Rules::AsFound => 0,
         Rules::Documented => wide(a >> 5),
     }
 }

@@ -22,7 +22,7 @@ pub enum Seat {
 }
 
 // Where a match was found.
-pub enum Found {
+pub enum FirstPlace {
     At(usize),
     Nothing,
 }
@@ -131,22 +131,22 @@ pub fn match_at(image: &[u8], s: Stretch, bytes: &[u8], masks: &[u8], at: usize)
 }
 
 // The first match at or after a place.
-pub fn next_match(image: &[u8], s: Stretch, bytes: &[u8], masks: &[u8], from: usize) -> Found
+pub fn next_match(image: &[u8], s: Stretch, bytes: &[u8], masks: &[u8], from: usize) -> FirstPlace
     ensures { λ r. ⌜ r ≡ nextMatch (view (now (image .entry)) s) (now (bytes .entry)) (now (masks .entry)) from ⌝ }
 {
     if image.len() < bytes.len() {
-        return Found::Nothing;
+        return FirstPlace::Nothing;
     }
     let last = image.len() - bytes.len();
     let mut at = from;
     while at <= last {
         if match_at(image, s, bytes, masks, at) {
-            return Found::At(at);
+            return FirstPlace::At(at);
         }
         if at == last {
-            return Found::Nothing;
+            return FirstPlace::Nothing;
         }
         at += 1;
     }
-    Found::Nothing
+    FirstPlace::Nothing
 }

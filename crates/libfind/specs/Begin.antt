@@ -10,7 +10,7 @@ use Rattle.lent.specs.declared.refusal.Refusal.the-variants.{RuleSet, ImageTooL
 use Rattle.lent.specs.Choice.{when, orElse, leading}
 use Rattle.omf51.specs.Module.{moduleAt}
 use Rattle.omf51.specs.File.{file, fileRefusal, modulesIn}
-use Rattle.library.specs.Found.{found}
+use Rattle.library.specs.Gathered.{itemsAt}
 use Rattle.library.specs.Reading.{firstAt}
 use Rattle.run.specs.declared.Settings.{Settings}
 use Rattle.run.specs.Given.{Accepted}
@@ -45,4 +45,4 @@ beginning image library s = beginsAt (firstAt library) (orElse (settingsRefusal 
 pub record Begun (image library : List ℕ) (s : Settings) (first : ℕ) : Type 0 where
   pub accepted : Accepted image library s
   pub is-read : fileRefusal (file library) ≡ none
-  pub there : modulesIn (file library) ≡ found library (moduleAt library) first
+  pub there : modulesIn (file library) ≡ itemsAt library (moduleAt library) first

@@ -12,7 +12,7 @@ use Rattle.lent.specs.declared.refusal.Refusal.{Refusal}
 use Rattle.lent.specs.declared.refusal.Refusal.the-variants.{RuleSet, ImageTooLong, LibraryTooLong, StretchPastEnd}
 use Rattle.lent.specs.Choice.{when, orElse, leading}
 use Rattle.lent.specs.Leading.{none≢some}
-use Rattle.omf51.specs.Reader.{Outcome, read, stop, refused}
+use Rattle.omf51.specs.Reader.{ReadOutcome, read, stop, refused}
 use Rattle.omf51.specs.Module.{Module}
 use Rattle.omf51.specs.File.{file, fileRefusal}
 use Rattle.library.specs.declared.Reading.{Reading}
@@ -110,7 +110,7 @@ module _ (image library : List ℕ) (s : Settings) where
     unfolding beginning reading
     begin-at {first} {count} e = rw (fine settings ok, modules-stand library (sym e) .unrefused) (go (file library) e)
       where
-        go : (o : Outcome (List Module)) → Reading.Modules first count ≡ readingOf (firstAt library) o → Beginning.At first ≡ Beginning.At (firstAt library)
+        go : (o : ReadOutcome (List Module)) → Reading.Modules first count ≡ readingOf (firstAt library) o → Beginning.At first ≡ Beginning.At (firstAt library)
         go (read modules next) q = cc
         go stop q = let z : _≡_ {A = ℕ} 0 1 = cc in absurd (omega arith)
         go (refused r) q = let z : _≡_ {A = ℕ} 0 1 = cc in absurd (omega arith)
@@ -125,7 +125,7 @@ module _ (image library : List ℕ) (s : Settings) where
   unfolding beginning reading
   begun {first} e = let p = two settings (fileRefusal (file library)) e in go (file library) refl p
     where
-      go : (o : Outcome (List Module)) → file library ≡ o → (settings ≡ none) × (fileRefusal (file library) ≡ none) × (first ≡ firstAt library) → Begun image library s first
+      go : (o : ReadOutcome (List Module)) → file library ≡ o → (settings ≡ none) × (fileRefusal (file library) ≡ none) × (first ≡ firstAt library) → Begun image library s first
       go (read modules next) q p = record {
         accepted = accepted (p .0);
         is-read = p .1;

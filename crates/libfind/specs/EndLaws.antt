@@ -20,19 +20,19 @@ use Rattle.image.specs.ViewLaws.{view-length}
 use Rattle.image.specs.fixup.Target.{rulesOf}
 use Rattle.omf51.specs.Module.{Module, moduleAt}
 use Rattle.omf51.specs.File.{file, fileRefusal, modulesIn}
-use Rattle.library.specs.Found.{found as modulesFrom}
+use Rattle.library.specs.Gathered.{itemsAt as modulesFrom}
 use Rattle.segments.specs.Collect.{Collected, collect}
 use Rattle.segments.specs.Refuse.{collectRefusal}
 use Rattle.segments.specs.RefuseLaws.{collect-late}
-use Rattle.collect.specs.declared.stored.Counts.{Counts as Stored}
-use Rattle.collect.specs.stored.Stores.{Lists as Collectable}
+use Rattle.collect.specs.declared.stored.CollectCounts.{CollectCounts as Stored}
+use Rattle.collect.specs.stored.Stores.{CollectLists as Collectable}
 use Rattle.collect.specs.declared.Collection.{Collection}
 use Rattle.collect.specs.declared.Collection.the-variants as Collection
-use Rattle.collect.specs.Outcome.{Outcome as Collecting, countedIn, refusalOf as refusalOfCollection, zeroed as zeroedCollection, filledWith as filledCollection, outcomeOf as collectionOf, collection}
+use Rattle.collect.specs.Outcome.{CollectOutcome as Collecting, countedIn, refusalOf as refusalOfCollection, collectZeroed as zeroedCollection, collectFilled as filledCollection, collectOutcomeOf as collectionOf, collection}
 use Rattle.collect.specs.RecalledLaws.{collection-recalled, collection-zeroed}
 use Rattle.search.specs.visit.Visits.{segmentsIn}
-use Rattle.search.specs.Outcome.{zeroed as zeroedSearch, filledWith as filledSearch}
-use Rattle.listing.specs.Outcome.{Yield as Findings, yields, refusalOf as refusalOfFinding, outcomeOf as findingOf, found}
+use Rattle.search.specs.Outcome.{searchZeroed as zeroedSearch, searchFilled as filledSearch}
+use Rattle.listing.specs.Outcome.{Yield as Findings, yields, refusalOf as refusalOfFinding, findOutcomeOf as findingOf, findOutcome}
 use Rattle.run.specs.declared.Settings.{Settings}
 use Rattle.run.specs.declared.Answer.the-variants.{Done, Refused}
 use Rattle.run.specs.Run.{Lent, lentLists, Yield, askedOf, stages, counted, collectOver, searchOver, listOver, refusals, zeroed, filledWith, outcomeOf, runSeen, run}
@@ -184,8 +184,8 @@ module _ (image library : List ℕ) (s : Settings) (lent : Lent) where
           go true q = absurd (none≢some (sym q))
           go false q = refl
 
-      found-is : found cells (askedOf s) (s .skip) library (length gs) (findable filled lent) ≡ findingOf library finding findings (findable filled lent)
-      unfolding found refusalOfFinding leading counted countedIn stages yields
+      found-is : findOutcome cells (askedOf s) (s .skip) library (length gs) (findable filled lent) ≡ findingOf library finding findings (findable filled lent)
+      unfolding findOutcome refusalOfFinding leading counted countedIn stages yields
       found-is =
           ap (λ xs. findingOf library (refusalOfFinding cells (findable filled lent) (yields cells (askedOf s) (s .skip) library xs)) (yields cells (askedOf s) (s .skip) library xs) (findable filled lent)) recalled
           ∙ ap (λ o. findingOf library o findings (findable filled lent)) in-order
@@ -215,18 +215,18 @@ module _ (image library : List ℕ) (s : Settings) (lent : Lent) where
           zero = collection-zeroed (rulesOf (s .rules)) library modules (collectable lent) fits
 
     pub collected-then : {c : Stored} {left : Collectable} → record { answer = Collection.Done c; left = left } ≡ collected
-        → concluded c (found cells (askedOf s) (s .skip) library (c .segments) (findable left lent)) ≡ run image library s lent
+        → concluded c (findOutcome cells (askedOf s) (s .skip) library (c .segments) (findable left lent)) ≡ run image library s lent
     unfolding countedIn countsIn isDone
     collected-then {c} {left} e = go collecting refl (e ∙ collected-is)
       where
         go : (o : Option Refusal) → collecting ≡ o → record { answer = Collection.Done c; left = left } ≡ collectionOf o gs (collectable lent)
-            → concluded c (found cells (askedOf s) (s .skip) library (c .segments) (findable left lent)) ≡ run image library s lent
+            → concluded c (findOutcome cells (askedOf s) (s .skip) library (c .segments) (findable left lent)) ≡ run image library s lent
         go (some x) q p = absurd (false≢true (sym (ap (λ o. isDone (o .answer)) p)))
         go none q p =
             let same : c ≡ countedIn gs = ap (λ o. countsIn (o .answer)) p in
             let full : left ≡ filled = ap (λ o. o .left) p in
-            ap (λ x. concluded x (found cells (askedOf s) (s .skip) library (x .segments) (findable left lent))) same
-            ∙ ap (λ x. concluded (countedIn gs) (found cells (askedOf s) (s .skip) library (length gs) (findable x lent))) full
+            ap (λ x. concluded x (findOutcome cells (askedOf s) (s .skip) library (x .segments) (findable left lent))) same
+            ∙ ap (λ x. concluded (countedIn gs) (findOutcome cells (askedOf s) (s .skip) library (length gs) (findable x lent))) full
             ∙ ap (concluded (countedIn gs)) (found-is q)
             ∙ rest-is q finding refl
             ∙ sym (run-by ∙ ap (λ o. outcomeOf library (orElse o finding) yield lent) q)

@@ -3,11 +3,11 @@ use Prim.Native.Nat.{ℕ}
 use mathlib.Core.Path.{_≡_}
 use mathlib.Core.List.{List}
 use Rattle.search.specs.visit.Visits.{stored}
-use Rattle.collect.specs.declared.stored.Counts.{Counts as Stored}
-use Rattle.collect.specs.stored.Stores.{Lists as Collectable}
-use Rattle.listing.specs.declared.Found.{Found}
-use Rattle.listing.specs.declared.Found.the-variants as Found
-use Rattle.listing.specs.Outcome.{Lists, Outcome as Finding}
+use Rattle.collect.specs.declared.stored.CollectCounts.{CollectCounts as Stored}
+use Rattle.collect.specs.stored.Stores.{CollectLists as Collectable}
+use Rattle.listing.specs.declared.FindAnswer.{FindAnswer}
+use Rattle.listing.specs.declared.FindAnswer.the-variants as FindAnswer
+use Rattle.listing.specs.Outcome.{FindLists, FindOutcome as Finding}
 use Rattle.run.specs.declared.Settings.{Settings}
 use Rattle.run.specs.declared.Answer.{Answer}
 use Rattle.run.specs.declared.Answer.the-variants.{Done, Refused}
@@ -18,7 +18,7 @@ use Rattle.libfind.specs.Begin.{Begun}
 abbrev pub collectable : Lent → Collectable
 collectable l = record { segments = l .segments; references = l .references; symbols = l .symbols; bytes = l .bytes; masks = l .masks }
 
-abbrev pub findable : Collectable → Lent → Lists
+abbrev pub findable : Collectable → Lent → FindLists
 findable filled l = record {
   searched = record {
     stored = stored (filled .segments) (filled .references) (filled .symbols) (filled .bytes) (filled .masks);
@@ -28,11 +28,11 @@ findable filled l = record {
   lines = l .lines;
 }
 
-abbrev pub givenLists : Lent → Lists
+abbrev pub givenLists : Lent → FindLists
 givenLists l = findable (collectable l) l
 
 -- all lists, by those of finding; the answer, by the counts of the collection and what was found
-abbrev pub allOf : Lists → Lent
+abbrev pub allOf : FindLists → Lent
 allOf l = record {
   segments = l .searched .stored .segments;
   references = l .searched .stored .references;
@@ -44,8 +44,8 @@ allOf l = record {
   lines = l .lines;
 }
 
-abbrev pub answerBy : Stored → Found → Answer
-answerBy c (Found.Done f) =
+abbrev pub answerBy : Stored → FindAnswer → Answer
+answerBy c (FindAnswer.Done f) =
     Done (record {
       segments = c .segments;
       references = c .references;
@@ -55,7 +55,7 @@ answerBy c (Found.Done f) =
       noted = f .noted;
       lines = f .lines;
     })
-answerBy c (Found.Refused r) = Refused r
+answerBy c (FindAnswer.Refused r) = Refused r
 
 abbrev pub concluded : Stored → Finding → Outcome
 concluded c o = record { answer = answerBy c (o .answer); left = allOf (o .left) }

@@ -2,7 +2,7 @@
 ghost use mathlib.Core.Path.{_≡_};
 ghost use Rattle.image.specs.View.{view};
 ghost use Rattle.image.specs.fixup.Target.{rulesOf};
-ghost use Rattle.listing.specs.Outcome.{found};
+ghost use Rattle.listing.specs.Outcome.{findOutcome};
 ghost use Rattle.run.specs.Run.{lentLists, askedOf, run};
 ghost use Rattle.libfind.specs.Ends.{givenLists, concluded, FindsFrom};
 use crate::begin::Beginning;
@@ -11,7 +11,7 @@ use collect::Collection;
 use collect::entry::collect;
 use image::fixup::Rules;
 use lent::rows::clear;
-use listing::Found;
+use listing::FindAnswer;
 use listing::entry::find;
 use run::Answer;
 use run::Counts;
@@ -25,7 +25,7 @@ fn rules_of(number: u64) -> Rules
     if number == 1 {
         return Rules::Documented;
     }
-    Rules::Found
+    Rules::FindAnswer
 }
 
 // What is asked of the search.
@@ -44,7 +44,7 @@ fn find_collected(
     image: &[u8],
     library: &[u8],
     settings: Settings,
-    collected: collect::stored::Counts,
+    collected: collect::stored::CollectCounts,
     segments: &mut [u64],
     references: &mut [u64],
     symbols: &mut [u64],
@@ -55,7 +55,7 @@ fn find_collected(
     lines: &mut [u64],
 ) -> Answer
     ensures { λ r. ⌜ record { answer = r; left = lentLists (now (segments .exit)) (now (references .exit)) (now (symbols .exit)) (now (bytes .exit)) (now (masks .exit)) (now (placed .exit)) (now (noted .exit)) (now (lines .exit)) }
-        ≡ concluded collected (found (view (now (image .entry)) (settings .stretch)) (askedOf settings) (settings .skip) (now (library .entry)) (collected .segments)
+        ≡ concluded collected (findOutcome (view (now (image .entry)) (settings .stretch)) (askedOf settings) (settings .skip) (now (library .entry)) (collected .segments)
         (givenLists (lentLists (now (segments .entry)) (now (references .entry)) (now (symbols .entry)) (now (bytes .entry)) (now (masks .entry)) (now (placed .entry)) (now (noted .entry)) (now (lines .entry))))) ⌝ }
 {
     let asked = asked_of(settings);
@@ -76,7 +76,7 @@ fn find_collected(
         noted,
         lines,
     ) {
-        Found::Done(f) => Answer::Done(Counts {
+        FindAnswer::Done(f) => Answer::Done(Counts {
             segments: collected.segments,
             references: collected.references,
             symbols: collected.symbols,
@@ -85,7 +85,7 @@ fn find_collected(
             noted: f.noted,
             lines: f.lines,
         }),
-        Found::Refused(r) => Answer::Refused(r),
+        FindAnswer::Refused(r) => Answer::Refused(r),
     }
 }
 

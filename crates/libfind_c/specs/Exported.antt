@@ -43,8 +43,8 @@ pub record Handed : Type 0 where
 unfoldable pub handed : List ℕ → Outcome → Handed
 handed counts o = record { number = numberOf (o .answer); counts = countsIn counts (o .answer); left = o .left }
 
-unfoldable pub found : List ℕ → List ℕ → Settings → List ℕ → Lent → Handed
-found image library s counts lent = handed counts (run image library s lent)
+unfoldable pub handedRun : List ℕ → List ℕ → Settings → List ℕ → Lent → Handed
+handedRun image library s counts lent = handed counts (run image library s lent)
 
 -- how long a text is, 0 without room for it; how long a description is, 0 where there is none, and the largest number without room for it
 abbrev pub sizeOf : Printed → ℕ

@@ -7,10 +7,10 @@ use Rattle.describe.specs.Described.{described}
 use Rattle.printing.specs.Printing.{fittedText}
 use Rattle.run.specs.declared.Settings.{Settings}
 use Rattle.run.specs.Run.{Lent}
-use Rattle.libfind_c.specs.Exported.{found, writtenIn, saidIn, widthOf}
+use Rattle.libfind_c.specs.Exported.{handedRun, writtenIn, saidIn, widthOf}
 
-pub find-one : (image library : List ℕ) (s : Settings) (counts : List ℕ) (lent : Lent) → Determines (λ o. o ≡ found image library s counts lent)
-find-one image library s counts lent = by-equation (found image library s counts lent)
+pub find-one : (image library : List ℕ) (s : Settings) (counts : List ℕ) (lent : Lent) → Determines (λ o. o ≡ handedRun image library s counts lent)
+find-one image library s counts lent = by-equation (handedRun image library s counts lent)
 
 -- the three that print, each with its text
 pub print-one : (text out : List ℕ) → Determines (λ o. o ≡ writtenIn (fittedText text out))

@@ -5,7 +5,7 @@ ghost use Rattle.listing_rules.specs.LineLayout.{lineAt};
 ghost use Rattle.listing_rules.specs.Print.{heading, printedLine, printed};
 ghost use Rattle.printing.specs.Printing.{fittedText, storedLines};
 ghost use Rattle.run.specs.Run.{lentLists};
-ghost use Rattle.libfind_c.specs.Exported.{settingsOf, found, writtenIn, saidIn, widthOf};
+ghost use Rattle.libfind_c.specs.Exported.{settingsOf, handedRun, writtenIn, saidIn, widthOf};
 
 mod handing;
 
@@ -39,7 +39,7 @@ pub extern "C" fn sillmarble_find(
     lines: &mut [u64],
 ) -> u8
     ensures { λ r. ⌜ record { number = r; counts = now (counts .exit); left = lentLists (now (segments .exit)) (now (references .exit)) (now (symbols .exit)) (now (bytes .exit)) (now (masks .exit)) (now (placed .exit)) (now (noted .exit)) (now (lines .exit)) }
-        ≡ found (now (image .entry)) (now (library .entry)) (settingsOf rules check minimum skips amount start len) (now (counts .entry))
+        ≡ handedRun (now (image .entry)) (now (library .entry)) (settingsOf rules check minimum skips amount start len) (now (counts .entry))
         (lentLists (now (segments .entry)) (now (references .entry)) (now (symbols .entry)) (now (bytes .entry)) (now (masks .entry)) (now (placed .entry)) (now (noted .entry)) (now (lines .entry))) ⌝ }
 {
     let settings = settings_of(rules, check, minimum, skips, amount, start, len);

@@ -5,10 +5,10 @@ use mathlib.Core.List.{List, [], _∷_, _++_}
 use lib.ListN.{length}
 use Rattle.omf51.specs.declared.End.{End}
 use Rattle.omf51.specs.declared.End.the-variants.{At, Stop, Refused}
-use Rattle.omf51.specs.Reader.{Outcome, read, stop, refused, Reader, andThen, after, repeat, many, notEmpty, atLeastOne}
+use Rattle.omf51.specs.Reader.{ReadOutcome, read, stop, refused, Reader, andThen, after, repeat, many, notEmpty, atLeastOne}
 use Rattle.omf51.specs.Ends.{endOf}
-use Rattle.library.specs.Found.{followed, found}
-use Rattle.library.specs.RepeatLaws.{Moved, Moves, onto, many-turn, found-turn}
+use Rattle.library.specs.Gathered.{followed, itemsAt}
+use Rattle.library.specs.RepeatLaws.{Moved, Moves, onto, many-turn, items-turn}
 
 -- what follows an end in a repetition; and one reading after another
 abbrev pub afterEnd : (ℕ → End) → ℕ → End → End
@@ -21,7 +21,7 @@ thenEnd rest (At next) = rest next
 thenEnd rest Stop = Stop
 thenEnd rest (Refused r) = Refused r
 
-pub then-end : {A B : Type 0} (o : Outcome A) (f : A → Reader B) (rest : ℕ → End) → ((a : A) (next : ℕ) → endOf (f a next) ≡ rest next)
+pub then-end : {A B : Type 0} (o : ReadOutcome A) (f : A → Reader B) (rest : ℕ → End) → ((a : A) (next : ℕ) → endOf (f a next) ≡ rest next)
     → endOf (andThen o f) ≡ thenEnd rest (endOf o)
 then-end (read a next) f rest h = h a next
 then-end stop f rest h = refl
@@ -38,7 +38,7 @@ Halts (At next) = ⊥
 Halts Stop = Unit
 Halts (Refused r) = Unit
 
-pub moved-end : {A : Type 0} (library : List ℕ) (at : ℕ) (o : Outcome A) → Moved library at o → MovedEnd library at (endOf o)
+pub moved-end : {A : Type 0} (library : List ℕ) (at : ℕ) (o : ReadOutcome A) → Moved library at o → MovedEnd library at (endOf o)
 moved-end library at (read a next) m = m
 moved-end library at stop m = tt
 moved-end library at (refused r) m = tt
@@ -49,28 +49,28 @@ module _ {A : Type 0} (library : List ℕ) (each : Reader (List A)) (moves : Mov
   end-turn e =
       ap endOf (many-turn library each moves at) ∙ go (each at) ∙ ap (afterEnd (λ k. endOf (many library each k)) at) e
     where
-      dropped : (xs : List A) (o : Outcome (List A)) → endOf (onto xs o) ≡ endOf o
+      dropped : (xs : List A) (o : ReadOutcome (List A)) → endOf (onto xs o) ≡ endOf o
       dropped xs (read ys next) = refl
       dropped xs stop = refl
       dropped xs (refused r) = refl
 
-      go : (o : Outcome (List A))
+      go : (o : ReadOutcome (List A))
           → endOf (after (λ xs next. onto xs (many library each next)) [] at o) ≡ afterEnd (λ k. endOf (many library each k)) at (endOf o)
       go (read more next) = dropped more (many library each next)
       go stop = refl
       go (refused r) = refl
 
   -- nothing is found where its reader doesn't pass
-  pub found-none : {e : End} → endOf (each at) ≡ e → Halts e → found library each at ≡ []
-  found-none e h = found-turn library each moves at refl ∙ go (each at) (subst Halts (sym e) h)
+  pub items-none : {e : End} → endOf (each at) ≡ e → Halts e → itemsAt library each at ≡ []
+  items-none e h = items-turn library each moves at refl ∙ go (each at) (subst Halts (sym e) h)
     where
-      go : (o : Outcome (List A)) → Halts (endOf o) → followed (found library each) o ≡ []
+      go : (o : ReadOutcome (List A)) → Halts (endOf o) → followed (itemsAt library each) o ≡ []
       go (read a next) h = absurd h
       go stop h = refl
       go (refused r) h = refl
 
 -- a reader of entries gives one or more, or stops; of several the first decides whether there is one at all
-abbrev pub Gave : {A : Type 0} → Outcome (List A) → Type 0
+abbrev pub Gave : {A : Type 0} → ReadOutcome (List A) → Type 0
 Gave (read [] next) = ⊥
 Gave (read (x ∷ xs) next) = Unit
 Gave stop = Unit
@@ -83,7 +83,7 @@ ownEnd next Stop = Stop
 ownEnd next (Refused r) = Refused r
 
 module _ {A : Type 0} (library : List ℕ) (each : Reader (List A)) (gives : (at : ℕ) → Gave (each at)) where
-  abbrev Filled : Outcome (List A) → Type 0
+  abbrev Filled : ReadOutcome (List A) → Type 0
   Filled (read [] next) = ⊥
   Filled (read (x ∷ xs) next) = Unit
   Filled stop = ⊥
@@ -94,7 +94,7 @@ module _ {A : Type 0} (library : List ℕ) (each : Reader (List A)) (gives : (at
   filled zero x xs at = tt
   filled (suc n) x xs at = go (filled n x) (each at) (gives at)
     where
-      go : ((ys : List A) (k : ℕ) → Filled (repeat n each (x ∷ ys) k)) → (o : Outcome (List A)) → Gave o → Filled (after (repeat n each) (x ∷ xs) at o)
+      go : ((ys : List A) (k : ℕ) → Filled (repeat n each (x ∷ ys) k)) → (o : ReadOutcome (List A)) → Gave o → Filled (after (repeat n each) (x ∷ xs) at o)
       go rest (read more next) g = rest (xs ++ more) next
       go rest stop g = tt
       go rest (refused r) g = absurd g
@@ -103,13 +103,13 @@ module _ {A : Type 0} (library : List ℕ) (each : Reader (List A)) (gives : (at
   unfolding repeat
   least-end at next = go (each at) (gives at)
     where
-      full : (o : Outcome (List A)) → Filled o → ownEnd next (endOf (andThen o notEmpty)) ≡ At next
+      full : (o : ReadOutcome (List A)) → Filled o → ownEnd next (endOf (andThen o notEmpty)) ≡ At next
       full (read [] k) f = absurd f
       full (read (x ∷ xs) k) f = refl
       full stop f = absurd f
       full (refused r) f = absurd f
 
-      go : (o : Outcome (List A)) → Gave o → ownEnd next (endOf (andThen (after (repeat (length library) each) [] at o) notEmpty)) ≡ ownEnd next (endOf o)
+      go : (o : ReadOutcome (List A)) → Gave o → ownEnd next (endOf (andThen (after (repeat (length library) each) [] at o) notEmpty)) ≡ ownEnd next (endOf o)
       go (read [] k) g = absurd g
       go (read (x ∷ xs) k) g = full (repeat (length library) each (x ∷ xs) k) (filled (length library) x xs k)
       go stop g = refl

@@ -1,5 +1,5 @@
 -- Repetitions, modules and the file, as the code goes over them.
-pub mod Found
+pub mod Gathered
 pub mod RepeatLaws
 pub mod EndLaws
 pub mod Passes

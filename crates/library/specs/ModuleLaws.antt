@@ -9,14 +9,14 @@ use Rattle.lent.specs.Parts.{sameName}
 use Rattle.omf51.specs.declared.End.{End}
 use Rattle.omf51.specs.declared.End.the-variants.{At, Stop, Refused}
 use Rattle.omf51.specs.declared.entry.Entries.the-variants.{Definitions}
-use Rattle.omf51.specs.Reader.{Outcome, read, stop, refused, andThen, many}
+use Rattle.omf51.specs.Reader.{ReadOutcome, read, stop, refused, andThen, many}
 use Rattle.omf51.specs.Module.{definitionsAt, sectionsAt}
 use Rattle.omf51.specs.Ends.{endOf}
 use Rattle.library.specs.Passes.{allEnd, sectionsEnd, headAt, lastAt, closedBy, lastPlaces, restPlaces, placesAt}
 
 -- the end record, and the names
 module _ (library : List ℕ) (name : Part) (definitions contents : ℕ) where
-  pub last-known : (at : ℕ) {o : Outcome Part} → lastAt library at ≡ o
+  pub last-known : (at : ℕ) {o : ReadOutcome Part} → lastAt library at ≡ o
       → lastPlaces library name definitions contents at ≡ andThen o (closedBy library name definitions contents)
   unfolding lastPlaces
   last-known at e = rw e
@@ -30,15 +30,15 @@ module _ (library : List ℕ) (name : Part) (definitions contents : ℕ) where
     last-differs s = last-known at e ∙ rw s
 
 -- a reader that goes on from where another ended
-abbrev onEnd : {B : Type 0} → (ℕ → Outcome B) → End → Outcome B
+abbrev onEnd : {B : Type 0} → (ℕ → ReadOutcome B) → End → ReadOutcome B
 onEnd f (At k) = f k
 onEnd f Stop = stop
 onEnd f (Refused r) = refused r
 
-then-from : {A B : Type 0} (o : Outcome A) (f : ℕ → Outcome B) {e : End} → endOf o ≡ e → andThen o (λ _ k. f k) ≡ onEnd f e
+then-from : {A B : Type 0} (o : ReadOutcome A) (f : ℕ → ReadOutcome B) {e : End} → endOf o ≡ e → andThen o (λ _ k. f k) ≡ onEnd f e
 then-from {A} {B} o f e = go o ∙ ap (onEnd f) e
   where
-    go : (o : Outcome A) → andThen o (λ _ k. f k) ≡ onEnd f (endOf o)
+    go : (o : ReadOutcome A) → andThen o (λ _ k. f k) ≡ onEnd f (endOf o)
     go (read a k) = refl
     go stop = refl
     go (refused r) = refl
@@ -55,6 +55,6 @@ module _ (library : List ℕ) (name : Part) (definitions : ℕ) where
       → restPlaces library name definitions ≡ onEnd (lastPlaces library name definitions contents) e
   contents-known {contents} d e = rest-known d ∙ then-from (many library (sectionsAt library) contents) _ e
 
-pub head-known : (library : List ℕ) (at : ℕ) {o : Outcome Part} → headAt library at ≡ o → placesAt library at ≡ andThen o (restPlaces library)
+pub head-known : (library : List ℕ) (at : ℕ) {o : ReadOutcome Part} → headAt library at ≡ o → placesAt library at ≡ andThen o (restPlaces library)
 unfolding placesAt
 head-known library at e = rw e

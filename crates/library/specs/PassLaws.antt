@@ -14,7 +14,7 @@ use Rattle.omf51.specs.declared.End.{End}
 use Rattle.omf51.specs.declared.End.the-variants.{At, Stop, Refused}
 use Rattle.omf51.specs.declared.entry.Entries.{Entries}
 use Rattle.omf51.specs.declared.entry.Entries.the-variants.{Definitions, Fixups}
-use Rattle.omf51.specs.Reader.{Outcome, read, stop, refused, Reader, andThen, give, atLeastOne}
+use Rattle.omf51.specs.Reader.{ReadOutcome, read, stop, refused, Reader, andThen, give, atLeastOne}
 use Rattle.omf51.specs.Record.{expected, recordOf}
 use Rattle.omf51.specs.RecordLaws.{FrameFits, expected-fits, record-framed}
 use Rattle.omf51.specs.Entry.{ending, definitionAt, fixupAt}
@@ -30,12 +30,12 @@ pub record-longer : {A : Type 0} (library : List ℕ) (allowed : ℕ → Bool) (
 unfolding recordOf
 record-longer {A} library allowed inner at = go (expected library allowed at) (expected-fits library allowed at)
   where
-    body : (next : ℕ) → at + 3 < next → next ≤ length library → (o : Outcome A) → Moved library (at + 3) (andThen o λ a left. read a next)
+    body : (next : ℕ) → at + 3 < next → next ≤ length library → (o : ReadOutcome A) → Moved library (at + 3) (andThen o λ a left. read a next)
     body next l m (read a left) = (l, m)
     body next l m stop = tt
     body next l m (refused r) = tt
 
-    go : (o : Outcome Frame) → FrameFits library at o → Moved library (at + 3) (andThen o λ f next. andThen (inner f (f .body)) λ a left. read a next)
+    go : (o : ReadOutcome Frame) → FrameFits library at o → Moved library (at + 3) (andThen o λ f next. andThen (inner f (f .body)) λ a left. read a next)
     go (read f next) h = body next (omega arith) (h .inside) (inner f (f .body))
     go stop h = tt
     go (refused r) h = tt
@@ -43,7 +43,7 @@ record-longer {A} library allowed inner at = go (expected library allowed at) (e
 pub record-moves : {A : Type 0} (library : List ℕ) (allowed : ℕ → Bool) (inner : Frame → Reader A) → Moves library (recordOf library allowed inner)
 record-moves {A} library allowed inner at = go (recordOf library allowed inner at) (record-longer library allowed inner at)
   where
-    go : (o : Outcome A) → Moved library (at + 3) o → Moved library at o
+    go : (o : ReadOutcome A) → Moved library (at + 3) o → Moved library at o
     go (read a next) m = (omega arith, m .1)
     go stop m = tt
     go (refused r) m = tt
@@ -66,17 +66,17 @@ unfolding fixupAt ending
 fixup-gave library f at = chosen Gave (leb _ (f .end)) (λ e. tt) (λ e. tt)
 
 -- a record of entries whose frame is known: its first entry decides
-abbrev framedEnd : (ℕ → Bool) → (Frame → End) → Outcome Frame → End
+abbrev framedEnd : (ℕ → Bool) → (Frame → End) → ReadOutcome Frame → End
 framedEnd has first (read f next) = ownEnd next (if has (f .kind) then first f else At (f .body))
 framedEnd has first stop = Stop
 framedEnd has first (refused r) = Refused r
 
 entries-end : {A : Type 0} (library : List ℕ) (allowed has : ℕ → Bool) (each : Frame → Reader (List A)) → ((f : Frame) (at : ℕ) → Gave (each f at))
-    → (at : ℕ) {o : Outcome Frame} → expected library allowed at ≡ o
+    → (at : ℕ) {o : ReadOutcome Frame} → expected library allowed at ≡ o
     → endOf (recordOf library allowed (λ f. if has (f .kind) then atLeastOne library (each f) else give []) at) ≡ framedEnd has (λ f. endOf (each f (f .body))) o
 entries-end {A} library allowed has each gives at {o} e = ap endOf (record-framed library allowed _ at e) ∙ go o
   where
-    closed : (next : ℕ) (o : Outcome (List A)) → endOf (andThen o λ a left. read a next) ≡ ownEnd next (endOf o)
+    closed : (next : ℕ) (o : ReadOutcome (List A)) → endOf (andThen o λ a left. read a next) ≡ ownEnd next (endOf o)
     closed next (read a left) = refl
     closed next stop = refl
     closed next (refused r) = refl
@@ -87,14 +87,14 @@ entries-end {A} library allowed has each gives at {o} e = ap endOf (record-frame
     body f next true = closed next (atLeastOne library (each f) (f .body)) ∙ least-end library (each f) (gives f) (f .body) next
     body f next false = refl
 
-    go : (o : Outcome Frame)
+    go : (o : ReadOutcome Frame)
         → endOf (andThen o λ f next. andThen ((if has (f .kind) then atLeastOne library (each f) else give []) (f .body)) λ a left. read a next)
         ≡ framedEnd has (λ f. endOf (each f (f .body))) o
     go (read f next) = body f next (has (f .kind))
     go stop = refl
     go (refused r) = refl
 
-record-end : (what : Entries) (library : List ℕ) (at : ℕ) {o : Outcome Frame} → expected library (allows (allowedFor what)) at ≡ o
+record-end : (what : Entries) (library : List ℕ) (at : ℕ) {o : ReadOutcome Frame} → expected library (allows (allowedFor what)) at ≡ o
     → recordEnd what library at ≡ framedEnd (holds what) (λ f. entryEnd what library f (f .body)) o
 unfolding definitionsAt fixupsAt
 record-end Definitions library at e = entries-end library _ (holds Definitions) (definitionAt library) (definition-gave library) at e

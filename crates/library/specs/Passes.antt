@@ -11,7 +11,7 @@ use Rattle.omf51.specs.declared.types.Allowed.{Allowed}
 use Rattle.omf51.specs.declared.types.Allowed.the-variants as Allowed
 use Rattle.omf51.specs.declared.entry.Entries.{Entries}
 use Rattle.omf51.specs.declared.entry.Entries.the-variants.{Definitions, Fixups}
-use Rattle.omf51.specs.Reader.{Outcome, read, stop, refused, Reader, andThen, many}
+use Rattle.omf51.specs.Reader.{ReadOutcome, read, stop, refused, Reader, andThen, many}
 use Rattle.omf51.specs.Record.{recordOf}
 use Rattle.omf51.specs.Entry.{nameWith}
 use Rattle.omf51.specs.Module.{defines, definitionsAt, fixupsAt, sectionsAt}
@@ -67,7 +67,7 @@ unfoldable pub placesAt : List ℕ → Reader Places
 placesAt library at = andThen (headAt library at) (restPlaces library)
 
 -- the code's answer
-abbrev pub placesRead : ModuleAt → Outcome Places
+abbrev pub placesRead : ModuleAt → ReadOutcome Places
 placesRead (Whole p) = read p (p .next)
 placesRead Stop = stop
 placesRead (Refused r) = refused r

@@ -5,7 +5,7 @@ use lib.ListN.{length}
 use Rattle.lent.specs.declared.refusal.Refusal.the-variants.{NoModule}
 use Rattle.omf51.specs.declared.End.{End}
 use Rattle.omf51.specs.declared.Frame.{Frame}
-use Rattle.omf51.specs.Reader.{Outcome, read, stop, refused, give}
+use Rattle.omf51.specs.Reader.{ReadOutcome, read, stop, refused, give}
 use Rattle.omf51.specs.Record.{expected, recordOf}
 use Rattle.omf51.specs.Module.{Module}
 use Rattle.omf51.specs.File.{file}
@@ -17,13 +17,13 @@ use Rattle.library.specs.declared.Reading.{Reading}
 use Rattle.library.specs.declared.Reading.the-variants as Reading
 
 -- modules in a row: how many, and the place after them; none is refusal 5
-abbrev pub countOf : Outcome (List Module) → Counted
+abbrev pub countOf : ReadOutcome (List Module) → Counted
 countOf (read modules next) = Modules (length modules) next
 countOf stop = Refused NoModule
 countOf (refused r) = Refused r
 
 -- the modules of a 2Ch library start after its first record, bare ones at the file's start
-abbrev pub placeAfter : Outcome Frame → ℕ
+abbrev pub placeAfter : ReadOutcome Frame → ℕ
 placeAfter (read f next) = next
 placeAfter stop = 0
 placeAfter (refused r) = 0
@@ -31,7 +31,7 @@ placeAfter (refused r) = 0
 abbrev pub firstAt : List ℕ → ℕ
 firstAt library = placeAfter (expected library (oneType 0x2c) 0)
 
-abbrev pub readingOf : ℕ → Outcome (List Module) → Reading
+abbrev pub readingOf : ℕ → ReadOutcome (List Module) → Reading
 readingOf first (read modules next) = Reading.Modules first (length modules)
 readingOf first stop = Reading.Refused NoModule
 readingOf first (refused r) = Reading.Refused r

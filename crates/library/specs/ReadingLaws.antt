@@ -12,7 +12,7 @@ use Rattle.lent.specs.Parts.{byteAt}
 use Rattle.omf51.specs.declared.End.{End}
 use Rattle.omf51.specs.declared.End.the-variants.{At, Stop, Refused}
 use Rattle.omf51.specs.declared.Frame.{Frame}
-use Rattle.omf51.specs.Reader.{Outcome, read, stop, refused, andThen, _>>=_, give, many, notEmpty}
+use Rattle.omf51.specs.Reader.{ReadOutcome, read, stop, refused, andThen, _>>=_, give, many, notEmpty}
 use Rattle.omf51.specs.Record.{expected, recordOf}
 use Rattle.omf51.specs.RecordLaws.{record-framed, not-expected}
 use Rattle.omf51.specs.Module.{Module, moduleAt}
@@ -53,10 +53,10 @@ leastOf (Counted.Modules (suc n) next) = Counted.Modules (suc n) next
 leastOf (Counted.Refused r) = Counted.Refused r
 
 -- a record of one type, by its frame
-pub type-known : (library : List ℕ) (type at : ℕ) {o : Outcome Frame} → expected library (oneType type) at ≡ o → typeEnd library type at ≡ endOf o
+pub type-known : (library : List ℕ) (type at : ℕ) {o : ReadOutcome Frame} → expected library (oneType type) at ≡ o → typeEnd library type at ≡ endOf o
 type-known library type at {o} e = ap endOf (record-framed library (oneType type) give at e) ∙ go o
   where
-    go : (o : Outcome Frame) → endOf (andThen o λ f next. read f next) ≡ endOf o
+    go : (o : ReadOutcome Frame) → endOf (andThen o λ f next. read f next) ≡ endOf o
     go (read f next) = refl
     go stop = refl
     go (refused r) = refl
@@ -66,7 +66,7 @@ module _ (library : List ℕ) (at : ℕ) where
   least-count : {c : Counted} → countOf (many library (moduleAt library) at) ≡ c → countOf (modulesAt library at) ≡ leastOf c
   least-count e = go (many library (moduleAt library) at) ∙ ap leastOf e
     where
-      go : (o : Outcome (List Module)) → countOf (andThen o notEmpty) ≡ leastOf (countOf o)
+      go : (o : ReadOutcome (List Module)) → countOf (andThen o notEmpty) ≡ leastOf (countOf o)
       go (read [] next) = refl
       go (read (m ∷ ms) next) = refl
       go stop = refl
@@ -96,23 +96,23 @@ module _ (library : List ℕ) (first : ℕ) where
   library-closed {n} c e = library-known c ∙ ap (closedReading first n) e
 
 -- one closing record after another
-closing : (first : ℕ) (ms : List Module) (o : Outcome Frame) (rest : ℕ → Outcome (List Module)) (end : ℕ → End)
+closing : (first : ℕ) (ms : List Module) (o : ReadOutcome Frame) (rest : ℕ → ReadOutcome (List Module)) (end : ℕ → End)
     → ((k : ℕ) → readingOf first (rest k) ≡ closedReading first (length ms) (end k))
     → readingOf first (andThen o λ _ k. rest k) ≡ closedReading first (length ms) (thenEnd end (endOf o))
 closing first ms (read f k) rest end h = h k
 closing first ms stop rest end h = refl
 closing first ms (refused r) rest end h = refl
 
-closed : (first : ℕ) (ms : List Module) (o : Outcome Frame) → readingOf first (andThen o λ _. give ms) ≡ closedReading first (length ms) (endOf o)
+closed : (first : ℕ) (ms : List Module) (o : ReadOutcome Frame) → readingOf first (andThen o λ _. give ms) ≡ closedReading first (length ms) (endOf o)
 closed first ms (read f k) = refl
 closed first ms stop = refl
 closed first ms (refused r) = refl
 
 -- the readings of document 01: 2Ch and its closing records, or bare modules
-counted-reading : (first : ℕ) (o : Outcome (List Module)) {c : Counted} → countOf o ≡ c → readingOf first o ≡ bareReading first c
+counted-reading : (first : ℕ) (o : ReadOutcome (List Module)) {c : Counted} → countOf o ≡ c → readingOf first o ≡ bareReading first c
 counted-reading first o {c} e = go o ∙ ap (bareReading first) e
   where
-    go : (o : Outcome (List Module)) → readingOf first o ≡ bareReading first (countOf o)
+    go : (o : ReadOutcome (List Module)) → readingOf first o ≡ bareReading first (countOf o)
     go (read modules next) = refl
     go stop = refl
     go (refused r) = refl
@@ -130,7 +130,7 @@ module _ (library : List ℕ) where
     library-read {f} {next} e =
         rw (eq-eqb (byteAt library 0) 0x2c is, e, record-framed library (oneType 0x2c) give 0 e) (go (modulesAt library next))
       where
-        go : (o : Outcome (List Module))
+        go : (o : ReadOutcome (List Module))
             → readingOf next (andThen o λ ms. do
               _ ← recordOf library (eqb 0x28) give
               _ ← recordOf library (eqb 0x26) give

@@ -4,16 +4,16 @@ use mathlib.Core.Path.{_≡_, refl, sym, ap, subst, _∙_}
 use mathlib.Core.List.{List, [], _∷_, _++_, append-nil, append-assoc}
 use native.Mathlib.Omega.{arith}
 use lib.ListN.{length}
-use Rattle.omf51.specs.Reader.{Outcome, read, stop, refused, Reader, andThen, after, repeat, many, notEmpty, atLeastOne}
-use Rattle.library.specs.Found.{followed, gather, found}
+use Rattle.omf51.specs.Reader.{ReadOutcome, read, stop, refused, Reader, andThen, after, repeat, many, notEmpty, atLeastOne}
+use Rattle.library.specs.Gathered.{followed, gather, itemsAt}
 
 -- a reader moves if what it reads takes at least a byte and ends within the library; it stays if it may take none
-abbrev pub Moved : {A : Type 0} → List ℕ → ℕ → Outcome A → Type 0
+abbrev pub Moved : {A : Type 0} → List ℕ → ℕ → ReadOutcome A → Type 0
 Moved library at (read a next) = (at < next) × (next ≤ length library)
 Moved library at stop = Unit
 Moved library at (refused r) = Unit
 
-abbrev pub Stayed : {A : Type 0} → List ℕ → ℕ → Outcome A → Type 0
+abbrev pub Stayed : {A : Type 0} → List ℕ → ℕ → ReadOutcome A → Type 0
 Stayed library at (read a next) = (at ≤ next) × (next ≤ length library)
 Stayed library at stop = Unit
 Stayed library at (refused r) = Unit
@@ -21,27 +21,27 @@ Stayed library at (refused r) = Unit
 abbrev pub Moves : {A : Type 0} → List ℕ → Reader A → Type 0
 Moves library each = (at : ℕ) → Moved library at (each at)
 
-pub moved-stays : {A : Type 0} (library : List ℕ) (at : ℕ) (o : Outcome A) → Moved library at o → Stayed library at o
+pub moved-stays : {A : Type 0} (library : List ℕ) (at : ℕ) (o : ReadOutcome A) → Moved library at o → Stayed library at o
 moved-stays library at (read a next) m = (omega arith, m .1)
 moved-stays library at stop m = tt
 moved-stays library at (refused r) m = tt
 
 -- one reader after another
 module _ {A B : Type 0} (library : List ℕ) (at : ℕ) (f : A → Reader B) (rest : (a : A) (next : ℕ) → next ≤ length library → Stayed library next (f a next)) where
-  pub then-stays : (o : Outcome A) → Stayed library at o → Stayed library at (andThen o f)
+  pub then-stays : (o : ReadOutcome A) → Stayed library at o → Stayed library at (andThen o f)
   then-stays (read a next) s = later (f a next) (rest a next (s .1))
     where
-      later : (w : Outcome B) → Stayed library next w → Stayed library at w
+      later : (w : ReadOutcome B) → Stayed library next w → Stayed library at w
       later (read b k) t = (omega arith, t .1)
       later stop t = tt
       later (refused r) t = tt
   then-stays stop s = tt
   then-stays (refused r) s = tt
 
-  pub then-moves : (o : Outcome A) → Moved library at o → Moved library at (andThen o f)
+  pub then-moves : (o : ReadOutcome A) → Moved library at o → Moved library at (andThen o f)
   then-moves (read a next) m = later (f a next) (rest a next (m .1))
     where
-      later : (w : Outcome B) → Stayed library next w → Moved library at w
+      later : (w : ReadOutcome B) → Stayed library next w → Moved library at w
       later (read b k) t = (omega arith, t .1)
       later stop t = tt
       later (refused r) t = tt
@@ -49,12 +49,12 @@ module _ {A B : Type 0} (library : List ℕ) (at : ℕ) (f : A → Reader B) (re
   then-moves (refused r) m = tt
 
 -- what was found before stands before what is read
-abbrev pub onto : {A : Type 0} → List A → Outcome (List A) → Outcome (List A)
+abbrev pub onto : {A : Type 0} → List A → ReadOutcome (List A) → ReadOutcome (List A)
 onto before (read xs next) = read (before ++ xs) next
 onto before stop = stop
 onto before (refused r) = refused r
 
-onto-onto : {A : Type 0} (a b : List A) (o : Outcome (List A)) → onto (a ++ b) o ≡ onto a (onto b o)
+onto-onto : {A : Type 0} (a b : List A) (o : ReadOutcome (List A)) → onto (a ++ b) o ≡ onto a (onto b o)
 onto-onto a b (read xs next) = rw append-assoc
 onto-onto a b stop = refl
 onto-onto a b (refused r) = refl
@@ -64,7 +64,7 @@ unfolding repeat
 repeat-onto zero each before at = rw append-nil
 repeat-onto {A} (suc n) each before at = go (repeat-onto n each) (each at)
   where
-    go : ((xs : List A) (k : ℕ) → repeat n each xs k ≡ onto xs (repeat n each [] k)) → (o : Outcome (List A))
+    go : ((xs : List A) (k : ℕ) → repeat n each xs k ≡ onto xs (repeat n each [] k)) → (o : ReadOutcome (List A))
         → after (repeat n each) before at o ≡ onto before (after (repeat n each) [] at o)
     go rest (read more next) =
         rest (before ++ more) next ∙ onto-onto before more (repeat n each [] next) ∙ sym (ap (onto before) (rest more next))
@@ -81,7 +81,7 @@ module _ {A : Type 0} (library : List ℕ) (each : Reader (List A)) (moves : Mov
   enough (suc n) (suc m) before at h k = go (enough n m) (each at) (moves at)
     where
       go : ((xs : List A) (i : ℕ) → length library - i < n → length library - i < m → repeat n each xs i ≡ repeat m each xs i)
-          → (o : Outcome (List A)) → Moved library at o → after (repeat n each) before at o ≡ after (repeat m each) before at o
+          → (o : ReadOutcome (List A)) → Moved library at o → after (repeat n each) before at o ≡ after (repeat m each) before at o
       go rest (read more next) p = rest (before ++ more) next (omega arith) (omega arith)
       go rest stop p = refl
       go rest (refused r) p = refl
@@ -91,7 +91,7 @@ module _ {A : Type 0} (library : List ℕ) (each : Reader (List A)) (moves : Mov
   unfolding repeat
   many-turn at = go (each at) (moves at)
     where
-      go : (o : Outcome (List A)) → Moved library at o
+      go : (o : ReadOutcome (List A)) → Moved library at o
           → after (repeat (length library) each) [] at o ≡ after (λ xs next. onto xs (many library each next)) [] at o
       go (read more next) p =
           enough (length library) (suc (length library)) more next (omega arith) (omega arith)
@@ -104,12 +104,12 @@ module _ {A : Type 0} (library : List ℕ) (each : Reader (List A)) (moves : Mov
   repeat-stays zero before at h = (omega arith, h)
   repeat-stays (suc n) before at h = go (repeat-stays n) (each at) (moves at)
     where
-      later : (next : ℕ) → at < next → (o : Outcome (List A)) → Stayed library next o → Stayed library at o
+      later : (next : ℕ) → at < next → (o : ReadOutcome (List A)) → Stayed library next o → Stayed library at o
       later next l (read xs k) s = (omega arith, s .1)
       later next l stop s = tt
       later next l (refused r) s = tt
 
-      go : ((xs : List A) (i : ℕ) → i ≤ length library → Stayed library i (repeat n each xs i)) → (o : Outcome (List A)) → Moved library at o
+      go : ((xs : List A) (i : ℕ) → i ≤ length library → Stayed library i (repeat n each xs i)) → (o : ReadOutcome (List A)) → Moved library at o
           → Stayed library at (after (repeat n each) before at o)
       go rest (read more next) p = later next (p .0) (repeat n each (before ++ more) next) (rest (before ++ more) next (p .1))
       go rest stop p = (omega arith, h)
@@ -125,17 +125,17 @@ module _ {A : Type 0} (library : List ℕ) (each : Reader (List A)) (moves : Mov
   gather-enough (suc n) (suc m) at h k = go (gather-enough n m) (each at) (moves at)
     where
       go : ((i : ℕ) → length library - i < n → length library - i < m → gather n each i ≡ gather m each i)
-          → (o : Outcome (List A)) → Moved library at o → followed (gather n each) o ≡ followed (gather m each) o
+          → (o : ReadOutcome (List A)) → Moved library at o → followed (gather n each) o ≡ followed (gather m each) o
       go rest (read more next) p = ap (λ xs. more ++ xs) (rest next (omega arith) (omega arith))
       go rest stop p = refl
       go rest (refused r) p = refl
 
   -- the same turn of what it finds
-  pub found-turn : (at : ℕ) {o : Outcome (List A)} → each at ≡ o → found library each at ≡ followed (found library each) o
+  pub items-turn : (at : ℕ) {o : ReadOutcome (List A)} → each at ≡ o → itemsAt library each at ≡ followed (itemsAt library each) o
   unfolding gather
-  found-turn at {o} e = ap (followed (gather (length library) each)) e ∙ go o (subst (Moved library at) e (moves at))
+  items-turn at {o} e = ap (followed (gather (length library) each)) e ∙ go o (subst (Moved library at) e (moves at))
     where
-      go : (o : Outcome (List A)) → Moved library at o → followed (gather (length library) each) o ≡ followed (found library each) o
+      go : (o : ReadOutcome (List A)) → Moved library at o → followed (gather (length library) each) o ≡ followed (itemsAt library each) o
       go (read more next) p = ap (λ xs. more ++ xs) (gather-enough (length library) (suc (length library)) next (omega arith) (omega arith))
       go stop p = refl
       go (refused r) p = refl
@@ -148,19 +148,19 @@ repeat-gather zero each before at e = rw append-nil (cc)
 repeat-gather {A} (suc n) each before at {xs} {end} e = go (λ ys i p. repeat-gather n each ys i p) (each at) e
   where
     go : ((ys : List A) (i : ℕ) → repeat n each ys i ≡ read xs end → xs ≡ ys ++ gather n each i)
-        → (o : Outcome (List A)) → after (repeat n each) before at o ≡ read xs end → xs ≡ before ++ followed (gather n each) o
+        → (o : ReadOutcome (List A)) → after (repeat n each) before at o ≡ read xs end → xs ≡ before ++ followed (gather n each) o
     go rest (read more next) p = rest (before ++ more) next p ∙ append-assoc before more (gather n each next)
     go rest stop p = rw append-nil (cc)
     go rest (refused r) p = let z : _≡_ {A = ℕ} 0 1 = cc in absurd (omega arith)
 
 module _ {A : Type 0} (library : List ℕ) (each : Reader (List A)) (at : ℕ) {xs : List A} {end : ℕ} where
-  pub many-found : many library each at ≡ read xs end → xs ≡ found library each at
-  many-found e = repeat-gather (suc (length library)) each [] at e
+  pub many-items : many library each at ≡ read xs end → xs ≡ itemsAt library each at
+  many-items e = repeat-gather (suc (length library)) each [] at e
 
-  pub least-found : atLeastOne library each at ≡ read xs end → xs ≡ found library each at
-  least-found e = go (many library each at) refl e
+  pub least-items : atLeastOne library each at ≡ read xs end → xs ≡ itemsAt library each at
+  least-items e = go (many library each at) refl e
     where
-      go : (o : Outcome (List A)) → many library each at ≡ o → andThen o notEmpty ≡ read xs end → xs ≡ found library each at
+      go : (o : ReadOutcome (List A)) → many library each at ≡ o → andThen o notEmpty ≡ read xs end → xs ≡ itemsAt library each at
       go (read [] k) q p = let z : _≡_ {A = ℕ} 0 1 = cc in absurd (omega arith)
       go (read (y ∷ ys) k) q p = let z : xs ≡ y ∷ ys = cc in z ∙ repeat-gather (suc (length library)) each [] at q
       go stop q p = let z : _≡_ {A = ℕ} 0 1 = cc in absurd (omega arith)

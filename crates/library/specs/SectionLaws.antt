@@ -11,7 +11,7 @@ use Rattle.omf51.specs.declared.Frame.{Frame}
 use Rattle.omf51.specs.declared.End.{End}
 use Rattle.omf51.specs.declared.End.the-variants.{At, Stop, Refused}
 use Rattle.omf51.specs.declared.entry.Entries.the-variants.{Fixups}
-use Rattle.omf51.specs.Reader.{Outcome, read, stop, refused, andThen, give, many}
+use Rattle.omf51.specs.Reader.{ReadOutcome, read, stop, refused, andThen, give, many}
 use Rattle.omf51.specs.Record.{expected, recordOf}
 use Rattle.omf51.specs.RecordLaws.{record-framed}
 use Rattle.omf51.specs.Entry.{idSize}
@@ -23,7 +23,7 @@ use Rattle.library.specs.EndLaws.{afterEnd, thenEnd, MovedEnd, end-turn,
 use Rattle.library.specs.Passes.{allEnd, sectionsEnd}
 use Rattle.library.specs.PassLaws.{record-moves, fixups-move}
 
-give-end : {A B : Type 0} (g : A → B) (o : Outcome A) → endOf (andThen o λ a. give (g a)) ≡ endOf o
+give-end : {A B : Type 0} (g : A → B) (o : ReadOutcome A) → endOf (andThen o λ a. give (g a)) ≡ endOf o
 give-end g (read a next) = refl
 give-end g stop = refl
 give-end g (refused r) = refl
@@ -56,7 +56,7 @@ module _ (library : List ℕ) (at : ℕ) where
   unfolding sectionsAt
   section-content e = rw e
 
-  pub section-idle : fills (byteAt library at) ≡ false → {o : Outcome Frame} → expected library isIdle at ≡ o
+  pub section-idle : fills (byteAt library at) ≡ false → {o : ReadOutcome Frame} → expected library isIdle at ≡ o
       → endOf (sectionsAt library at) ≡ endOf o
   unfolding sectionsAt
   section-idle n {o} e = rw n (ap endOf (record-framed library isIdle (λ f. give []) at e) ∙ go o)
@@ -64,7 +64,7 @@ module _ (library : List ℕ) (at : ℕ) where
       none : List Section
       none = []
 
-      go : (o : Outcome Frame) → endOf (andThen o λ f next. read none next) ≡ endOf o
+      go : (o : ReadOutcome Frame) → endOf (andThen o λ f next. read none next) ≡ endOf o
       go (read f next) = refl
       go stop = refl
       go (refused r) = refl

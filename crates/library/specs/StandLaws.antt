@@ -11,7 +11,7 @@ use lib.ListN.{length}
 use Rattle.lent.specs.declared.refusal.Refusal.{Refusal}
 use Rattle.lent.specs.Choice.{if_then_else_}
 use Rattle.lent.specs.Parts.{byteAt}
-use Rattle.omf51.specs.Reader.{Outcome, read, stop, refused, Reader, andThen, give}
+use Rattle.omf51.specs.Reader.{ReadOutcome, read, stop, refused, Reader, andThen, give}
 use Rattle.omf51.specs.Record.{expected, recordOf}
 use Rattle.omf51.specs.RecordLaws.{not-expected}
 use Rattle.omf51.specs.Module.{Module, moduleAt}
@@ -19,23 +19,23 @@ use Rattle.omf51.specs.File.{modulesAt, libraryAt, file, fileRefusal, modulesIn
 use Rattle.omf51.specs.Expected.{oneType}
 use Rattle.library.specs.declared.Reading.{Reading}
 use Rattle.library.specs.declared.Reading.the-variants.{Modules, Refused}
-use Rattle.library.specs.Found.{found}
-use Rattle.library.specs.RepeatLaws.{least-found}
+use Rattle.library.specs.Gathered.{itemsAt}
+use Rattle.library.specs.RepeatLaws.{least-items}
 use Rattle.library.specs.Reading.{placeAfter, firstAt, readingOf, reading}
 
 -- a reader whose later parts leave what the first read
-then-kept : {A B : Type 0} (o : Outcome A) (f : A → Reader B) {b : B} {end : ℕ} → andThen o f ≡ read b end → (P : Type 0)
+then-kept : {A B : Type 0} (o : ReadOutcome A) (f : A → Reader B) {b : B} {end : ℕ} → andThen o f ≡ read b end → (P : Type 0)
     → ((a : A) (next : ℕ) → o ≡ read a next → f a next ≡ read b end → P) → P
 then-kept (read a next) f e P h = h a next refl e
 then-kept stop f e P h = let z : _≡_ {A = ℕ} 0 1 = cc in absurd (omega arith)
 then-kept (refused r) f e P h = let z : _≡_ {A = ℕ} 0 1 = cc in absurd (omega arith)
 
-first-found : (library : List ℕ) {modules : List Module} {end : ℕ} → file library ≡ read modules end → modules ≡ found library (moduleAt library) (firstAt library)
+first-found : (library : List ℕ) {modules : List Module} {end : ℕ} → file library ≡ read modules end → modules ≡ itemsAt library (moduleAt library) (firstAt library)
 unfolding file libraryAt recordOf
 first-found library {modules} {end} = go (eqb (byteAt library 0) 0x2c) refl
   where
     go : (t : Bool) → eqb (byteAt library 0) 0x2c ≡ t → (if t then libraryAt library 0 else modulesAt library 0) ≡ read modules end
-        → modules ≡ found library (moduleAt library) (firstAt library)
+        → modules ≡ itemsAt library (moduleAt library) (firstAt library)
     go true t e =
         then-kept (recordOf library (eqb 0x2c) give 0) _ e _ λ f k p q.
         then-kept (modulesAt library k) _ q _ λ ms a m r.
@@ -45,14 +45,14 @@ first-found library {modules} {end} = go (eqb (byteAt library 0) 0x2c) refl
         then-kept (expected library (oneType 0x2c) 0) _ p _ λ g n x y.
         let same : ms ≡ modules = cc in
         let place : n ≡ k = cc in
-        sym same ∙ least-found library (moduleAt library) k m ∙ ap (found library (moduleAt library)) (sym (ap placeAfter x ∙ place))
+        sym same ∙ least-items library (moduleAt library) k m ∙ ap (itemsAt library (moduleAt library)) (sym (ap placeAfter x ∙ place))
     go false t e =
         let other : eqb 0x2c (byteAt library 0) ≡ false = ne-eqb 0x2c (byteAt library 0) (λ q. eqb-false (byteAt library 0) 0x2c t (sym q)) in
-        least-found library (moduleAt library) 0 e ∙ ap (found library (moduleAt library)) (sym (ap placeAfter (not-expected library (oneType 0x2c) 0 other)))
+        least-items library (moduleAt library) 0 e ∙ ap (itemsAt library (moduleAt library)) (sym (ap placeAfter (not-expected library (oneType 0x2c) 0 other)))
 
 pub record Stand (library : List ℕ) (first count : ℕ) : Type 0 where
   pub unrefused : fileRefusal (file library) ≡ none
-  pub there : modulesIn (file library) ≡ found library (moduleAt library) first
+  pub there : modulesIn (file library) ≡ itemsAt library (moduleAt library) first
   pub number : length (modulesIn (file library)) ≡ count
 
 abbrev Says : List ℕ → Reading → Type 0
@@ -63,7 +63,7 @@ says : (library : List ℕ) → Says library (reading library)
 unfolding reading
 says library = go (file library) refl
   where
-    go : (o : Outcome (List Module)) → file library ≡ o → Says library (readingOf (firstAt library) o)
+    go : (o : ReadOutcome (List Module)) → file library ≡ o → Says library (readingOf (firstAt library) o)
     go (read modules end) e = record { unrefused = ap fileRefusal e; there = ap modulesIn e ∙ first-found library e; number = ap (λ o. length (modulesIn o)) e }
     go stop e = ap fileRefusal e
     go (refused r) e = ap fileRefusal e

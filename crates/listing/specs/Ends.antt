@@ -4,14 +4,14 @@ use mathlib.Core.Path.{_≡_}
 use mathlib.Core.List.{List}
 use lib.ListN.{length}
 use Rattle.search_rules.specs.declared.Asked.{Asked}
-use Rattle.search.specs.declared.Rows.{Rows}
-use Rattle.search.specs.Outcome.{Lists as Searchable}
+use Rattle.search.specs.declared.SearchCounts.{SearchCounts}
+use Rattle.search.specs.Outcome.{SearchLists as Searchable}
 use Rattle.listing_rules.specs.declared.Skip.{Skip}
-use Rattle.listing.specs.declared.Found.{Found}
-use Rattle.listing.specs.Outcome.{found}
+use Rattle.listing.specs.declared.FindAnswer.{FindAnswer}
+use Rattle.listing.specs.Outcome.{findOutcome}
 use Rattle.listing.specs.OutcomeLaws.{SearchDone}
 
-abbrev pub ListsFound : List ℕ → Asked → Skip → List ℕ → ℕ → Rows → Searchable → List ℕ → Found → Searchable → List ℕ → Type 0
+abbrev pub ListsFound : List ℕ → Asked → Skip → List ℕ → ℕ → SearchCounts → Searchable → List ℕ → FindAnswer → Searchable → List ℕ → Type 0
 ListsFound cells a skip library n rows left lines r left′ lines′ =
     (l : Searchable) (short : length cells ≤ 65536) → length (l .placed) ≡ length (left .placed) → length (l .noted) ≡ length (left .noted) → SearchDone cells a library n l short rows left
-    → record { answer = r; left = record { searched = left′; lines = lines′ } } ≡ found cells a skip library n (record { searched = l; lines = lines })
+    → record { answer = r; left = record { searched = left′; lines = lines′ } } ≡ findOutcome cells a skip library n (record { searched = l; lines = lines })

@@ -78,7 +78,7 @@ module _ (cells : List ℕ) (rules : Rules) (skip : Skip) (library segments : Li
       → Sought library (r .ps) (r .ns) placed positions noted goals
   unfolding placedNumbers notedNumbers
   rows-sought blank blank₂ positions goals z p z₂ q = record {
-    placings = tabled-by placedSheet library placed-reads (record { position = 0; name = record { at = 0; len = 0 }; valid = false; segment = 0; found = 0 }) (r .ps) symbols (r .ps-number) placed blank positions (r .ps-room) (r .ps-rows) (r .ps-single) z p;
+    placings = tabled-by placedSheet library placed-reads (record { position = 0; name = record { at = 0; len = 0 }; valid = false; segment = 0; base = 0 }) (r .ps) symbols (r .ps-number) placed blank positions (r .ps-room) (r .ps-rows) (r .ps-single) z p;
     notings = tabled-by notedSheet library noted-reads (record { target = 0; name = record { at = 0; len = 0 }; valid = false }) (r .ns) names (r .ns-number) noted blank₂ goals (r .ns-room) (r .ns-rows) (r .ns-single) z₂ q;
   }
 

@@ -5,7 +5,7 @@ use mathlib.Core.List.{List}
 use Rattle.lent.specs.OneOutcome.{Determines, by-equation}
 use Rattle.search_rules.specs.declared.Asked.{Asked}
 use Rattle.listing_rules.specs.declared.Skip.{Skip}
-use Rattle.listing.specs.Outcome.{Lists, Outcome, found}
+use Rattle.listing.specs.Outcome.{FindLists, FindOutcome, findOutcome}
 
-pub find-one : (cells : List ℕ) (a : Asked) (skip : Skip) (library : List ℕ) (n : ℕ) (l : Lists) → Determines (λ (o : Outcome). o ≡ found cells a skip library n l)
-find-one cells a skip library n l = by-equation (found cells a skip library n l)
+pub find-one : (cells : List ℕ) (a : Asked) (skip : Skip) (library : List ℕ) (n : ℕ) (l : FindLists) → Determines (λ (o : FindOutcome). o ≡ findOutcome cells a skip library n l)
+find-one cells a skip library n l = by-equation (findOutcome cells a skip library n l)

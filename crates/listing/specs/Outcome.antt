@@ -13,22 +13,22 @@ use Rattle.segments.specs.Collect.{Collected}
 use Rattle.search_rules.specs.declared.Asked.{Asked}
 use Rattle.search_rules.specs.Search.{Placing, Noting, placed, noted}
 use Rattle.search.specs.visit.Visits.{segmentsIn}
-use Rattle.search.specs.Outcome.{Lists as Searchable, tooFew, zeroed as zeroedSearch, filledWith as filledSearch}
+use Rattle.search.specs.Outcome.{SearchLists as Searchable, tooFew, searchZeroed as zeroedSearch, searchFilled as filledSearch}
 use Rattle.listing_rules.specs.declared.Line.{Line}
 use Rattle.listing_rules.specs.declared.Skip.{Skip}
 use Rattle.listing_rules.specs.Listing.{listing, lineWidth, lineNumbers}
-use Rattle.listing.specs.declared.Counts.{Counts}
-use Rattle.listing.specs.declared.Found.{Found}
-use Rattle.listing.specs.declared.Found.the-variants.{Done, Refused}
+use Rattle.listing.specs.declared.FindCounts.{FindCounts}
+use Rattle.listing.specs.declared.FindAnswer.{FindAnswer}
+use Rattle.listing.specs.declared.FindAnswer.the-variants.{Done, Refused}
 
 -- the lent lists: those of the search, and that of the lines
-pub record Lists : Type 0 where
+pub record FindLists : Type 0 where
   pub searched : Searchable
   pub lines : List ℕ
 
-pub record Outcome : Type 0 where
-  pub answer : Found
-  pub left : Lists
+pub record FindOutcome : Type 0 where
+  pub answer : FindAnswer
+  pub left : FindLists
 
 -- what is found: symbols placed, names noted, and their lines
 pub record Yield : Type 0 where
@@ -43,7 +43,7 @@ yields cells a skip library gs =
     record { placed = p; noted = q; lines = listing library cells a skip gs p q }
 
 -- the refusals in their order, of which the first counts: 9 for the search, and then 9 for the list
-unfoldable pub refusalOf : List ℕ → Lists → Yield → Option Refusal
+unfoldable pub refusalOf : List ℕ → FindLists → Yield → Option Refusal
 refusalOf cells l y =
     leading
     (when (ltb 65536 (length cells)) ImageTooLong
@@ -52,25 +52,25 @@ refusalOf cells l y =
     ∷ [])
 
 -- lent memory set to zero; and filled with rows, the rest zero
-abbrev pub zeroed : Lists → Lists
-zeroed l = record { searched = zeroedSearch (l .searched); lines = zeros (length (l .lines)) }
+abbrev pub findZeroed : FindLists → FindLists
+findZeroed l = record { searched = zeroedSearch (l .searched); lines = zeros (length (l .lines)) }
 
-abbrev pub filledWith : List ℕ → Yield → Lists → Lists
-filledWith library y l = record {
+abbrev pub findFilled : List ℕ → Yield → FindLists → FindLists
+findFilled library y l = record {
   searched = filledSearch library (y .placed) (y .noted) (l .searched);
   lines = padded (length (l .lines)) (lineNumbers (y .lines));
 }
 
-abbrev pub counted : Yield → Counts
+abbrev pub counted : Yield → FindCounts
 counted y = record { placed = length (y .placed); noted = length (y .noted); lines = length (y .lines) }
 
 -- a refusal up to 8 writes nothing, 9 sets all that was lent to zero
-abbrev pub outcomeOf : List ℕ → Option Refusal → Yield → Lists → Outcome
-outcomeOf library none y l = record { answer = Done (counted y); left = filledWith library y l }
-outcomeOf library (some r) y l = record { answer = Refused r; left = if leb (refusalNumber r) 8 then l else zeroed l }
+abbrev pub findOutcomeOf : List ℕ → Option Refusal → Yield → FindLists → FindOutcome
+findOutcomeOf library none y l = record { answer = Done (counted y); left = findFilled library y l }
+findOutcomeOf library (some r) y l = record { answer = Refused r; left = if leb (refusalNumber r) 8 then l else findZeroed l }
 
 -- THE NAMES FOUND in what is seen of an image, for the first n segments that are stored
-unfoldable pub found : List ℕ → Asked → Skip → List ℕ → ℕ → Lists → Outcome
-found cells a skip library n l =
+unfoldable pub findOutcome : List ℕ → Asked → Skip → List ℕ → ℕ → FindLists → FindOutcome
+findOutcome cells a skip library n l =
     let y = yields cells a skip library (segmentsIn (l .searched .stored) n) in
-    outcomeOf library (refusalOf cells l y) y l
+    findOutcomeOf library (refusalOf cells l y) y l

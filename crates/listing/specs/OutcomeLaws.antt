@@ -19,18 +19,18 @@ use Rattle.search_rules.specs.declared.Asked.{Asked}
 use Rattle.search_rules.specs.Search.{Placing, Noting, placed, noted}
 use Rattle.search_rules.specs.SearchRows.{placedWidth, notedWidth, placedNumbers, notedNumbers}
 use Rattle.search_rules.specs.SearchRowLaws.{placed-take, noted-take}
-use Rattle.search.specs.declared.Rows.{Rows}
+use Rattle.search.specs.declared.SearchCounts.{SearchCounts}
 use Rattle.search.specs.declared.Searched.{Searched}
 use Rattle.search.specs.declared.Searched.the-variants as Searched
 use Rattle.search.specs.visit.Visits.{stored, segmentsIn}
-use Rattle.search.specs.Outcome.{Lists as Searchable, tooFew, refusalOf as searchRefusal, zeroed as zeroedSearch, filledWith as filledSearch, outcomeOf as searchOutcome, searched}
+use Rattle.search.specs.Outcome.{SearchLists as Searchable, tooFew, refusalOf as searchRefusal, searchZeroed as zeroedSearch, searchFilled as filledSearch, searchOutcomeOf as searchOutcome, searched}
 use Rattle.search.specs.Fills.{Fitted}
 use Rattle.search.specs.EndLaws.{zeroed-same}
 use Rattle.search.specs.LookupLaws.{placed-single, noted-single}
 use Rattle.listing_rules.specs.declared.Skip.{Skip}
 use Rattle.listing_rules.specs.Listing.{listing, lineWidth, lineNumbers}
-use Rattle.listing.specs.declared.Found.the-variants.{Done, Refused}
-use Rattle.listing.specs.Outcome.{Lists, Yield, yields, refusalOf, zeroed, counted, outcomeOf, found}
+use Rattle.listing.specs.declared.FindAnswer.the-variants.{Done, Refused}
+use Rattle.listing.specs.Outcome.{FindLists, Yield, yields, refusalOf, findZeroed, counted, findOutcomeOf, findOutcome}
 use Rattle.listing.specs.Listed.{Rowed, ListsRows}
 
 -- what a search's answer says
@@ -38,7 +38,7 @@ isDone : Searched → Bool
 isDone (Searched.Done rows) = true
 isDone (Searched.Refused r) = false
 
-rowsIn : Searched → Rows
+rowsIn : Searched → SearchCounts
 rowsIn (Searched.Done rows) = rows
 rowsIn (Searched.Refused r) = record { placed = 0; noted = 0 }
 
@@ -67,12 +67,12 @@ module _ (cells : List ℕ) (a : Asked) (library : List ℕ) (n : ℕ) (l : Sear
     searched-is t e = ap (λ x. searchOutcome library x ps ns l) (refusal-is t e)
 
     -- THE SEARCH IS DONE: there was room, and the rows are there
-    pub record SearchDone (rows : Rows) (left : Searchable) : Type 0 where
+    pub record SearchDone (rows : SearchCounts) (left : Searchable) : Type 0 where
       pub room : tooFew l ps ns ≡ false
       pub numbers : rows ≡ record { placed = length ps; noted = length ns }
       pub memory : left ≡ filledSearch library ps ns l
 
-    pub search-done : (rows : Rows) (left : Searchable) → record { answer = Searched.Done rows; left = left } ≡ searched cells a library n l → SearchDone rows left
+    pub search-done : (rows : SearchCounts) (left : Searchable) → record { answer = Searched.Done rows; left = left } ≡ searched cells a library n l → SearchDone rows left
     unfolding isDone rowsIn
     search-done rows left e = go (tooFew l ps ns) refl
       where
@@ -94,26 +94,26 @@ module _ (cells : List ℕ) (a : Asked) (library : List ℕ) (n : ℕ) (l : Sear
         go true f = let q = e ∙ searched-is true f in record { full = f; refusal = ap (λ o. refusalIn (o .answer)) q; memory = ap (λ o. o .left) q }
         go false f = absurd (false≢true (ap (λ o. isDone (o .answer)) (e ∙ searched-is false f)))
 
-module _ (cells : List ℕ) (a : Asked) (skip : Skip) (library : List ℕ) (n : ℕ) (l : Lists) where
+module _ (cells : List ℕ) (a : Asked) (skip : Skip) (library : List ℕ) (n : ℕ) (l : FindLists) where
   abbrev y : Yield
   y = yields cells a skip library (segmentsIn (l .searched .stored) n)
 
   -- an image that is too long is refused, and nothing is written
-  pub long-is : 65536 < length cells → record { answer = Refused ImageTooLong; left = l } ≡ found cells a skip library n l
-  unfolding found refusalOf leading
+  pub long-is : 65536 < length cells → record { answer = Refused ImageTooLong; left = l } ≡ findOutcome cells a skip library n l
+  unfolding findOutcome refusalOf leading
   long-is h = rw (lt-ltb 65536 (length cells) h)
 
   module _ (short : length cells ≤ 65536) where
     found-by : (t u : Bool) → tooFew (l .searched) (y .placed) (y .noted) ≡ t → ltb (length (l .lines)) (length (y .lines) * lineWidth) ≡ u
-        → found cells a skip library n l ≡ outcomeOf library (if t then some TooFewRows else if u then some TooFewRows else none) y l
-    unfolding found refusalOf leading
+        → findOutcome cells a skip library n l ≡ findOutcomeOf library (if t then some TooFewRows else if u then some TooFewRows else none) y l
+    unfolding findOutcome refusalOf leading
     found-by true u e f = rw (le-ltb 65536 (length cells) short, e)
     found-by false true e f = rw (le-ltb 65536 (length cells) short, e, f)
     found-by false false e f = rw (le-ltb 65536 (length cells) short, e, f)
 
     -- TOO FEW ROWS for the search
     pub refused-is : (r : Refusal) (left : Searchable) (lines : List ℕ) → SearchRefused cells a library n (l .searched) short r left → lines ≡ zeros (length (l .lines))
-        → record { answer = Refused r; left = record { searched = left; lines = lines } } ≡ found cells a skip library n l
+        → record { answer = Refused r; left = record { searched = left; lines = lines } } ≡ findOutcome cells a skip library n l
     unfolding yields
     refused-is r left lines h z =
         ap (λ q. record { answer = Refused q; left = record { searched = left; lines = lines } }) (h .refusal)
@@ -122,7 +122,7 @@ module _ (cells : List ℕ) (a : Asked) (skip : Skip) (library : List ℕ) (n : 
         ∙ sym (found-by true (ltb (length (l .lines)) (length (y .lines) * lineWidth)) (h .full) refl)
 
     -- THE LINES are those of the rows that the search left, or there are too few for them
-    module _ (rows : Rows) (left : Searchable) (h : SearchDone cells a library n (l .searched) short rows left) (lines : List ℕ) (f : Fill)
+    module _ (rows : SearchCounts) (left : Searchable) (h : SearchDone cells a library n (l .searched) short rows left) (lines : List ℕ) (f : Fill)
         (fitted : Fitted lineWidth (length (y .lines)) (lineNumbers (y .lines)) (l .lines) lines f) where
       lines-over : ltb (length (l .lines)) (length (y .lines) * lineWidth) ≡ f .over
       lines-over = go (f .over) refl
@@ -131,16 +131,16 @@ module _ (cells : List ℕ) (a : Asked) (skip : Skip) (library : List ℕ) (n : 
           go true e = lt-ltb (length (l .lines)) (length (y .lines) * lineWidth) (fitted .over e)
           go false e = let r = fitted .room e in le-ltb (length (l .lines)) (length (y .lines) * lineWidth) (omega (arith, r))
 
-      pub lacks-is : f .over ≡ true → record { answer = Refused TooFewRows; left = zeroed l } ≡ found cells a skip library n l
+      pub lacks-is : f .over ≡ true → record { answer = Refused TooFewRows; left = findZeroed l } ≡ findOutcome cells a skip library n l
       unfolding yields
       lacks-is e = sym (found-by false true (h .room) (lines-over ∙ e))
 
       pub done-is : f .over ≡ false
-          → record { answer = Done (record { placed = rows .placed; noted = rows .noted; lines = f .rows }); left = record { searched = left; lines = lines } } ≡ found cells a skip library n l
+          → record { answer = Done (record { placed = rows .placed; noted = rows .noted; lines = f .rows }); left = record { searched = left; lines = lines } } ≡ findOutcome cells a skip library n l
       unfolding yields
       done-is e =
           let fit = fitted .fits e in
-          ap (λ (r : Rows). record { answer = Done (record { placed = r .placed; noted = r .noted; lines = f .rows }); left = record { searched = left; lines = lines } }) (h .numbers)
+          ap (λ (r : SearchCounts). record { answer = Done (record { placed = r .placed; noted = r .noted; lines = f .rows }); left = record { searched = left; lines = lines } }) (h .numbers)
           ∙ ap (λ k. record { answer = Done (record { placed = length (y .placed); noted = length (y .noted); lines = k }); left = record { searched = left; lines = lines } }) (fit .1)
           ∙ ap (λ x. record { answer = Done (counted y); left = record { searched = x; lines = lines } }) (h .memory)
           ∙ ap (λ x. record { answer = Done (counted y); left = record { searched = filledSearch library (y .placed) (y .noted) (l .searched); lines = x } }) (fit .0)
@@ -185,17 +185,17 @@ module _ (cells : List ℕ) (a : Asked) (library : List ℕ) (n : ℕ) (l : Sear
       }
 
   -- the list of those rows is what is found
-  pub lines-found : (skip : Skip) (rows : Rows) (left : Searchable) → SearchDone cells a library n l short rows left → (lines lines′ : List ℕ) (f : Fill)
+  pub lines-found : (skip : Skip) (rows : SearchCounts) (left : Searchable) → SearchDone cells a library n l short rows left → (lines lines′ : List ℕ) (f : Fill)
       → ListsRows cells (a .rules) skip library (left .stored .segments) n (left .stored .references) (left .placed) (rows .placed) (left .noted) (rows .noted) lines lines′ f
       → Fitted lineWidth (length (yields cells a skip library (segmentsIn (l .stored) n) .lines)) (lineNumbers (yields cells a skip library (segmentsIn (l .stored) n) .lines)) lines lines′ f
   unfolding yields filledSearch
   lines-found skip rows left h lines lines′ f lists =
       subst (λ x. ListsRows cells (a .rules) skip library (x .stored .segments) n (x .stored .references) (x .placed) (length found-ps) (x .noted) (length found-ns) lines lines′ f) (h .memory)
-      (subst (λ (r : Rows). ListsRows cells (a .rules) skip library (left .stored .segments) n (left .stored .references) (left .placed) (r .placed) (left .noted) (r .noted) lines lines′ f) (h .numbers) lists)
+      (subst (λ (r : SearchCounts). ListsRows cells (a .rules) skip library (left .stored .segments) n (left .stored .references) (left .placed) (r .placed) (left .noted) (r .noted) lines lines′ f) (h .numbers) lists)
       (filled-rowed (h .room)) short
 
   -- zeros depend on the lengths only, and those a search keeps
-  pub emptied : (rows : Rows) (left : Searchable) → SearchDone cells a library n l short rows left → length (left .placed) ≡ length (l .placed) → length (left .noted) ≡ length (l .noted)
+  pub emptied : (rows : SearchCounts) (left : Searchable) → SearchDone cells a library n l short rows left → length (left .placed) ≡ length (l .placed) → length (left .noted) ≡ length (l .noted)
       → zeroedSearch left ≡ zeroedSearch l
   unfolding filledSearch
   emptied rows left h p q =

@@ -2,16 +2,16 @@
 ghost use mathlib.Core.Path.{_≡_};
 ghost use Rattle.image.specs.View.{view};
 ghost use Rattle.search.specs.visit.Visits.{stored};
-ghost use Rattle.listing.specs.Outcome.{found};
+ghost use Rattle.listing.specs.Outcome.{findOutcome};
 ghost use Rattle.listing.specs.Ends.{ListsFound};
-use crate::Counts;
-use crate::Found;
+use crate::FindAnswer;
+use crate::FindCounts;
 use crate::all_rows::list_rows;
 use image::Stretch;
 use lent::refusal::Refusal;
 use lent::rows::clear;
 use listing_rules::Skip;
-use search::Rows;
+use search::SearchCounts;
 use search::Searched;
 use search::entry::clear_all;
 use search::entry::search;
@@ -33,8 +33,8 @@ fn list_found(
     placed: &mut [u64],
     noted: &mut [u64],
     lines: &mut [u64],
-    rows: Rows,
-) -> Found
+    rows: SearchCounts,
+) -> FindAnswer
     ensures { λ r. ⌜ ListsFound (view (now (image .entry)) s) asked skip (now (library .entry)) n rows
         (record { stored = stored (now (segments .entry)) (now (references .entry)) (now (symbols .entry)) (now (bytes .entry)) (now (masks .entry)); placed = now (placed .entry); noted = now (noted .entry) }) (now (lines .entry)) r
         (record { stored = stored (now (segments .exit)) (now (references .exit)) (now (symbols .exit)) (now (bytes .exit)) (now (masks .exit)); placed = now (placed .exit); noted = now (noted .exit) }) (now (lines .exit)) ⌝ }
@@ -58,9 +58,9 @@ fn list_found(
     if f.over {
         clear_all(segments, references, symbols, bytes, masks, placed, noted);
         clear(lines);
-        return Found::Refused(Refusal::TooFewRows);
+        return FindAnswer::Refused(Refusal::TooFewRows);
     }
-    Found::Done(Counts {
+    FindAnswer::Done(FindCounts {
         placed: rows.placed,
         noted: rows.noted,
         lines: f.rows,
@@ -84,12 +84,12 @@ pub fn find(
     placed: &mut [u64],
     noted: &mut [u64],
     lines: &mut [u64],
-) -> Found
+) -> FindAnswer
     ensures { λ r. ⌜ record { answer = r; left = record { searched = record { stored = stored (now (segments .exit)) (now (references .exit)) (now (symbols .exit)) (now (bytes .exit)) (now (masks .exit)); placed = now (placed .exit); noted = now (noted .exit) }; lines = now (lines .exit) } }
-        ≡ found (view (now (image .entry)) s) asked skip (now (library .entry)) n (record { searched = record { stored = stored (now (segments .entry)) (now (references .entry)) (now (symbols .entry)) (now (bytes .entry)) (now (masks .entry)); placed = now (placed .entry); noted = now (noted .entry) }; lines = now (lines .entry) }) ⌝ }
+        ≡ findOutcome (view (now (image .entry)) s) asked skip (now (library .entry)) n (record { searched = record { stored = stored (now (segments .entry)) (now (references .entry)) (now (symbols .entry)) (now (bytes .entry)) (now (masks .entry)); placed = now (placed .entry); noted = now (noted .entry) }; lines = now (lines .entry) }) ⌝ }
 {
     if 65536 < image.len() {
-        return Found::Refused(Refusal::ImageTooLong);
+        return FindAnswer::Refused(Refusal::ImageTooLong);
     }
     match search(
         image,
@@ -124,7 +124,7 @@ pub fn find(
         ),
         Searched::Refused(r) => {
             clear(lines);
-            Found::Refused(r)
+            FindAnswer::Refused(r)
         }
     }
 }

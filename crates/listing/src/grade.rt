@@ -30,7 +30,7 @@ fn is_found(library: &[u8], width: usize, m: &[u64], heads: &[u64], key: u64, na
     find(library, m, width, head, key, name) != 0
 }
 
-// Whether a reference of a match at `found`, if it is a public one with a target, names a symbol placed there.
+// Whether a reference of a match at `base`, if it is a public one with a target, names a symbol placed there.
 fn bears_out(
     image: &[u8],
     s: Stretch,
@@ -38,13 +38,13 @@ fn bears_out(
     library: &[u8],
     placed: &[u64],
     positions: &[u64],
-    found: usize,
+    base: usize,
     r: Reference,
 ) -> bool
-    ensures { λ b. ⌜ b ≡ bearsOut (isFound (now (library .entry)) 8 (now (placed .entry)) (now (positions .entry))) (view (now (image .entry)) s) rules found r ⌝ }
+    ensures { λ b. ⌜ b ≡ bearsOut (isFound (now (library .entry)) 8 (now (placed .entry)) (now (positions .entry))) (view (now (image .entry)) s) rules base r ⌝ }
 {
     let goal = r.goal;
-    let Target::At(t) = target_of(image, s, rules, found, r) else {
+    let Target::At(t) = target_of(image, s, rules, base, r) else {
         return true;
     };
     match goal {
@@ -63,9 +63,9 @@ fn bear_out(
     part: Part,
     placed: &[u64],
     positions: &[u64],
-    found: usize,
+    base: usize,
 ) -> bool
-    ensures { λ b. ⌜ b ≡ all (bearsOut (isFound (now (library .entry)) 8 (now (placed .entry)) (now (positions .entry))) (view (now (image .entry)) s) rules found) (rowsOf referenceLayout (now (references .entry)) part) ⌝ }
+    ensures { λ b. ⌜ b ≡ all (bearsOut (isFound (now (library .entry)) 8 (now (placed .entry)) (now (positions .entry))) (view (now (image .entry)) s) rules base) (rowsOf referenceLayout (now (references .entry)) part) ⌝ }
 {
     let at = part.at;
     let len = part.len;
@@ -75,7 +75,7 @@ fn bear_out(
     let mut k = 0;
     while k < len {
         let r = reference_at(references, at + k);
-        if !bears_out(image, s, rules, library, placed, positions, found, r) {
+        if !bears_out(image, s, rules, library, placed, positions, base, r) {
             return false;
         }
         k += 1;
@@ -95,9 +95,9 @@ fn is_borne(
     placed: &[u64],
     positions: &[u64],
     number: usize,
-    found: usize,
+    base: usize,
 ) -> bool
-    ensures { λ b. ⌜ b ≡ isBorne (view (now (image .entry)) s) (now (library .entry)) rules (now (segments .entry)) (now (references .entry)) n (now (placed .entry)) (now (positions .entry)) number found ⌝ }
+    ensures { λ b. ⌜ b ≡ isBorne (view (now (image .entry)) s) (now (library .entry)) rules (now (segments .entry)) (now (references .entry)) n (now (placed .entry)) (now (positions .entry)) number base ⌝ }
 {
     if n <= number {
         return true;
@@ -112,7 +112,7 @@ fn is_borne(
         row.references,
         placed,
         positions,
-        found,
+        base,
     )
 }
 
@@ -156,7 +156,7 @@ pub fn grade(
         placed,
         positions,
         number.0,
-        row.found,
+        row.base,
     ) {
         return 1;
     }

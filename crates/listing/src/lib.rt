@@ -10,14 +10,14 @@ pub mod position;
 use lent::refusal::Refusal;
 
 // How many rows were written.
-pub struct Counts {
+pub struct FindCounts {
     pub placed: usize,
     pub noted: usize,
     pub lines: usize,
 }
 
 // What it comes to.
-pub enum Found {
-    Done(Counts),
+pub enum FindAnswer {
+    Done(FindCounts),
     Refused(Refusal),
 }

@@ -39,7 +39,7 @@ module _ (library cells : List ℕ) (a : Asked) (segments : List Collected) (pla
   -- every public reference that the symbol's match noted names a symbol placed at the target
   abbrev pub borneOut : Placing → Bool
   borneOut p =
-      all (λ n. isPlaced library placed (n .target) (n .name)) (notes cells a (getD segments (p .segment) noSegment) (p .found))
+      all (λ n. isPlaced library placed (n .target) (n .name)) (notes cells a (getD segments (p .segment) noSegment) (p .base))
 
   -- 1 if some such reference fails this; otherwise 3 if the name is noted there, 2 if not
   unfoldable pub grade : Placing → ℕ

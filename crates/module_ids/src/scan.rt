@@ -1,7 +1,7 @@
 // The first refusal of 10 to 13, in file order.
 ghost use mathlib.Core.List.{[]};
 ghost use Rattle.omf51.specs.Module.{sectionsAt, moduleAt};
-ghost use Rattle.library.specs.Found.{found};
+ghost use Rattle.library.specs.Gathered.{itemsAt};
 ghost use Rattle.library.specs.items.Left.{fixupsLeft};
 ghost use Rattle.module_ids.specs.Noted.{Tells};
 ghost use Rattle.module_ids.specs.fault.Scan.{fixupsFault, sectionFault, sectionsFault, Says, Scanned};
@@ -55,7 +55,7 @@ fn section_fault(library: &[u8], table: &[u64], content: Content, fixups: Cursor
 
 // The contents of a module.
 fn sections_fault(library: &[u8], table: &[u64], from: usize) -> Verdict
-    ensures { λ r. ⌜ Says (λ ds. sectionsFault ds (found (now (library .entry)) (sectionsAt (now (library .entry))) from)) (now (table .entry)) r ⌝ }
+    ensures { λ r. ⌜ Says (λ ds. sectionsFault ds (itemsAt (now (library .entry)) (sectionsAt (now (library .entry))) from)) (now (table .entry)) r ⌝ }
 {
     let mut at = from;
     loop {
@@ -81,7 +81,7 @@ fn sections_fault(library: &[u8], table: &[u64], from: usize) -> Verdict
 // All modules from a place on; the table is lent clear, and is clear again.
 pub fn scan(library: &[u8], first: usize, table: &mut [u64]) -> Verdict
     requires { ⌜ Tells [] (now table) ⌝ }
-    ensures { λ r. ⌜ Scanned (found (now (library .entry)) (moduleAt (now (library .entry))) first) (now (table .exit)) r ⌝ }
+    ensures { λ r. ⌜ Scanned (itemsAt (now (library .entry)) (moduleAt (now (library .entry))) first) (now (table .exit)) r ⌝ }
 {
     let mut at = first;
     loop {

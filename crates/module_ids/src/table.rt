@@ -3,7 +3,7 @@ ghost use mathlib.Core.Path.{_≡_};
 ghost use mathlib.Core.List.{[]};
 ghost use Prim.Native.Nat.{_+_, _<_, _^_};
 ghost use Rattle.omf51.specs.Module.{definitionsAt};
-ghost use Rattle.library.specs.Found.{found};
+ghost use Rattle.library.specs.Gathered.{itemsAt};
 ghost use Rattle.segments.specs.Ids.{codeInfo, isKept, idOf};
 ghost use Rattle.module_ids.specs.Noted.{firstMark, firstName, firstKeptAs, changed as changedRow, noteIn, keptAfter, noRow, Tells, Filled};
 use crate::IdRow;
@@ -158,7 +158,7 @@ fn kept_after(n: usize, d: Definition) -> usize
 // Notes all definitions from a place on in a table that is clear, and answers how many segments are kept.
 pub fn fill(library: &[u8], at: usize, table: &mut [u64]) -> usize
     requires { ⌜ Tells [] (now table) ⌝ }
-    ensures { λ r. ⌜ Filled (found (now (library .entry)) (definitionsAt (now (library .entry))) at) (now (table .exit)) r ⌝ }
+    ensures { λ r. ⌜ Filled (itemsAt (now (library .entry)) (definitionsAt (now (library .entry))) at) (now (table .exit)) r ⌝ }
 {
     let mut c = start(at);
     let mut n = 0;
@@ -178,7 +178,7 @@ pub fn fill(library: &[u8], at: usize, table: &mut [u64]) -> usize
 
 // Clears the rows of all ids that these definitions have.
 pub fn clear(library: &[u8], at: usize, table: &mut [u64])
-    requires { ⌜ Tells (found (now library) (definitionsAt (now library)) at) (now table) ⌝ }
+    requires { ⌜ Tells (itemsAt (now library) (definitionsAt (now library)) at) (now table) ⌝ }
     ensures { λ _. ⌜ Tells [] (now (table .exit)) ⌝ }
 {
     let mut c = start(at);

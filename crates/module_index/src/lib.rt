@@ -3,7 +3,7 @@ ghost use Prim.Native.Nat.{_≤_};
 ghost use lib.ListN.{length, take};
 ghost use Rattle.lent.specs.Lists.{keep};
 ghost use Rattle.omf51.specs.Module.{definitionsAt, sectionsAt};
-ghost use Rattle.library.specs.Found.{found};
+ghost use Rattle.library.specs.Gathered.{itemsAt};
 ghost use Rattle.tables.specs.links.Index.{Cleared};
 ghost use Rattle.module_index.specs.gather.Places.{SectionIs, sectionKey, PublicIs, publicKey, isPublicDefinition};
 ghost use Rattle.module_index.specs.Indexed.{Blank};
@@ -27,7 +27,7 @@ pub fn index_sections(
     next: &mut [u32],
 ) -> usize
     requires { ⌜ Blank 7 (now library) (now keys) (now places) (now first) (now next) ⌝ }
-    ensures { λ r. ⌜ IndexedInto (SectionIs (now (library .entry))) sectionKey (found (now (library .entry)) (sectionsAt (now (library .entry))) from) (now (keys .entry)) (now (places .entry)) (now (first .entry)) (now (next .entry)) (now (keys .exit)) (now (places .exit)) (now (first .exit)) (now (next .exit)) r ⌝ }
+    ensures { λ r. ⌜ IndexedInto (SectionIs (now (library .entry))) sectionKey (itemsAt (now (library .entry)) (sectionsAt (now (library .entry))) from) (now (keys .entry)) (now (places .entry)) (now (first .entry)) (now (next .entry)) (now (keys .exit)) (now (places .exit)) (now (first .exit)) (now (next .exit)) r ⌝ }
 {
     let n = gather_sections(library, from, keys, places);
     link(&keys[0..n], first, next);
@@ -44,7 +44,7 @@ pub fn index_publics(
     next: &mut [u32],
 ) -> usize
     requires { ⌜ Blank 5 (now library) (now keys) (now places) (now first) (now next) ⌝ }
-    ensures { λ r. ⌜ IndexedInto (PublicIs (now (library .entry))) publicKey (keep isPublicDefinition (found (now (library .entry)) (definitionsAt (now (library .entry))) from)) (now (keys .entry)) (now (places .entry)) (now (first .entry)) (now (next .entry)) (now (keys .exit)) (now (places .exit)) (now (first .exit)) (now (next .exit)) r ⌝ }
+    ensures { λ r. ⌜ IndexedInto (PublicIs (now (library .entry))) publicKey (keep isPublicDefinition (itemsAt (now (library .entry)) (definitionsAt (now (library .entry))) from)) (now (keys .entry)) (now (places .entry)) (now (first .entry)) (now (next .entry)) (now (keys .exit)) (now (places .exit)) (now (first .exit)) (now (next .exit)) r ⌝ }
 {
     let n = gather_publics(library, from, keys, places);
     link(&keys[0..n], first, next);

@@ -9,27 +9,27 @@ use lib.Dec.{eqb}
 use lib.ListN.{length}
 use Rattle.lent.specs.ChoiceLaws.{chosen}
 use Rattle.lent.specs.Parts.{byteAt, sameName}
-use Rattle.omf51.specs.Reader.{Outcome, read, stop, refused, Reader, andThen, after, repeat, many, notEmpty}
+use Rattle.omf51.specs.Reader.{ReadOutcome, read, stop, refused, Reader, andThen, after, repeat, many, notEmpty}
 use Rattle.omf51.specs.Record.{recordOf}
 use Rattle.omf51.specs.Entry.{nameWith}
 use Rattle.omf51.specs.Module.{Module, definitionsAt, sectionsAt, moduleAt}
 use Rattle.omf51.specs.File.{file}
 
 -- what is read is not empty
-abbrev Some : {A : Type 0} → Outcome (List A) → Type 0
+abbrev Some : {A : Type 0} → ReadOutcome (List A) → Type 0
 Some (read [] next) = ⊥
 Some (read (x ∷ xs) next) = Unit
 Some stop = Unit
 Some (refused r) = Unit
 
 -- and there is something, or a refusal
-abbrev Full : {A : Type 0} → Outcome (List A) → Type 0
+abbrev Full : {A : Type 0} → ReadOutcome (List A) → Type 0
 Full (read [] next) = ⊥
 Full (read (x ∷ xs) next) = Unit
 Full stop = ⊥
 Full (refused r) = Unit
 
-then-some : {A B : Type 0} (o : Outcome A) (f : A → Reader (List B)) → ((a : A) (next : ℕ) → Some (f a next)) → Some (andThen o f)
+then-some : {A B : Type 0} (o : ReadOutcome A) (f : A → Reader (List B)) → ((a : A) (next : ℕ) → Some (f a next)) → Some (andThen o f)
 then-some (read a next) f h = h a next
 then-some stop f h = tt
 then-some (refused r) f h = tt
@@ -48,7 +48,7 @@ unfolding repeat
 repeat-full zero each x xs at = tt
 repeat-full {A} (suc n) each x xs at = go (each at) (repeat-full n each x)
   where
-    go : (o : Outcome (List A)) → ((ys : List A) (k : ℕ) → Full (repeat n each (x ∷ ys) k)) → Full (after (repeat n each) (x ∷ xs) at o)
+    go : (o : ReadOutcome (List A)) → ((ys : List A) (k : ℕ) → Full (repeat n each (x ∷ ys) k)) → Full (after (repeat n each) (x ∷ xs) at o)
     go (read more next) rest = rest (xs ++ more) next
     go stop rest = tt
     go (refused r) rest = tt
@@ -58,13 +58,13 @@ pub no-first : (library : List ℕ) → eqb (byteAt library 0) 0x2c ≡ false �
 unfolding file repeat
 no-first library e = ((λ q. there (moduleAt library 0) (module-some library 0) (rw e at q)), λ q. rw (e, q))
   where
-    not-stop : (o : Outcome (List Module)) → Full o → andThen o notEmpty ≡ stop → ⊥
+    not-stop : (o : ReadOutcome (List Module)) → Full o → andThen o notEmpty ≡ stop → ⊥
     not-stop (read [] next) f q = f
     not-stop (read (x ∷ xs) next) f q = let z : _≡_ {A = ℕ} 0 1 = cc in omega arith
     not-stop stop f q = f
     not-stop (refused r) f q = let z : _≡_ {A = ℕ} 0 1 = cc in omega arith
 
-    there : (o : Outcome (List Module)) → Some o → andThen (after (repeat (length library) (moduleAt library)) [] 0 o) notEmpty ≡ stop → o ≡ stop
+    there : (o : ReadOutcome (List Module)) → Some o → andThen (after (repeat (length library) (moduleAt library)) [] 0 o) notEmpty ≡ stop → o ≡ stop
     there (read [] next) s q = absurd s
     there (read (x ∷ xs) next) s q = absurd (not-stop (repeat (length library) (moduleAt library) (x ∷ xs) next) (repeat-full (length library) (moduleAt library) x xs next) q)
     there stop s q = refl

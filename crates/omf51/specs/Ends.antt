@@ -9,10 +9,10 @@ use Rattle.omf51.specs.declared.entry.Entries.{Entries}
 use Rattle.omf51.specs.declared.entry.Entries.the-variants.{Definitions, Fixups}
 use Rattle.omf51.specs.declared.entry.Named.{Named}
 use Rattle.omf51.specs.declared.entry.Named.the-variants as Named
-use Rattle.omf51.specs.Reader.{Outcome, read, stop, refused}
+use Rattle.omf51.specs.Reader.{ReadOutcome, read, stop, refused}
 use Rattle.omf51.specs.Entry.{definitionAt, fixupAt}
 
-abbrev pub endOf : {A : Type 0} → Outcome A → End
+abbrev pub endOf : {A : Type 0} → ReadOutcome A → End
 endOf (read a next) = At next
 endOf stop = Stop
 endOf (refused r) = Refused r
@@ -22,7 +22,7 @@ entryEnd Definitions library f at = endOf (definitionAt library f at)
 entryEnd Fixups library f at = endOf (fixupAt library f at)
 
 -- the name that was read
-abbrev pub nameRead : Named → Outcome Part
+abbrev pub nameRead : Named → ReadOutcome Part
 nameRead (Named.Read name next) = read name next
 nameRead Named.Stop = stop
 nameRead (Named.Refused r) = refused r

@@ -7,7 +7,7 @@ use Rattle.omf51.specs.declared.types.Allowed.{Allowed}
 use Rattle.omf51.specs.declared.types.Allowed.the-variants.{One, Definitions, Contents, Fixups, Idle}
 use Rattle.omf51.specs.declared.record.Framed.{Framed}
 use Rattle.omf51.specs.declared.record.Framed.the-variants.{Read, Stop, Refused}
-use Rattle.omf51.specs.Reader.{Outcome, read, stop, refused}
+use Rattle.omf51.specs.Reader.{ReadOutcome, read, stop, refused}
 use Rattle.omf51.specs.Module.{isKnown, defines, fills, fixes, isIdle}
 
 -- the types that may stand at a place
@@ -22,7 +22,7 @@ allows Fixups = fixes
 allows Idle = isIdle
 
 -- a record and the place after it: its checksum byte follows its body
-abbrev pub frameRead : Framed → Outcome Frame
+abbrev pub frameRead : Framed → ReadOutcome Frame
 frameRead (Read f) = read f (f .end + 1)
 frameRead Stop = stop
 frameRead (Refused r) = refused r

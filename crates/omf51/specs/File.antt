@@ -7,7 +7,7 @@ use Rattle.lent.specs.declared.refusal.Refusal.{Refusal}
 use Rattle.lent.specs.declared.refusal.Refusal.the-variants.{NoModule}
 use Rattle.lent.specs.Choice.{if_then_else_}
 use Rattle.lent.specs.Parts.{byteAt}
-use Rattle.omf51.specs.Reader.{Outcome, read, stop, refused, Reader, _>>=_, give, atLeastOne}
+use Rattle.omf51.specs.Reader.{ReadOutcome, read, stop, refused, Reader, _>>=_, give, atLeastOne}
 use Rattle.omf51.specs.Record.{recordOf}
 use Rattle.omf51.specs.Module.{Module, moduleAt}
 
@@ -25,16 +25,16 @@ libraryAt library = do
   _ ← recordOf library (eqb 0x2a) give
   give modules
 
-unfoldable pub file : List ℕ → Outcome (List Module)
+unfoldable pub file : List ℕ → ReadOutcome (List Module)
 file library = if eqb (byteAt library 0) 0x2c then libraryAt library 0 else modulesAt library 0
 
 -- refusals 5 to 8, if there is one; and the modules, none where it is refused
-abbrev pub fileRefusal : Outcome (List Module) → Option Refusal
+abbrev pub fileRefusal : ReadOutcome (List Module) → Option Refusal
 fileRefusal (read modules at) = none
 fileRefusal stop = some NoModule
 fileRefusal (refused r) = some r
 
-abbrev pub modulesIn : Outcome (List Module) → List Module
+abbrev pub modulesIn : ReadOutcome (List Module) → List Module
 modulesIn (read modules at) = modules
 modulesIn stop = []
 modulesIn (refused r) = []

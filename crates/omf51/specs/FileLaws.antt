@@ -9,7 +9,7 @@ use Rattle.lent.specs.declared.refusal.Refusal.the-variants.{RuleSet, ImageTooL
 use Rattle.lent.specs.ChoiceLaws.{chosen}
 use Rattle.lent.specs.Parts.{byteAt, sameName}
 use Rattle.omf51.specs.declared.Frame.{Frame}
-use Rattle.omf51.specs.Reader.{Outcome, read, stop, refused, Reader, andThen, give, after, repeat, many, notEmpty, atLeastOne}
+use Rattle.omf51.specs.Reader.{ReadOutcome, read, stop, refused, Reader, andThen, give, after, repeat, many, notEmpty, atLeastOne}
 use Rattle.omf51.specs.Record.{expected, recordOf}
 use Rattle.omf51.specs.RecordLaws.{Framed, cut, empty, past, unclosed, whole, framed}
 use Rattle.omf51.specs.Entry.{ending, nameAt, nameWith, nameOffset, definitionAt, fixupAt}
@@ -32,13 +32,13 @@ OfReading UnknownBlock = ⊥
 OfReading ContentPastSegment = ⊥
 OfReading NoKeptSegment = ⊥
 
-abbrev pub Reads : {A : Type 0} → Outcome A → Type 0
+abbrev pub Reads : {A : Type 0} → ReadOutcome A → Type 0
 Reads (read a next) = Unit
 Reads stop = Unit
 Reads (refused r) = OfReading r
 
 -- one reader after another, a repetition, a record
-then-reads : {A B : Type 0} (o : Outcome A) (f : A → Reader B) → Reads o → ((a : A) (next : ℕ) → Reads (f a next)) → Reads (andThen o f)
+then-reads : {A B : Type 0} (o : ReadOutcome A) (f : A → Reader B) → Reads o → ((a : A) (next : ℕ) → Reads (f a next)) → Reads (andThen o f)
 then-reads (read a next) f p q = q a next
 then-reads stop f p q = tt
 then-reads (refused r) f p q = p
@@ -48,7 +48,7 @@ unfolding repeat
 repeat-reads zero each h found at = tt
 repeat-reads {A} (suc n) each h found at = go (each at) (h at) (repeat-reads n each h)
   where
-    go : (o : Outcome (List A)) → Reads o → ((f : List A) (k : ℕ) → Reads (repeat n each f k)) → Reads (after (repeat n each) found at o)
+    go : (o : ReadOutcome (List A)) → Reads o → ((f : List A) (k : ℕ) → Reads (repeat n each f k)) → Reads (after (repeat n each) found at o)
     go (read more next) p rest = rest (found ++ more) next
     go stop p rest = tt
     go (refused r) p rest = p
@@ -67,7 +67,7 @@ expected-reads : (library : List ℕ) (allowed : ℕ → Bool) (at : ℕ) → Re
 unfolding expected
 expected-reads library allowed at = chosen Reads (allowed (byteAt library at)) (λ e. frame (framed library at)) (λ e. tt)
   where
-    frame : {o : Outcome Frame} → Framed library at o → Reads o
+    frame : {o : ReadOutcome Frame} → Framed library at o → Reads o
     frame (cut l) = tt
     frame (empty l z) = tt
     frame (past b l) = tt

@@ -5,17 +5,17 @@ use lib.ListN.{length}
 use Rattle.lent.specs.declared.refusal.Refusal.{Refusal}
 
 -- what was read, and the place after it; a repetition stops before this place; or a refusal, which ends the whole reading
-pub data Outcome (A : Type 0) : Type 0 where
-  read : A → ℕ → Outcome A
-  stop : Outcome A
-  refused : Refusal → Outcome A
+pub data ReadOutcome (A : Type 0) : Type 0 where
+  read : A → ℕ → ReadOutcome A
+  stop : ReadOutcome A
+  refused : Refusal → ReadOutcome A
 
 -- a reader starts at a place of the library
 abbrev pub Reader : Type 0 → Type 0
-Reader A = ℕ → Outcome A
+Reader A = ℕ → ReadOutcome A
 
 -- what follows an outcome; `do` puts `_>>=_` between its lines
-abbrev pub andThen : {A B : Type 0} → Outcome A → (A → Reader B) → Outcome B
+abbrev pub andThen : {A B : Type 0} → ReadOutcome A → (A → Reader B) → ReadOutcome B
 andThen (read a next) f = f a next
 andThen stop f = stop
 andThen (refused r) f = refused r
@@ -31,7 +31,7 @@ abbrev pub refuse : {A : Type 0} → Refusal → Reader A
 refuse r = λ at. refused r
 
 -- a repetition: again and again until it stops, and then it stands before what it stopped at
-abbrev pub after : {A : Type 0} → (List A → Reader (List A)) → List A → ℕ → Outcome (List A) → Outcome (List A)
+abbrev pub after : {A : Type 0} → (List A → Reader (List A)) → List A → ℕ → ReadOutcome (List A) → ReadOutcome (List A)
 after rest found at (read more next) = rest (found ++ more) next
 after rest found at stop = read found at
 after rest found at (refused r) = refused r

@@ -11,7 +11,7 @@ use Rattle.lent.specs.declared.refusal.Refusal.the-variants.{BodyPastEnd, Lengt
 use Rattle.lent.specs.ChoiceLaws.{chosen}
 use Rattle.lent.specs.Parts.{byteAt, wordAt}
 use Rattle.omf51.specs.declared.Frame.{Frame}
-use Rattle.omf51.specs.Reader.{Outcome, read, stop, refused, Reader, andThen}
+use Rattle.omf51.specs.Reader.{ReadOutcome, read, stop, refused, Reader, andThen}
 use Rattle.omf51.specs.Record.{frameAt, expected, recordOf}
 
 -- a record whose type is not allowed here never gives 6 or 7: the type byte alone decides
@@ -30,7 +30,7 @@ unfolding expected
 not-expected library allowed at e = rw e
 
 -- a record whose frame is known
-pub record-framed : {A : Type 0} (library : List ℕ) (allowed : ℕ → Bool) (inner : Frame → Reader A) (at : ℕ) {o : Outcome Frame}
+pub record-framed : {A : Type 0} (library : List ℕ) (allowed : ℕ → Bool) (inner : Frame → Reader A) (at : ℕ) {o : ReadOutcome Frame}
     → expected library allowed at ≡ o → recordOf library allowed inner at ≡ andThen o λ f next. andThen (inner f (f .body)) λ a left. read a next
 unfolding recordOf
 record-framed library allowed inner at e = rw e
@@ -45,7 +45,7 @@ module _ (library : List ℕ) (at : ℕ) where
     pub long : len ≡ 0 → ⊥
 
   -- what the record at a place comes to, case by case
-  pub data Framed : Outcome Frame → Type 0 where
+  pub data Framed : ReadOutcome Frame → Type 0 where
     cut : length library < at + 3 → Framed stop
     empty : at + 3 ≤ length library → len ≡ 0 → Framed (refused LengthZero)
     past : HasBody → length library < at + 2 + len → Framed (refused BodyPastEnd)
@@ -102,7 +102,7 @@ pub record Fits (library : List ℕ) (at : ℕ) (f : Frame) (next : ℕ) : Type 
   pub next-is : next ≡ f .end + 1
   pub inside : next ≤ length library
 
-abbrev pub FrameFits : List ℕ → ℕ → Outcome Frame → Type 0
+abbrev pub FrameFits : List ℕ → ℕ → ReadOutcome Frame → Type 0
 FrameFits library at (read f next) = Fits library at f next
 FrameFits library at stop = Unit
 FrameFits library at (refused r) = Unit
@@ -114,7 +114,7 @@ expected-fits library allowed at = chosen (FrameFits library at) (allowed (byteA
     positive : (n : ℕ) → (n ≡ 0 → ⊥) → 0 < n
     positive n h = omega arith
 
-    fits : {o : Outcome Frame} → Framed library at o → FrameFits library at o
+    fits : {o : ReadOutcome Frame} → Framed library at o → FrameFits library at o
     fits (cut l) = tt
     fits (empty l z) = tt
     fits (past b l) = tt

@@ -2,7 +2,7 @@
 ghost use Prim.Native.Nat.{_+_, _<_, _≤_};
 use crate::trial::Answer;
 use crate::trial::Five;
-use collect::stored::Counts;
+use collect::stored::CollectCounts;
 use image::fixup::Rules;
 
 // What is asked: the library that the room begins with is so long, the rule set, and how much is lent.
@@ -43,8 +43,8 @@ fn five_at(header: &[u8; 60], at: usize) -> Five
     }
 }
 
-fn counts_of(header: &[u8; 60]) -> Counts {
-    Counts {
+fn counts_of(header: &[u8; 60]) -> CollectCounts {
+    CollectCounts {
         segments: number_at(header, 24),
         references: number_at(header, 28),
         symbols: number_at(header, 32),
@@ -56,7 +56,7 @@ fn rules_of(n: u8) -> Rules {
     if n == 1 {
         return Rules::Documented;
     }
-    Rules::Found
+    Rules::AsFound
 }
 
 fn case_of(header: &[u8; 60], length: usize) -> Case {

@@ -9,12 +9,12 @@ use crate::show::total;
 use crate::trial::Answer;
 use crate::trial::Five;
 use crate::trial::collect_back;
-use collect::stored::Counts;
+use collect::stored::CollectCounts;
 
 // Nothing says that a file ends, so the loop over its cases counts them; no file here has as many.
 const LIMIT: u64 = 100000;
 
-fn same_counts(a: Counts, b: Counts) -> bool {
+fn same_counts(a: CollectCounts, b: CollectCounts) -> bool {
     a.segments == b.segments
         && a.references == b.references
         && a.symbols == b.symbols

@@ -3,7 +3,7 @@ ghost use Prim.Native.Nat.{_≤_};
 use crate::cases::Trial;
 use collect::Collection;
 use collect::entry::collect;
-use collect::stored::Counts;
+use collect::stored::CollectCounts;
 use image::fixup::Rules;
 use lent::names::name;
 use lent::part::Part;
@@ -25,12 +25,12 @@ pub struct Five {
 // The number, 0 where the segments were collected; the counts, zeros with a refusal; the digests of the lists.
 pub struct Answer {
     pub number: u8,
-    pub counts: Counts,
+    pub counts: CollectCounts,
     pub digests: Five,
 }
 
 fn refused(n: u8, digests: Five) -> Answer {
-    let none = Counts {
+    let none = CollectCounts {
         segments: 0,
         references: 0,
         symbols: 0,

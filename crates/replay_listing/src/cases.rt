@@ -4,7 +4,7 @@ use crate::trial::Answer;
 use crate::trial::Trial;
 use image::Stretch;
 use image::fixup::Rules;
-use listing::Counts;
+use listing::FindCounts;
 use listing_rules::Skip;
 use recorded::scenes::load::eight_at;
 use recorded::scenes::load::four_at;
@@ -32,7 +32,7 @@ fn rules_of(n: u8) -> Rules {
     if n == 1 {
         return Rules::Documented;
     }
-    Rules::Found
+    Rules::AsFound
 }
 
 fn skip_of(is_told: u8, amount: u64) -> Skip {
@@ -64,7 +64,7 @@ fn trial_of(header: &[u8; 97]) -> Trial {
 fn answer_of(header: &[u8; 97]) -> Answer {
     Answer {
         number: header[4],
-        counts: Counts {
+        counts: FindCounts {
             placed: length_at(header, 45),
             noted: length_at(header, 49),
             lines: length_at(header, 53),

@@ -10,7 +10,7 @@ use crate::text::Text;
 use crate::trial::Answer;
 use crate::trial::Trial;
 use crate::trial::list_back;
-use listing::Counts;
+use listing::FindCounts;
 use recorded::scenes::scene::Scene;
 use recorded::scenes::scene::no_scene;
 use recorded::scenes::seven::same_seven;
@@ -20,7 +20,7 @@ use recorded::scenes::show::limited;
 // Nothing says that a file ends, so the loop over its cases counts them; no file here has as many.
 const LIMIT: u64 = 100000;
 
-fn same_counts(a: Counts, b: Counts) -> bool {
+fn same_counts(a: FindCounts, b: FindCounts) -> bool {
     a.placed == b.placed && a.noted == b.noted && a.lines == b.lines
 }
 

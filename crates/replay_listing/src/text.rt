@@ -2,7 +2,7 @@
 use crate::show::printed;
 use lent::names::name;
 use lent::part::Part;
-use listing::Found;
+use listing::FindAnswer;
 use printing::Printed;
 use printing::print;
 use recorded::digest::numbers::take_in_bytes;
@@ -21,11 +21,11 @@ fn no_text() -> Text {
 pub fn text_of(
     library: &[u8],
     lines: &[u64],
-    outcome: Found,
+    outcome: FindAnswer,
     out: &mut [u8],
     is_shown: bool,
 ) -> Text {
-    let Found::Done(counts) = outcome else {
+    let FindAnswer::Done(counts) = outcome else {
         return no_text();
     };
     let Printed::Written(size) = print(library, lines, counts.lines, out) else {

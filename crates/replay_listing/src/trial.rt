@@ -6,8 +6,8 @@ use image::Stretch;
 use lent::names::name;
 use lent::part::Part;
 use lent::refusal::number;
-use listing::Counts;
-use listing::Found;
+use listing::FindAnswer;
+use listing::FindCounts;
 use listing::entry::find;
 use listing_rules::Skip;
 use recorded::digest::numbers::take_in_all;
@@ -33,7 +33,7 @@ pub struct Trial {
 // refusal or without room for it.
 pub struct Answer {
     pub number: u8,
-    pub counts: Counts,
+    pub counts: FindCounts,
     pub digests: Seven,
     pub lines: u64,
     pub text: Text,
@@ -41,7 +41,7 @@ pub struct Answer {
 
 // How the search and its list came out, and the digests of the lists.
 struct Left {
-    outcome: Found,
+    outcome: FindAnswer,
     digests: Seven,
     lines: u64,
 }
@@ -50,16 +50,16 @@ fn answer_of(left: Left, text: Text) -> Answer {
     let outcome = left.outcome;
     let digests = left.digests;
     match outcome {
-        Found::Done(counts) => Answer {
+        FindAnswer::Done(counts) => Answer {
             number: 0,
             counts,
             digests,
             lines: left.lines,
             text,
         },
-        Found::Refused(r) => Answer {
+        FindAnswer::Refused(r) => Answer {
             number: number(r),
-            counts: Counts {
+            counts: FindCounts {
                 placed: 0,
                 noted: 0,
                 lines: 0,

@@ -9,7 +9,7 @@ use recorded::scenes::scene::NextScene;
 use recorded::scenes::scene::Scene;
 use recorded::scenes::scene::next_scene;
 use recorded::scenes::seven::seven_at;
-use search::Rows;
+use search::SearchCounts;
 use search_rules::Asked;
 
 pub enum Case {
@@ -30,7 +30,7 @@ fn rules_of(n: u8) -> Rules {
     if n == 1 {
         return Rules::Documented;
     }
-    Rules::Found
+    Rules::AsFound
 }
 
 fn trial_of(header: &[u8; 64]) -> Trial {
@@ -52,7 +52,7 @@ fn trial_of(header: &[u8; 64]) -> Trial {
 fn answer_of(header: &[u8; 64]) -> Answer {
     Answer {
         number: header[3],
-        rows: Rows {
+        rows: SearchCounts {
             placed: length_at(header, 28),
             noted: length_at(header, 32),
         },

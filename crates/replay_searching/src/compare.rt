@@ -11,12 +11,12 @@ use recorded::scenes::scene::no_scene;
 use recorded::scenes::seven::same_seven;
 use recorded::scenes::show::cut_short;
 use recorded::scenes::show::limited;
-use search::Rows;
+use search::SearchCounts;
 
 // Nothing says that a file ends, so the loop over its cases counts them; no file here has as many.
 const LIMIT: u64 = 100000;
 
-fn same_rows(a: Rows, b: Rows) -> bool {
+fn same_rows(a: SearchCounts, b: SearchCounts) -> bool {
     a.placed == b.placed && a.noted == b.noted
 }
 

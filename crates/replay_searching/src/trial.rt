@@ -9,7 +9,7 @@ use recorded::scenes::load::load_numbers;
 use recorded::scenes::scene::Scene;
 use recorded::scenes::seven::Seven;
 use recorded::scenes::seven::seven_of;
-use search::Rows;
+use search::SearchCounts;
 use search::Searched;
 use search::entry::search;
 use search_rules::Asked;
@@ -25,7 +25,7 @@ pub struct Trial {
 // The number, 0 where the search was done; how many rows there are, none with a refusal; the digests of the lists.
 pub struct Answer {
     pub number: u8,
-    pub rows: Rows,
+    pub rows: SearchCounts,
     pub digests: Seven,
 }
 
@@ -38,7 +38,7 @@ fn answer_of(outcome: Searched, digests: Seven) -> Answer {
         },
         Searched::Refused(r) => Answer {
             number: number(r),
-            rows: Rows {
+            rows: SearchCounts {
                 placed: 0,
                 noted: 0,
             },

@@ -13,7 +13,7 @@ use Rattle.image.specs.declared.Seat.the-variants.{Anywhere}
 use Rattle.image.specs.View.{view}
 use Rattle.image.specs.Match.{agrees, matchesAt, matches}
 use Rattle.image.specs.declared.fixup.Rules.{Rules}
-use Rattle.image.specs.declared.fixup.Rules.the-variants.{Found, Documented}
+use Rattle.image.specs.declared.fixup.Rules.the-variants.{AsFound, Documented}
 use Rattle.image.specs.declared.fixup.Kind.{Kind}
 use Rattle.image.specs.declared.fixup.Kind.the-variants.{Relative, Word, Inblock}
 use Rattle.image.specs.fixup.Target.{addressIn, kindNumber, readable, target}
@@ -63,7 +63,7 @@ abbrev targetAt : Rules → Kind → ℕ → List ℕ → List ℕ
 targetAt rules kind pos bytes = asList (addressIn (target (replicate pos 0 ++ bytes) rules pos kind 0))
 
 abbrev bothAt : Kind → ℕ → List ℕ → List ℕ
-bothAt kind pos bytes = targetAt Found kind pos bytes ++ targetAt Documented kind pos bytes
+bothAt kind pos bytes = targetAt AsFound kind pos bytes ++ targetAt Documented kind pos bytes
 
 -- a fixup of kind Word at the last of three bytes
 abbrev P12 : Fixup
@@ -84,9 +84,9 @@ table =
     ∷ P 5 (flag (agrees 0xe1 0x01 0x1f) ∷ flag (agrees 0x11 0x01 0x1f) ∷ []) (1 ∷ 0 ∷ [])
     ∷ P 6 (bothAt Inblock 0x0100 (0xe1 ∷ 0x34 ∷ [])) (0x0034 ∷ 0x0734 ∷ [])
     ∷ P 7 (bothAt Inblock 0x07fe (0x01 ∷ 0x34 ∷ [])) (0x0834 ∷ 0x0834 ∷ [])
-    ∷ P 8 (targetAt Found Relative 0x0010 (0xfe ∷ [])) (0x000f ∷ [])
-    ∷ P 9 (targetAt Found Relative 0 (0xfe ∷ [])) (one (2 ^ 64 - 1))
-    ∷ P 10 (length (targetAt Found Word 3 (0x12 ∷ [])) ∷ length (targetAt Found Word 3 (0x12 ∷ 0x34 ∷ [])) ∷ []) (0 ∷ 1 ∷ [])
+    ∷ P 8 (targetAt AsFound Relative 0x0010 (0xfe ∷ [])) (0x000f ∷ [])
+    ∷ P 9 (targetAt AsFound Relative 0 (0xfe ∷ [])) (one (2 ^ 64 - 1))
+    ∷ P 10 (length (targetAt AsFound Word 3 (0x12 ∷ [])) ∷ length (targetAt AsFound Word 3 (0x12 ∷ 0x34 ∷ [])) ∷ []) (0 ∷ 1 ∷ [])
     ∷ P 11 (segmentSize 0x80 5 ∷ segmentSize 0 0 ∷ segmentSize 0 0xffff ∷ []) (0 ∷ 65536 ∷ 65535 ∷ [])
     ∷ P 12 (masksOf 3 (one P12)) (0xff ∷ 0xff ∷ 0x00 ∷ [])
     ∷ P 13 (words (describe (text "?C?CLDIDATA")) ++ words (describe (text "?C?CLDIXDATA")))

@@ -59,14 +59,14 @@ abbrev pub Own : List ℕ → List ℕ → List Module → Part → ℕ → Type
 Own library cells modules name address = OfKept library cells modules name address ⊎ OfAbsolute library cells modules name address
 
 module _ (library cells : List ℕ) (modules : List Module) (m : Module) (i : m among modules) (number : ℕ) where
-  own-kept : (place : ℕ) (d : Definition) → (place, d) among numbered 0 (kept m) → (y : Symbol) (found : ℕ) → y among keptSegment library m number (place, d) .symbols
-      → matchesAt cells (keptSegment library m number (place, d) .bytes) (keptSegment library m number (place, d) .masks) found ≡ true
-      → OfKept library cells modules (y .name) (found + y .offset)
+  own-kept : (place : ℕ) (d : Definition) → (place, d) among numbered 0 (kept m) → (y : Symbol) (base : ℕ) → y among keptSegment library m number (place, d) .symbols
+      → matchesAt cells (keptSegment library m number (place, d) .bytes) (keptSegment library m number (place, d) .masks) base ≡ true
+      → OfKept library cells modules (y .name) (base + y .offset)
   unfolding keptSegment
-  own-kept place d k y found c t =
+  own-kept place d k y base c t =
       let n = symbol-named m (idOf d) (λ offset. true) 0 y c in
       let offset-is : y .offset ≡ n .offset = n .shifted ∙ sub-zero (n .offset) in
-      let back : found + y .offset - n .offset ≡ found = omega (arith, offset-is) in
+      let back : base + y .offset - n .offset ≡ base = omega (arith, offset-is) in
       record {
         m = m;
         is-read = i;
@@ -80,14 +80,14 @@ module _ (library cells : List ℕ) (modules : List Module) (m : Module) (i : m 
         matching = rw back t;
       }
 
-  own-absolute : (s : Section) → s among m .sections → s .content .id .0 ≡ 0 → (y : Symbol) (found : ℕ)
+  own-absolute : (s : Section) → s among m .sections → s .content .id .0 ≡ 0 → (y : Symbol) (base : ℕ)
       → y among absoluteSegment Documented library m number s .symbols
-      → matchesAt cells (dataOf library s) (dataMasks library s) found ≡ true → found ≡ s .content .offset
-      → OfAbsolute library cells modules (y .name) (found + y .offset)
+      → matchesAt cells (dataOf library s) (dataMasks library s) base ≡ true → base ≡ s .content .offset
+      → OfAbsolute library cells modules (y .name) (base + y .offset)
   unfolding absoluteSegment
-  own-absolute s k z y found c t e =
+  own-absolute s k z y base c t e =
       let n = symbol-named m absoluteId (insideOf (s .content)) (symbolBase Documented (s .content)) y c in
-      let own : found + y .offset ≡ n .offset = ap (λ f. f + y .offset) e ∙ own-offset m (s .content) y n in
+      let own : base + y .offset ≡ n .offset = ap (λ f. f + y .offset) e ∙ own-offset m (s .content) y n in
       record {
         m = m;
         is-read = i;
@@ -100,11 +100,11 @@ module _ (library cells : List ℕ) (modules : List Module) (m : Module) (i : m 
       }
 
   -- where a collected segment matches, its symbols' positions are their names' own
-  own-matched : (g : Collected) → Source Documented library m number g → (y : Symbol) (found : ℕ) → y among g .symbols
-      → matchesAt cells (g .bytes) (g .masks) found ≡ true → Seated (g .seat) found → Own library cells modules (y .name) (found + y .offset)
+  own-matched : (g : Collected) → Source Documented library m number g → (y : Symbol) (base : ℕ) → y among g .symbols
+      → matchesAt cells (g .bytes) (g .masks) base ≡ true → Seated (g .seat) base → Own library cells modules (y .name) (base + y .offset)
   unfolding keptSegment absoluteSegment
-  own-matched g (keptOf place d k e) = rw e λ y found c t s. inl (own-kept place d k y found c t)
-  own-matched g (absoluteOf x k z e) = rw e λ y found c t s. inr (own-absolute x k z y found c t s)
+  own-matched g (keptOf place d k e) = rw e λ y base c t s. inl (own-kept place d k y base c t)
+  own-matched g (absoluteOf x k z e) = rw e λ y base c t s. inr (own-absolute x k z y base c t s)
 
 -- the lines of a search under a rule set
 abbrev linesBy : Rules → Bool → ℕ → Skip → List ℕ → List ℕ → List Module → List Line

@@ -17,7 +17,7 @@ use Rattle.lent.specs.Leading.{none≢some}
 use Rattle.lent.specs.Refusals.{refusalNumber}
 use Rattle.lent.specs.RefusalLaws.{same-number, number-range}
 use Rattle.lent.specs.Rows.{tooMany}
-use Rattle.omf51.specs.Reader.{Outcome, read, stop, refused}
+use Rattle.omf51.specs.Reader.{ReadOutcome, read, stop, refused}
 use Rattle.omf51.specs.Module.{Module}
 use Rattle.omf51.specs.File.{file, fileRefusal}
 use Rattle.omf51.specs.FileLaws.{OfReading, Reads, file-reads}
@@ -65,7 +65,7 @@ reading-stage library = record { out = fileRefusal (file library); low = 5; high
     by-reader ContentPastSegment h = absurd h
     by-reader NoKeptSegment h = absurd h
 
-    go : (o : Outcome (List Module)) → Reads o → (r : Refusal) → fileRefusal o ≡ some r → (5 ≤ refusalNumber r) × (refusalNumber r ≤ 8)
+    go : (o : ReadOutcome (List Module)) → Reads o → (r : Refusal) → fileRefusal o ≡ some r → (5 ≤ refusalNumber r) × (refusalNumber r ≤ 8)
     go (read modules next) h r e = absurd (none≢some e)
     go stop h r e = (omega (arith, same-number e), omega (arith, same-number e))
     go (refused q) h r e = let p = by-reader q h in (omega (arith, same-number e, p .0), omega (arith, same-number e, p .1))
@@ -78,7 +78,7 @@ collecting-stage modules =
 pub file-stops : (library : List ℕ) → (fileRefusal (file library) ≡ some NoModule) ↔ (file library ≡ stop)
 file-stops library = (there (file library) (file-reads library), λ e. rw e)
   where
-    there : (o : Outcome (List Module)) → Reads o → fileRefusal o ≡ some NoModule → o ≡ stop
+    there : (o : ReadOutcome (List Module)) → Reads o → fileRefusal o ≡ some NoModule → o ≡ stop
     there (read modules next) h e = absurd (none≢some e)
     there stop h e = refl
     there (refused r) h e = let z : r ≡ NoModule = cc in absurd (rw z at h)
@@ -86,7 +86,7 @@ file-stops library = (there (file library) (file-reads library), λ e. rw e)
 pub file-refuses : (library : List ℕ) (r : Refusal) → 6 ≤ refusalNumber r → (fileRefusal (file library) ≡ some r) ↔ (file library ≡ refused r)
 file-refuses library r l = (there (file library), λ e. rw e)
   where
-    there : (o : Outcome (List Module)) → fileRefusal o ≡ some r → o ≡ refused r
+    there : (o : ReadOutcome (List Module)) → fileRefusal o ≡ some r → o ≡ refused r
     there (read modules next) e = absurd (none≢some e)
     there stop e = absurd (omega (arith, same-number e))
     there (refused q) e = cc
@@ -94,7 +94,7 @@ file-refuses library r l = (there (file library), λ e. rw e)
 pub file-is-read : (library : List ℕ) → (fileRefusal (file library) ≡ none) ↔ IsRead library
 file-is-read library = (there (file library) refl, λ h. rw (h .2))
   where
-    there : (o : Outcome (List Module)) → file library ≡ o → fileRefusal o ≡ none → IsRead library
+    there : (o : ReadOutcome (List Module)) → file library ≡ o → fileRefusal o ≡ none → IsRead library
     there (read modules next) q e = (modules, next, q)
     there stop q e = absurd (none≢some (sym e))
     there (refused r) q e = absurd (none≢some (sym e))

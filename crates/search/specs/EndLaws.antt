@@ -17,7 +17,7 @@ use Rattle.search_rules.specs.Search.{Placing, Noting, placed, noted}
 use Rattle.search.specs.declared.visit.Fills.{Fills}
 use Rattle.search.specs.declared.Searched.the-variants.{Done, Refused}
 use Rattle.search.specs.visit.Visits.{Stored, stored, segmentsIn}
-use Rattle.search.specs.Outcome.{Lists, Outcome, tooFew, refusalOf, zeroed, filledWith, outcomeOf, searched}
+use Rattle.search.specs.Outcome.{SearchLists, SearchOutcome, tooFew, refusalOf, searchZeroed, searchFilled, searchOutcomeOf, searched}
 use Rattle.search.specs.Fills.{Fitted, FillsRows}
 
 -- there are too many rows exactly if the code ran out of room
@@ -28,7 +28,7 @@ fitted-over {width} {count} {numbers} {before} f h = go (f .over) refl
     go true e = lt-ltb (length before) (count * width) (h .over e)
     go false e = let r = h .room e in le-ltb (length before) (count * width) (omega (arith, r))
 
-module _ (cells : List ℕ) (a : Asked) (library : List ℕ) (n : ℕ) (l : Lists) where
+module _ (cells : List ℕ) (a : Asked) (library : List ℕ) (n : ℕ) (l : SearchLists) where
   abbrev ps : List Placing
   ps = placed library cells a (segmentsIn (l .stored) n)
 
@@ -51,9 +51,9 @@ module _ (cells : List ℕ) (a : Asked) (library : List ℕ) (n : ℕ) (l : List
     refusal-is false e = rw (le-ltb 65536 (length cells) short, e)
 
     -- the rows are too many, and all that was lent is zero
-    pub lacks-is : out ≡ true → record { answer = Refused TooFewRows; left = zeroed l } ≡ searched cells a library n l
+    pub lacks-is : out ≡ true → record { answer = Refused TooFewRows; left = searchZeroed l } ≡ searched cells a library n l
     unfolding searched
-    lacks-is e = sym (ap (λ x. outcomeOf library x ps ns l) (refusal-is true (few-is ∙ e)))
+    lacks-is e = sym (ap (λ x. searchOutcomeOf library x ps ns l) (refusal-is true (few-is ∙ e)))
 
     -- all rows are written
     neither : out ≡ false → (f .placed .over ≡ false) × (f .noted .over ≡ false)
@@ -64,26 +64,26 @@ module _ (cells : List ℕ) (a : Asked) (library : List ℕ) (n : ℕ) (l : List
         go true q z = absurd (false≢true (sym z))
 
     same : {t : Stored} {p p′ q q′ : List ℕ} {i i′ j j′ : ℕ} → i ≡ i′ → j ≡ j′ → p ≡ p′ → q ≡ q′
-        → _≡_ {A = Outcome} (record { answer = Done (record { placed = i; noted = j }); left = record { stored = t; placed = p; noted = q } }) (record { answer = Done (record { placed = i′; noted = j′ }); left = record { stored = t; placed = p′; noted = q′ } })
+        → _≡_ {A = SearchOutcome} (record { answer = Done (record { placed = i; noted = j }); left = record { stored = t; placed = p; noted = q } }) (record { answer = Done (record { placed = i′; noted = j′ }); left = record { stored = t; placed = p′; noted = q′ } })
     same a b c d = rw (a, b, c, d) refl
 
     pub done-is : out ≡ false
         → record { answer = Done (record { placed = f .placed .rows; noted = f .noted .rows }); left = record { stored = l .stored; placed = placed′; noted = noted′ } } ≡ searched cells a library n l
-    unfolding searched filledWith
+    unfolding searched searchFilled
     done-is e =
         let p = r .places .fits (neither e .0) in
         let q = r .notes .fits (neither e .1) in
-        same (p .1) (q .1) (p .0) (q .0) ∙ sym (ap (λ x. outcomeOf library x ps ns l) (refusal-is false (few-is ∙ e)))
+        same (p .1) (q .1) (p .0) (q .0) ∙ sym (ap (λ x. searchOutcomeOf library x ps ns l) (refusal-is false (few-is ∙ e)))
 
 -- lists that are cleared one by one
-pub zeroed-is : (l : Lists) {segments references symbols bytes masks placed′ noted′ : List ℕ} → segments ≡ zeros (length (l .stored .segments)) → references ≡ zeros (length (l .stored .references)) → symbols ≡ zeros (length (l .stored .symbols))
+pub zeroed-is : (l : SearchLists) {segments references symbols bytes masks placed′ noted′ : List ℕ} → segments ≡ zeros (length (l .stored .segments)) → references ≡ zeros (length (l .stored .references)) → symbols ≡ zeros (length (l .stored .symbols))
     → bytes ≡ zeros (length (l .stored .bytes)) → masks ≡ zeros (length (l .stored .masks)) → placed′ ≡ zeros (length (l .placed)) → noted′ ≡ zeros (length (l .noted))
-    → record { stored = stored segments references symbols bytes masks; placed = placed′; noted = noted′ } ≡ zeroed l
-unfolding zeroed
+    → record { stored = stored segments references symbols bytes masks; placed = placed′; noted = noted′ } ≡ searchZeroed l
+unfolding searchZeroed
 zeroed-is l a b c d e f g = rw (a, b, c, d, e, f, g) refl
 
 -- zeros depend on the lengths only
 pub zeroed-same : (t : Stored) (placed₀ noted₀ placed′ noted′ : List ℕ) → length placed′ ≡ length placed₀ → length noted′ ≡ length noted₀
-    → zeroed (record { stored = t; placed = placed′; noted = noted′ }) ≡ zeroed (record { stored = t; placed = placed₀; noted = noted₀ })
-unfolding zeroed
+    → searchZeroed (record { stored = t; placed = placed′; noted = noted′ }) ≡ searchZeroed (record { stored = t; placed = placed₀; noted = noted₀ })
+unfolding searchZeroed
 zeroed-same t placed₀ noted₀ placed′ noted′ p q = rw (p, q) refl

@@ -40,19 +40,19 @@ module _ (library cells : List ℕ) (a : Asked) (gs : List Collected) where
 
   -- rows in memory, and heads of zeros that are long enough
   module _ (m heads : List ℕ) (wide : keyBuckets + nameBuckets ≤ length heads) (clear : (i : ℕ) → getD heads i 0 ≡ 0) (at : ℕ) (name : Part) where
-    abbrev found : ℕ → ℕ → ℕ
-    found width n = followed library width m at name (getD (headedBy library width m heads n) (keyBuckets + nameBucket at (bytesOf library name)) 0)
+    abbrev base : ℕ → ℕ → ℕ
+    base width n = followed library width m at name (getD (headedBy library width m heads n) (keyBuckets + nameBucket at (bytesOf library name)) 0)
 
     pub placed-there : length (placed library cells a gs) * placedWidth ≤ length m → m ≡ padded (length m) (placedNumbers library (placed library cells a gs))
-        → isPlaced library (placed library cells a gs) at name ≡ not (eqb (found placedWidth (length (placed library cells a gs))) 0)
+        → isPlaced library (placed library cells a gs) at name ≡ not (eqb (base placedWidth (length (placed library cells a gs))) 0)
     unfolding placedNumbers
     placed-there room rows =
         let xs = placed library cells a gs in
         found-any placedSheet library placed-reads xs {t = table m (headedBy library placedWidth m heads (length xs)) (record { rows = length xs; over = false })}
-        (rows-tabled placedSheet library placed-reads (record { position = at; name = name; valid = false; segment = 0; found = 0 }) xs m heads room rows wide clear placed-single) refl at name
+        (rows-tabled placedSheet library placed-reads (record { position = at; name = name; valid = false; segment = 0; base = 0 }) xs m heads room rows wide clear placed-single) refl at name
 
     pub noted-there : length (noted library cells a gs) * notedWidth ≤ length m → m ≡ padded (length m) (notedNumbers library (noted library cells a gs))
-        → isNoted library (noted library cells a gs) at name ≡ not (eqb (found notedWidth (length (noted library cells a gs))) 0)
+        → isNoted library (noted library cells a gs) at name ≡ not (eqb (base notedWidth (length (noted library cells a gs))) 0)
     unfolding notedNumbers
     noted-there room rows =
         let xs = noted library cells a gs in

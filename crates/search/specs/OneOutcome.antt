@@ -6,9 +6,9 @@ use mathlib.Core.List.{List}
 use Rattle.lent.specs.OneOutcome.{Determines, by-equation}
 use Rattle.search_rules.specs.declared.Asked.{Asked}
 use Rattle.search.specs.declared.visit.Fills.{Fills}
-use Rattle.search.specs.Outcome.{Lists, Outcome, searched}
+use Rattle.search.specs.Outcome.{SearchLists, SearchOutcome, searched}
 
-pub search-one : (cells : List ℕ) (a : Asked) (library : List ℕ) (n : ℕ) (l : Lists) → Determines (λ (o : Outcome). o ≡ searched cells a library n l)
+pub search-one : (cells : List ℕ) (a : Asked) (library : List ℕ) (n : ℕ) (l : SearchLists) → Determines (λ (o : SearchOutcome). o ≡ searched cells a library n l)
 search-one cells a library n l = by-equation (searched cells a library n l)
 
 pub lacks-room-one : (f : Fills) → Determines (λ r. r ≡ (f .placed .over || f .noted .over))

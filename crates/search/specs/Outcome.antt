@@ -18,26 +18,26 @@ use Rattle.search.specs.declared.Searched.the-variants.{Done, Refused}
 use Rattle.search.specs.visit.Visits.{Stored, segmentsIn}
 
 -- the lent lists: those in which the segments are stored, and those of the search's rows
-pub record Lists : Type 0 where
+pub record SearchLists : Type 0 where
   pub stored : Stored
   pub placed : List ℕ
   pub noted : List ℕ
 
-pub record Outcome : Type 0 where
+pub record SearchOutcome : Type 0 where
   pub answer : Searched
-  pub left : Lists
+  pub left : SearchLists
 
 -- refusal 9: more rows than were lent
-abbrev pub tooFew : Lists → List Placing → List Noting → Bool
+abbrev pub tooFew : SearchLists → List Placing → List Noting → Bool
 tooFew l p n = tooMany placedWidth (l .placed) (length p) || tooMany notedWidth (l .noted) (length n)
 
 -- the refusals in their order, of which the first counts; what is seen is as long as the image
-unfoldable pub refusalOf : List ℕ → Lists → List Placing → List Noting → Option Refusal
+unfoldable pub refusalOf : List ℕ → SearchLists → List Placing → List Noting → Option Refusal
 refusalOf cells l p n = leading (when (ltb 65536 (length cells)) ImageTooLong ∷ when (tooFew l p n) TooFewRows ∷ [])
 
 -- lent memory set to zero; and filled with rows, the rest zero
-unfoldable pub zeroed : Lists → Lists
-zeroed l = record {
+unfoldable pub searchZeroed : SearchLists → SearchLists
+searchZeroed l = record {
   stored = record {
     segments = zeros (length (l .stored .segments));
     references = zeros (length (l .stored .references));
@@ -49,22 +49,22 @@ zeroed l = record {
   noted = zeros (length (l .noted));
 }
 
-unfoldable pub filledWith : List ℕ → List Placing → List Noting → Lists → Lists
-filledWith library p n l = record {
+unfoldable pub searchFilled : List ℕ → List Placing → List Noting → SearchLists → SearchLists
+searchFilled library p n l = record {
   stored = l .stored;
   placed = padded (length (l .placed)) (placedNumbers library p);
   noted = padded (length (l .noted)) (notedNumbers library n);
 }
 
 -- a refusal up to 8 writes nothing, 9 sets all that was lent to zero
-abbrev pub outcomeOf : List ℕ → Option Refusal → List Placing → List Noting → Lists → Outcome
-outcomeOf library none p n l = record { answer = Done (record { placed = length p; noted = length n }); left = filledWith library p n l }
-outcomeOf library (some r) p n l = record { answer = Refused r; left = if leb (refusalNumber r) 8 then l else zeroed l }
+abbrev pub searchOutcomeOf : List ℕ → Option Refusal → List Placing → List Noting → SearchLists → SearchOutcome
+searchOutcomeOf library none p n l = record { answer = Done (record { placed = length p; noted = length n }); left = searchFilled library p n l }
+searchOutcomeOf library (some r) p n l = record { answer = Refused r; left = if leb (refusalNumber r) 8 then l else searchZeroed l }
 
 -- THE SEARCH of what is seen of an image for the first n segments that are stored
-unfoldable pub searched : List ℕ → Asked → List ℕ → ℕ → Lists → Outcome
+unfoldable pub searched : List ℕ → Asked → List ℕ → ℕ → SearchLists → SearchOutcome
 searched cells a library n l =
     let gs = segmentsIn (l .stored) n in
     let p = placed library cells a gs in
     let q = noted library cells a gs in
-    outcomeOf library (refusalOf cells l p q) p q l
+    searchOutcomeOf library (refusalOf cells l p q) p q l

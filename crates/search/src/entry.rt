@@ -2,8 +2,8 @@
 ghost use mathlib.Core.Path.{_≡_};
 ghost use Rattle.image.specs.View.{view};
 ghost use Rattle.search.specs.visit.Visits.{stored};
-ghost use Rattle.search.specs.Outcome.{zeroed, searched};
-use crate::Rows;
+ghost use Rattle.search.specs.Outcome.{searchZeroed, searched};
+use crate::SearchCounts;
 use crate::Searched;
 use crate::fill::fill_rows;
 use crate::fill::lacks_room;
@@ -24,7 +24,7 @@ pub fn clear_all(
     noted: &mut [u64],
 )
     ensures { λ _. ⌜ record { stored = stored (now (segments .exit)) (now (references .exit)) (now (symbols .exit)) (now (bytes .exit)) (now (masks .exit)); placed = now (placed .exit); noted = now (noted .exit) }
-        ≡ zeroed (record { stored = stored (now (segments .entry)) (now (references .entry)) (now (symbols .entry)) (now (bytes .entry)) (now (masks .entry)); placed = now (placed .entry); noted = now (noted .entry) }) ⌝ }
+        ≡ searchZeroed (record { stored = stored (now (segments .entry)) (now (references .entry)) (now (symbols .entry)) (now (bytes .entry)) (now (masks .entry)); placed = now (placed .entry); noted = now (noted .entry) }) ⌝ }
 {
     clear(segments);
     clear(references);
@@ -77,7 +77,7 @@ pub fn search(
     }
     let placings = f.placed;
     let notings = f.noted;
-    Searched::Done(Rows {
+    Searched::Done(SearchCounts {
         placed: placings.rows,
         noted: notings.rows,
     })

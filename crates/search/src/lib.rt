@@ -12,13 +12,13 @@ pub mod visit;
 use lent::refusal::Refusal;
 
 // How many rows were written.
-pub struct Rows {
+pub struct SearchCounts {
     pub placed: usize,
     pub noted: usize,
 }
 
 // What the search comes to.
 pub enum Searched {
-    Done(Rows),
+    Done(SearchCounts),
     Refused(Refusal),
 }

@@ -1,9 +1,9 @@
 // The matches of a pattern, one after another.
 ghost use Rattle.search.specs.byte_index.Index.{Heads};
 ghost use Rattle.search.specs.matches.Cursor.{Walk, Search, Started, Stepped};
-ghost use Rattle.search.specs.declared.matches.Cursor.the-variants.{Along};
+ghost use Rattle.search.specs.declared.matches.MatchCursor.the-variants.{Along};
 use crate::byte_index::anchor::anchor;
-use image::Found;
+use image::FirstPlace;
 use image::Seat;
 use image::Stretch;
 use image::match_at;
@@ -11,7 +11,7 @@ use image::next_match;
 
 // Where a search stands: at a link of the byte at `anchor`, at a place from which on each is tried, at the one place to try, or
 // past the last.
-pub enum Cursor {
+pub enum MatchCursor {
     Along { anchor: usize, link: u32 },
     Plain(usize),
     Once(usize),
@@ -20,7 +20,7 @@ pub enum Cursor {
 
 // A match, and where the search goes on.
 pub enum Next {
-    At { at: usize, rest: Cursor },
+    At { at: usize, rest: MatchCursor },
     Done,
 }
 
@@ -38,19 +38,19 @@ fn most_places(image: usize, pattern: usize) -> usize {
 }
 
 // A search with all matches before it.
-pub fn start(image: &[u8], seat: Seat, bytes: &[u8], masks: &[u8], first: &[u32]) -> Cursor
+pub fn start(image: &[u8], seat: Seat, bytes: &[u8], masks: &[u8], first: &[u32]) -> MatchCursor
     requires { ⌜ Heads (now image) (now first) ⌝ }
     ensures { λ r. ⌜ Started (now (image .entry)) seat (now (bytes .entry)) (now (masks .entry)) r ⌝ }
 {
     match seat {
         Seat::Anywhere => match anchor(bytes, masks, first, most_places(image.len(), bytes.len())) {
-            Found::At(place) => Cursor::Along {
+            FirstPlace::At(place) => MatchCursor::Along {
                 anchor: place,
                 link: first[bytes[place] as usize],
             },
-            Found::Nothing => Cursor::Plain(0),
+            FirstPlace::Nothing => MatchCursor::Plain(0),
         },
-        Seat::Only(at) => Cursor::Once(at),
+        Seat::Only(at) => MatchCursor::Once(at),
     }
 }
 
@@ -76,7 +76,7 @@ fn step_along(
             if match_at(image, s, bytes, masks, at) {
                 return Next::At {
                     at,
-                    rest: Cursor::Along { anchor, link },
+                    rest: MatchCursor::Along { anchor, link },
                 };
             }
         }
@@ -91,29 +91,37 @@ pub fn next_place(
     bytes: &[u8],
     masks: &[u8],
     next: &[u32],
-    c: Cursor,
+    c: MatchCursor,
 ) -> Next
     requires { ⌜ Search (now image) (now bytes) (now masks) (now next) c ⌝ }
     ensures { λ r. ⌜ Stepped (now (image .entry)) s (now (bytes .entry)) (now (masks .entry)) c r ⌝ }
 {
     match c {
-        Cursor::Along { anchor, link } => step_along(image, s, bytes, masks, next, anchor, link),
-        Cursor::Plain(from) => match next_match(image, s, bytes, masks, from) {
-            Found::At(at) => Next::At {
+        MatchCursor::Along { anchor, link } => step_along(
+            image,
+            s,
+            bytes,
+            masks,
+            next,
+            anchor,
+            link,
+        ),
+        MatchCursor::Plain(from) => match next_match(image, s, bytes, masks, from) {
+            FirstPlace::At(at) => Next::At {
                 at,
-                rest: Cursor::Plain(at + 1),
+                rest: MatchCursor::Plain(at + 1),
             },
-            Found::Nothing => Next::Done,
+            FirstPlace::Nothing => Next::Done,
         },
-        Cursor::Once(at) => {
+        MatchCursor::Once(at) => {
             if match_at(image, s, bytes, masks, at) {
                 return Next::At {
                     at,
-                    rest: Cursor::Over,
+                    rest: MatchCursor::Over,
                 };
             }
             Next::Done
         }
-        Cursor::Over => Next::Done,
+        MatchCursor::Over => Next::Done,
     }
 }

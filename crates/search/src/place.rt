@@ -30,30 +30,30 @@ fn append_placed(m: &mut [u64], f: Fill, row: Placed) -> Fill
     next
 }
 
-// A symbol of a match at `found`, in an image of `end` bytes. It is omitted at or past the end, and where its name stands already.
+// A symbol of a match at `base`, in an image of `end` bytes. It is omitted at or past the end, and where its name stands already.
 pub fn place_symbol(
     library: &[u8],
     end: usize,
     number: SegmentNumber,
-    found: usize,
+    base: usize,
     valid: bool,
     y: Symbol,
     placed: &mut [u64],
     heads: &mut [u64],
     f: Fill,
 ) -> Fill
-    ensures { λ r. ⌜ PlacesOne (now (library .entry)) end number found valid y (now (placed .entry)) (now (heads .entry)) f (now (placed .exit)) (now (heads .exit)) r ⌝ }
+    ensures { λ r. ⌜ PlacesOne (now (library .entry)) end number base valid y (now (placed .entry)) (now (heads .entry)) f (now (placed .exit)) (now (heads .exit)) r ⌝ }
 {
     if f.over {
         return f;
     }
-    if end <= found {
+    if end <= base {
         return f;
     }
-    if end - found <= y.offset {
+    if end - base <= y.offset {
         return f;
     }
-    let position = found + y.offset;
+    let position = base + y.offset;
     let key = position as u64;
     let name = y.name;
     let shared = bucket(library, key, name);
@@ -70,7 +70,7 @@ pub fn place_symbol(
             name,
             valid,
             segment: number,
-            found,
+            base,
             link,
             alike,
         },
@@ -87,7 +87,7 @@ pub fn place_symbols(
     library: &[u8],
     end: usize,
     number: SegmentNumber,
-    found: usize,
+    base: usize,
     valid: bool,
     symbols: &[u64],
     part: Part,
@@ -95,7 +95,7 @@ pub fn place_symbols(
     heads: &mut [u64],
     before: Fill,
 ) -> Fill
-    ensures { λ r. ⌜ PlacesAll (now (library .entry)) end number found valid (now (symbols .entry)) part (now (placed .entry)) (now (heads .entry)) before (now (placed .exit)) (now (heads .exit)) r ⌝ }
+    ensures { λ r. ⌜ PlacesAll (now (library .entry)) end number base valid (now (symbols .entry)) part (now (placed .entry)) (now (heads .entry)) before (now (placed .exit)) (now (heads .exit)) r ⌝ }
 {
     let mut f = before;
     let at = part.at;
@@ -106,7 +106,7 @@ pub fn place_symbols(
     let mut k = 0;
     while k < len {
         let y = symbol_at(symbols, at + k);
-        f = place_symbol(library, end, number, found, valid, y, placed, heads, f);
+        f = place_symbol(library, end, number, base, valid, y, placed, heads, f);
         k += 1;
     }
     f

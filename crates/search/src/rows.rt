@@ -26,7 +26,7 @@ pub fn placed_at(m: &[u64], i: usize) -> Placed
         },
         valid: n[3] == 1,
         segment: SegmentNumber(n[4] as usize),
-        found: n[5] as usize,
+        base: n[5] as usize,
         link: n[6] as usize,
         alike: n[7] as usize,
     }
@@ -41,7 +41,7 @@ pub fn put_placed(m: &mut [u64], i: usize, row: Placed)
         row.name.len as u64,
         rows::flag(row.valid),
         row.segment.0 as u64,
-        row.found as u64,
+        row.base as u64,
         row.link as u64,
         row.alike as u64,
     ];

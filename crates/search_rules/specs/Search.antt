@@ -32,7 +32,7 @@ pub record Placing : Type 0 where
   pub name : Part
   pub valid : Bool
   pub segment : ℕ
-  pub found : ℕ
+  pub base : ℕ
 
 pub record Noting : Type 0 where
   pub target : ℕ
@@ -106,7 +106,7 @@ symbolAt a m y = record {
   name = y .name;
   valid = isValid a (m .segment);
   segment = m .number;
-  found = m .position;
+  base = m .position;
 }
 
 unfoldable pub symbolsAt : List ℕ → Asked → List Collected → Match → List Placing

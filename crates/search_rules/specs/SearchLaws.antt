@@ -26,8 +26,8 @@ use Rattle.search_rules.specs.Search.{Match, Placing, positions, matches
 
 -- an absolute segment is found at its address
 abbrev pub Seated : Seat → ℕ → Type 0
-Seated Anywhere found = Unit
-Seated (Only address) found = found ≡ address
+Seated Anywhere base = Unit
+Seated (Only address) base = base ≡ address
 
 -- a match is of one of the segments, at a place where its pattern matches
 pub record Matched (cells : List ℕ) (segments : List Collected) (m : Match) : Type 0 where

@@ -19,7 +19,7 @@ notedWidth = 6
 -- a placed symbol: position, place and length of its name, validity, its match's segment and position, its links
 abbrev pub placedCells : Placed → List ℕ
 placedCells r =
-    r .position ∷ r .name .at ∷ r .name .len ∷ flag (r .valid) ∷ r .segment .0 ∷ r .found ∷ r .link ∷ r .alike ∷ []
+    r .position ∷ r .name .at ∷ r .name .len ∷ flag (r .valid) ∷ r .segment .0 ∷ r .base ∷ r .link ∷ r .alike ∷ []
 
 -- a noted name: target, place and length of the name, validity, its links
 abbrev pub notedCells : Noted → List ℕ
@@ -35,7 +35,7 @@ placedLayout = record {
     name = record { at = n 1; len = n 2 };
     valid = eqb (n 3) 1;
     segment = record { 0 = n 4 };
-    found = n 5;
+    base = n 5;
     link = n 6;
     alike = n 7;
   };
@@ -59,7 +59,7 @@ placedSheet = record {
     name = p .name;
     valid = p .valid;
     segment = record { 0 = p .segment };
-    found = p .found;
+    base = p .base;
     link = link;
     alike = alike;
   };

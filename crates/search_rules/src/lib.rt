@@ -10,7 +10,7 @@ pub struct Asked {
     pub minimum: usize,
 }
 
-// A symbol placed at a position, by the match of a segment at `found`. Its links are each one more than the number of an
+// A symbol placed at a position, by the match of a segment at `base`. Its links are each one more than the number of an
 // earlier row, or 0: `link` leads to the newest of the same position, `alike` to the newest whose position and name share a
 // bucket with these.
 pub struct Placed {
@@ -18,7 +18,7 @@ pub struct Placed {
     pub name: Part,
     pub valid: bool,
     pub segment: SegmentNumber,
-    pub found: usize,
+    pub base: usize,
     pub link: usize,
     pub alike: usize,
 }

@@ -11,7 +11,7 @@ use Rattle.lent.specs.Parts.{bytesOf}
 use Rattle.image.specs.declared.Seat.{Seat}
 use Rattle.image.specs.declared.Seat.the-variants.{Anywhere, Only}
 use Rattle.image.specs.declared.fixup.Rules.{Rules}
-use Rattle.image.specs.declared.fixup.Rules.the-variants.{Found, Documented}
+use Rattle.image.specs.declared.fixup.Rules.the-variants.{AsFound, Documented}
 use Rattle.image.specs.declared.fixup.Kind.{Kind}
 use Rattle.image.specs.fixup.Target.{kindOf}
 use Rattle.omf51.specs.declared.ModuleId.{ModuleId}
@@ -100,7 +100,7 @@ abbrev pub insideOf : Content → ℕ → Bool
 insideOf c offset = leb (c .offset) offset && ltb offset (c .offset + c .part .len)
 
 abbrev pub symbolBase : Rules → Content → ℕ
-symbolBase Found c = 0
+symbolBase AsFound c = 0
 symbolBase Documented c = c .offset
 
 unfoldable pub absoluteSegment : Rules → List ℕ → Module → ℕ → Section → Collected

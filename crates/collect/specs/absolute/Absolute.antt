@@ -13,9 +13,9 @@ use Rattle.module_index.specs.Indexed.{Meets}
 use Rattle.segment_parts.specs.symbols_by_offset.Offsets.{zeroPublics}
 use Rattle.segment_parts.specs.symbols_by_offset.Flags.{Clear}
 use Rattle.segment_parts.specs.symbols_by_offset.Inside.{Offered}
-use Rattle.collect.specs.declared.stored.Counts.{Counts}
+use Rattle.collect.specs.declared.stored.CollectCounts.{CollectCounts}
 use Rattle.collect.specs.declared.stored.Stored.{Stored}
-use Rattle.collect.specs.stored.Stores.{Lists, Extends, SameLengths}
+use Rattle.collect.specs.stored.Stores.{CollectLists, Extends, SameLengths}
 use Rattle.collect.specs.stored.Segments.{ownBy}
 
 abbrev pub absoluteSegments : Rules → List ℕ → Module → ℕ → List Collected
@@ -27,7 +27,7 @@ pub record ByOffset (library : List ℕ) (m : Module) (table first next places k
   pub sections : Meets (SectionIs library places) sectionKey (m .sections) first next
   pub publics : Offered library keys n entries heads onward flags (zeroPublics (m .definitions))
 
-pub record StoresAbsolutes (library : List ℕ) (own : Bool) (number : ℕ) (table first next places keys : List ℕ) (n : ℕ) (entries heads onward : List ℕ) (c : Counts) (l : Lists) (apart flags : List ℕ) (after : Lists) (apart′ flags′ : List ℕ) (w : Stored) : Type 0 where
+pub record StoresAbsolutes (library : List ℕ) (own : Bool) (number : ℕ) (table first next places keys : List ℕ) (n : ℕ) (entries heads onward : List ℕ) (c : CollectCounts) (l : CollectLists) (apart flags : List ℕ) (after : CollectLists) (apart′ flags′ : List ℕ) (w : Stored) : Type 0 where
   pub long : SameLengths l after
   pub apart-long : length apart′ ≡ length apart
   pub flags-long : length flags′ ≡ length flags

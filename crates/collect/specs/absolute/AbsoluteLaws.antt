@@ -9,16 +9,16 @@ use Rattle.omf51.specs.Module.{Section, Module}
 use Rattle.segments.specs.Collect.{Collected, sectionsOf, absoluteId, absoluteSegment}
 use Rattle.tables.specs.links.Follow.{Follows}
 use Rattle.tables.specs.links.FollowLaws.{Met, follows-end, follows-step}
-use Rattle.collect.specs.declared.stored.Counts.{Counts}
+use Rattle.collect.specs.declared.stored.CollectCounts.{CollectCounts}
 use Rattle.collect.specs.declared.stored.Stored.{Stored}
 use Rattle.collect.specs.declared.stored.Stored.the-variants.{Rows, NoRoom}
-use Rattle.collect.specs.stored.Stores.{Lists, Room, Stores, Extends}
+use Rattle.collect.specs.stored.Stores.{CollectLists, Room, Stores, Extends}
 use Rattle.collect.specs.stored.Progress.{Progress}
 use Rattle.collect.specs.stored.ProgressLaws.{progress-starts, progress-on, progress-lacks, progress-ends}
 use Rattle.collect.specs.absolute.Absolute.{absoluteSegments}
 
 -- the contents that are still to be met, and those that are stored
-pub record Storing (is : ℕ → Section → Type 0) (next : List ℕ) (rules : Rules) (library : List ℕ) (m : Module) (number : ℕ) (gs : List Collected) (last here : ℕ) (l : Lists) (c : Counts) : Type 0 where
+pub record Storing (is : ℕ → Section → Type 0) (next : List ℕ) (rules : Rules) (library : List ℕ) (m : Module) (number : ℕ) (gs : List Collected) (last here : ℕ) (l : CollectLists) (c : CollectCounts) : Type 0 where
   pub left : List Section
   pub follows : Follows is next last here left
   pub progress : Progress gs (absoluteSegments rules library m number) (map (absoluteSegment rules library m number) left) l c
@@ -27,10 +27,10 @@ module _ (is : ℕ → Section → Type 0) (next : List ℕ) (rules : Rules) (li
   abbrev all : List Collected
   all = absoluteSegments rules library m number
 
-  pub absolutes-start : {here : ℕ} {l : Lists} {c : Counts} → Follows is next 0 here (sectionsOf m absoluteId) → Stores gs l c → Storing is next rules library m number gs 0 here l c
+  pub absolutes-start : {here : ℕ} {l : CollectLists} {c : CollectCounts} → Follows is next 0 here (sectionsOf m absoluteId) → Stores gs l c → Storing is next rules library m number gs 0 here l c
   absolutes-start f s = record { left = sectionsOf m absoluteId; follows = f; progress = progress-starts gs all s }
 
-  module _ (last here : ℕ) (l after : Lists) (c : Counts) (w : Stored) (h : last < here) (p : Storing is next rules library m number gs last here l c)
+  module _ (last here : ℕ) (l after : CollectLists) (c : CollectCounts) (w : Stored) (h : last < here) (p : Storing is next rules library m number gs last here l c)
       (x : (s : Section) → is (here - 1) s → Extends (one (absoluteSegment rules library m number s)) l c after w) where
     met : Met is next here (p .left)
     met = follows-step is next last here (p .left) h (p .follows)
@@ -41,7 +41,7 @@ module _ (is : ℕ → Section → Type 0) (next : List ℕ) (rules : Rules) (li
     split : Progress gs all (one (absoluteSegment rules library m number (met .head)) ++ rest) l c
     split = subst (λ ss. Progress gs all (map (absoluteSegment rules library m number) ss) l c) (met .whole) (p .progress)
 
-    pub absolutes-on : {more : Counts} → w ≡ Rows more → Storing is next rules library m number gs here (getD next (here - 1) 0) after more
+    pub absolutes-on : {more : CollectCounts} → w ≡ Rows more → Storing is next rules library m number gs here (getD next (here - 1) 0) after more
     absolutes-on q = record {
       left = met .rest;
       follows = met .goes-on;
@@ -51,5 +51,5 @@ module _ (is : ℕ → Section → Type 0) (next : List ℕ) (rules : Rules) (li
     pub absolutes-lack : w ≡ NoRoom → Room (gs ++ all) after → ⊥
     absolutes-lack q = progress-lacks gs all (one (absoluteSegment rules library m number (met .head))) rest after w split (x (met .head) (met .stands)) q
 
-  pub absolutes-end : (last here : ℕ) {l : Lists} {c : Counts} → here ≤ last → Storing is next rules library m number gs last here l c → Stores (gs ++ all) l c
+  pub absolutes-end : (last here : ℕ) {l : CollectLists} {c : CollectCounts} → here ≤ last → Storing is next rules library m number gs last here l c → Stores (gs ++ all) l c
   absolutes-end last here h p = progress-ends gs all (ap (map (absoluteSegment rules library m number)) (follows-end is next last here (p .left) h (p .follows))) (p .progress)

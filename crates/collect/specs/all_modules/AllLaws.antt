@@ -13,11 +13,11 @@ use Rattle.omf51.specs.Module.{Module}
 use Rattle.segments.specs.Collect.{Collected, moduleSegments, collect}
 use Rattle.segments.specs.SegmentRows.{segmentRowsFrom, patternBytes, patternMasks}
 use Rattle.segments.specs.SegmentLayouts.{segmentLayout, referenceLayout, symbolLayout}
-use Rattle.collect.specs.declared.stored.Counts.{Counts}
+use Rattle.collect.specs.declared.stored.CollectCounts.{CollectCounts}
 use Rattle.collect.specs.declared.stored.Stored.{Stored}
 use Rattle.collect.specs.declared.stored.Stored.the-variants.{Rows, NoRoom}
 use Rattle.collect.specs.stored.Rows.{filledTo}
-use Rattle.collect.specs.stored.Stores.{Lists, Room, Stores, After, Extends}
+use Rattle.collect.specs.stored.Stores.{CollectLists, Room, Stores, After, Extends}
 use Rattle.collect.specs.stored.StoreLaws.{stored-count}
 use Rattle.collect.specs.stored.ProgressLaws.{room-front}
 use Rattle.collect.specs.all_modules.All.{nothing}
@@ -41,7 +41,7 @@ module _ (rules : Rules) (library : List ℕ) where
   collect-end gs e = rw e refl
 
   -- room for all is room for those before
-  pub room-before : (gs : List Collected) (modules : List Module) (l : Lists) → Room (collectOn rules library gs modules) l → Room gs l
+  pub room-before : (gs : List Collected) (modules : List Module) (l : CollectLists) → Room (collectOn rules library gs modules) l → Room gs l
   unfolding fold
   room-before gs [] l r = r
   room-before gs (m ∷ modules) l r = room-front gs (moduleSegments rules library (length gs) m) l (room-before (gs ++ moduleSegments rules library (length gs) m) modules l r)
@@ -51,7 +51,7 @@ none-held : {R : Type 0} (l : Layout R) (m : List ℕ) → m ≡ zeros (length m
 unfolding joined
 none-held l m z = record { number = refl; room = omega arith; memory = z ∙ padded-nil (length m) }
 
-pub stores-none : (l : Lists) → l .segments ≡ zeros (length (l .segments)) → l .references ≡ zeros (length (l .references)) → l .symbols ≡ zeros (length (l .symbols)) → l .bytes ≡ zeros (length (l .bytes)) → l .masks ≡ zeros (length (l .masks))
+pub stores-none : (l : CollectLists) → l .segments ≡ zeros (length (l .segments)) → l .references ≡ zeros (length (l .references)) → l .symbols ≡ zeros (length (l .symbols)) → l .bytes ≡ zeros (length (l .bytes)) → l .masks ≡ zeros (length (l .masks))
     → Stores [] l nothing
 unfolding segmentRowsFrom patternBytes patternMasks joined
 stores-none l s r y b k = record {
@@ -65,23 +65,23 @@ stores-none l s r y b k = record {
 }
 
 -- so few segments that their numbers fit
-pub stored-few : {gs : List Collected} {l : Lists} {c : Counts} → Stores gs l c → c .segments * 8 ≤ length (l .segments)
+pub stored-few : {gs : List Collected} {l : CollectLists} {c : CollectCounts} → Stores gs l c → c .segments * 8 ≤ length (l .segments)
 stored-few {gs} s = rw (s .segments .number) (s .segments .room)
 
 -- on the way: what is stored, and what the modules that are left make of it
-pub record Collecting (rules : Rules) (library : List ℕ) (all left : List Module) (l : Lists) (c : Counts) : Type 0 where
+pub record Collecting (rules : Rules) (library : List ℕ) (all left : List Module) (l : CollectLists) (c : CollectCounts) : Type 0 where
   pub segments : List Collected
   pub stored : Stores segments l c
   pub same : collectOn rules library segments left ≡ collect rules library all
 
 module _ (rules : Rules) (library : List ℕ) where
-  pub collecting-starts : (all : List Module) {l : Lists} {c : Counts} → Stores [] l c → Collecting rules library all all l c
+  pub collecting-starts : (all : List Module) {l : CollectLists} {c : CollectCounts} → Stores [] l c → Collecting rules library all all l c
   collecting-starts all s = record { segments = []; stored = s; same = collect-all rules library all }
 
-  pub collecting-ends : {all left : List Module} {l : Lists} {c : Counts} → left ≡ [] → Collecting rules library all left l c → Stores (collect rules library all) l c
+  pub collecting-ends : {all left : List Module} {l : CollectLists} {c : CollectCounts} → left ≡ [] → Collecting rules library all left l c → Stores (collect rules library all) l c
   collecting-ends {all} {left} {l} {c} e p = subst (λ gs. Stores gs l c) (sym (collect-end rules library (p .segments) e) ∙ p .same) (p .stored)
 
-  module _ (all : List Module) (l after : Lists) (c : Counts) (w : Stored) (m : Module) {left rest : List Module} (e : left ≡ m ∷ rest) (p : Collecting rules library all left l c)
+  module _ (all : List Module) (l after : CollectLists) (c : CollectCounts) (w : Stored) (m : Module) {left rest : List Module} (e : left ≡ m ∷ rest) (p : Collecting rules library all left l c)
       (x : Extends (moduleSegments rules library (c .segments) m) l c after w) where
     abbrev more-segments : List Collected
     more-segments = p .segments ++ moduleSegments rules library (length (p .segments)) m
@@ -92,7 +92,7 @@ module _ (rules : Rules) (library : List ℕ) where
     turned : collectOn rules library more-segments rest ≡ collect rules library all
     turned = sym (collect-turn rules library (p .segments) e) ∙ p .same
 
-    pub collecting-on : {more : Counts} → w ≡ Rows more → Collecting rules library all rest after more
+    pub collecting-on : {more : CollectCounts} → w ≡ Rows more → Collecting rules library all rest after more
     collecting-on q = record { segments = more-segments; stored = rw q at extended; same = turned }
 
     pub collecting-lacks : w ≡ NoRoom → Room (collect rules library all) after → ⊥

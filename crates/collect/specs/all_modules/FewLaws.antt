@@ -11,7 +11,7 @@ use Rattle.lent.specs.Lists.{keep, placeOf, first}
 use Rattle.omf51.specs.declared.ModuleId.{ModuleId}
 use Rattle.omf51.specs.declared.Definition.{Definition}
 use Rattle.omf51.specs.Module.{definitionsAt}
-use Rattle.library.specs.Found.{found}
+use Rattle.library.specs.Gathered.{itemsAt}
 use Rattle.library.specs.declared.items.Cursor.{Cursor}
 use Rattle.library.specs.declared.items.NextDefinition.{NextDefinition}
 use Rattle.library.specs.declared.items.NextDefinition.the-variants.{Item, Done}
@@ -40,7 +40,7 @@ left-few library (suc n) c o h e = go (nextDefinition library c) refl (left-few 
         let l : length (definitionsLeft library c) ≡ 0 = ap length (next-definition-yields library c ∙ ap (definitionsAfter library) q) in
         absurd (omega (arith, l, e))
 
-definitions-few : (library : List ℕ) (at : ℕ) → length (found library (definitionsAt library) at) ≤ length library
+definitions-few : (library : List ℕ) (at : ℕ) → length (itemsAt library (definitionsAt library) at) ≤ length library
 definitions-few library at =
     omega (arith, ap length (definitions-start library at), left-few library (length (definitionsLeft library (startAt at))) (startAt at) (record { before = omega arith; body-before = omega arith }) (omega arith) refl)
 
@@ -72,8 +72,8 @@ unfolding idRow
 kept-few ds id =
     omega (arith, place-in (placeOf (segmentOf id) (keep isKept ds)) (first (segmentOf id) (keep isKept ds)), place-few (segmentOf id) (keep isKept ds), keep-few isKept ds)
 
-pub numbers-fit : (library : List ℕ) (at number : ℕ) {table : List ℕ} → Tells (found library (definitionsAt library) at) table → number + length library < 2 ^ 64 → Placeable table number 0
+pub numbers-fit : (library : List ℕ) (at number : ℕ) {table : List ℕ} → Tells (itemsAt library (definitionsAt library) at) table → number + length library < 2 ^ 64 → Placeable table number 0
 numbers-fit library at number {table} t h = record {
-  numbers = λ id small. omega (arith, ap (λ r. placeIn (r .kept)) (t .rows id small), kept-few (found library (definitionsAt library) at) id, definitions-few library at);
+  numbers = λ id small. omega (arith, ap (λ r. placeIn (r .kept)) (t .rows id small), kept-few (itemsAt library (definitionsAt library) at) id, definitions-few library at);
   places = omega arith;
 }

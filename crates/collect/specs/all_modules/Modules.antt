@@ -10,9 +10,9 @@ use Rattle.library.specs.WholeLaws.{moduleOf}
 use Rattle.segments.specs.Collect.{moduleSegments}
 use Rattle.module_ids.specs.Noted.{Tells}
 use Rattle.module_index.specs.Indexed.{Blank}
-use Rattle.collect.specs.declared.stored.Counts.{Counts}
+use Rattle.collect.specs.declared.stored.CollectCounts.{CollectCounts}
 use Rattle.collect.specs.declared.stored.Stored.{Stored}
-use Rattle.collect.specs.stored.Stores.{Lists, Extends, SameLengths}
+use Rattle.collect.specs.stored.Stores.{CollectLists, Extends, SameLengths}
 use Rattle.collect.specs.stored.Segments.{ownBy}
 
 -- tables with nothing in them, so few segments that their numbers fit, and so few public definitions that 820 flags do for the blocks of 256
@@ -24,7 +24,7 @@ pub record Workable (library : List ℕ) (number : ℕ) (table ids places first 
   pub few-keys : length keys ≤ 209920
   pub few : number + length library < 2 ^ 64
 
-pub record StoresModule (library : List ℕ) (own : Bool) (at : Places) (c : Counts) (table ids places first next keys entries heads onward : List ℕ) (l : Lists) (apart : List ℕ) (after : Lists) (apart′ : List ℕ) (w : Stored) : Type 0 where
+pub record StoresModule (library : List ℕ) (own : Bool) (at : Places) (c : CollectCounts) (table ids places first next keys entries heads onward : List ℕ) (l : CollectLists) (apart : List ℕ) (after : CollectLists) (apart′ : List ℕ) (w : Stored) : Type 0 where
   pub tells : Tells [] table
   pub contents : Blank 7 library ids places first next
   pub publics : Blank 5 library keys entries heads onward

@@ -22,10 +22,10 @@ use Rattle.module_index.specs.gather.Places.{SectionIs}
 use Rattle.module_ids.specs.declared.IdRow.{IdRow}
 use Rattle.module_ids.specs.IdRows.{keptAs, idRow, idRowAt}
 use Rattle.module_index.specs.Indexed.{Indexed}
-use Rattle.collect.specs.declared.stored.Counts.{Counts}
+use Rattle.collect.specs.declared.stored.CollectCounts.{CollectCounts}
 use Rattle.collect.specs.declared.stored.Stored.{Stored}
 use Rattle.collect.specs.declared.stored.Stored.the-variants.{Rows, NoRoom}
-use Rattle.collect.specs.stored.Stores.{Lists, Room, Extends}
+use Rattle.collect.specs.stored.Stores.{CollectLists, Room, Extends}
 use Rattle.collect.specs.stored.Progress.{Progress}
 use Rattle.collect.specs.stored.ProgressLaws.{progress-count, progress-begun, progress-on, progress-lacks}
 use Rattle.collect.specs.stored.Segments.{sectionsFor}
@@ -86,7 +86,7 @@ module _ (library : List ℕ) (m : Module) (number : ℕ) where
   kept-many = map-length (keptSegment library m number) (numbered 0 (kept m)) ∙ numbered-length 0 (kept m)
 
 -- one kept segment more is stored, or there is no room for all of them
-module _ (library : List ℕ) (m : Module) (number : ℕ) (gs : List Collected) (l after : Lists) (c : Counts) (w : Stored) {d : Definition} {left rest : List Definition} (e : left ≡ d ∷ rest) (k : isKept d ≡ true) (n : number ≡ length gs)
+module _ (library : List ℕ) (m : Module) (number : ℕ) (gs : List Collected) (l after : CollectLists) (c : CollectCounts) (w : Stored) {d : Definition} {left rest : List Definition} (e : left ≡ d ∷ rest) (k : isKept d ≡ true) (n : number ≡ length gs)
     (p : Progress gs (keptSegments library m number) (keptRest library m number (c .segments - number) left) l c)
     (x : c .segments - number < length (kept m) → Extends (one (keptSegment library m number (c .segments - number, d))) l c after w) where
   abbrev place : ℕ
@@ -106,7 +106,7 @@ module _ (library : List ℕ) (m : Module) (number : ℕ) (gs : List Collected) 
   extended : Extends (one (keptSegment library m number (place, d))) l c after w
   extended = x (omega (arith, counted, n, progress-begun gs all p))
 
-  pub keeps-on : {more : Counts} → w ≡ Rows more → Progress gs all (keptRest library m number (more .segments - number) rest) after more
+  pub keeps-on : {more : CollectCounts} → w ≡ Rows more → Progress gs all (keptRest library m number (more .segments - number) rest) after more
   keeps-on {more} q =
       let r = progress-on gs all (one (keptSegment library m number (place, d))) (keptRest library m number (place + 1) rest) after w here extended q in
       let s : place + 1 ≡ more .segments - number = omega (arith, counted, n, progress-begun gs all p, progress-count gs all (keptRest library m number (place + 1) rest) r, kept-many library m number) in

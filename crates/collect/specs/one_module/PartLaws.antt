@@ -13,10 +13,10 @@ use Rattle.omf51.specs.Module.{Module, Section}
 use Rattle.segments.specs.Collect.{Collected, moduleSegments, sectionsOf, absoluteId, absoluteSegment}
 use Rattle.segment_parts.specs.symbols_by_offset.Offsets.{OffsetsIndexed}
 use Rattle.segment_parts.specs.symbols_by_offset.Inside.{Offered}
-use Rattle.collect.specs.declared.stored.Counts.{Counts}
+use Rattle.collect.specs.declared.stored.CollectCounts.{CollectCounts}
 use Rattle.collect.specs.declared.stored.Stored.{Stored}
 use Rattle.collect.specs.declared.stored.Stored.the-variants.{Rows, NoRoom}
-use Rattle.collect.specs.stored.Stores.{Lists, Room, After, Extends, Stores}
+use Rattle.collect.specs.stored.Stores.{CollectLists, Room, After, Extends, Stores}
 use Rattle.collect.specs.stored.ProgressLaws.{room-front}
 use Rattle.collect.specs.kept.Kept.{keptSegments}
 use Rattle.collect.specs.absolute.Absolute.{absoluteSegments}
@@ -27,7 +27,7 @@ module _ (rules : Rules) (library : List ℕ) (m : Module) (number : ℕ) where
   two-parts = refl
 
   -- the second part behind the first
-  pub both-stored : (l middle after : Lists) (c : Counts) {more : Counts} (v w : Stored) → Extends (keptSegments library m number) l c middle v → v ≡ Rows more
+  pub both-stored : (l middle after : CollectLists) (c : CollectCounts) {more : CollectCounts} (v w : Stored) → Extends (keptSegments library m number) l c middle v → v ≡ Rows more
       → Extends (absoluteSegments rules library m number) middle more after w → Extends (moduleSegments rules library number m) l c after w
   both-stored l middle after c {more} v w a e b gs s =
       subst (λ xs. After xs after w) (append-assoc gs (keptSegments library m number) (absoluteSegments rules library m number) ∙ sym (rest gs))
@@ -37,7 +37,7 @@ module _ (rules : Rules) (library : List ℕ) (m : Module) (number : ℕ) where
       rest gs = rw two-parts refl
 
   -- no room for the first part is no room for both; then nothing more is stored
-  pub first-lacks : (l middle : Lists) (c : Counts) (v : Stored) → Extends (keptSegments library m number) l c middle v → v ≡ NoRoom → Extends (moduleSegments rules library number m) l c middle NoRoom
+  pub first-lacks : (l middle : CollectLists) (c : CollectCounts) (v : Stored) → Extends (keptSegments library m number) l c middle v → v ≡ NoRoom → Extends (moduleSegments rules library number m) l c middle NoRoom
   first-lacks l middle c v a e gs s room =
       (rw e at (a gs s)) (room-front (gs ++ keptSegments library m number) (absoluteSegments rules library m number) middle
       (subst (λ xs. Room xs middle) (rw two-parts refl ∙ sym (append-assoc gs (keptSegments library m number) (absoluteSegments rules library m number))) room))
@@ -55,7 +55,7 @@ indexed-offered {library} keys₀ flags {keys = keys} {places = places} {first =
 
 -- a module without absolute contents has nothing in its second part
 pub none-absolute : (rules : Rules) (library : List ℕ) (m : Module) (number : ℕ) (is : ℕ → Section → Type 0) (first next : List ℕ) → getD first 0 0 ≡ 0 → Meets is sectionKey (m .sections) first next
-    → (l : Lists) (c : Counts) → Extends (absoluteSegments rules library m number) l c l (Rows c)
+    → (l : CollectLists) (c : CollectCounts) → Extends (absoluteSegments rules library m number) l c l (Rows c)
 none-absolute rules library m number is first next e s l c gs stores =
     let none = follows-end is next 0 (getD first 0 0) (sectionsOf m absoluteId) (omega (arith, e)) (s 0 (omega arith)) in
     subst (λ xs. Stores xs l c) (sym (append-nil gs) ∙ ap (λ ss. gs ++ map (absoluteSegment rules library m number) ss) (sym none)) stores

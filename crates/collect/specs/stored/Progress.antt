@@ -2,10 +2,10 @@
 use mathlib.Core.Path.{_≡_}
 use mathlib.Core.List.{List, _++_}
 use Rattle.segments.specs.Collect.{Collected}
-use Rattle.collect.specs.declared.stored.Counts.{Counts}
-use Rattle.collect.specs.stored.Stores.{Lists, Stores}
+use Rattle.collect.specs.declared.stored.CollectCounts.{CollectCounts}
+use Rattle.collect.specs.stored.Stores.{CollectLists, Stores}
 
-pub record Progress (before all rest : List Collected) (l : Lists) (c : Counts) : Type 0 where
+pub record Progress (before all rest : List Collected) (l : CollectLists) (c : CollectCounts) : Type 0 where
   pub done : List Collected
   pub whole : done ++ rest ≡ all
   pub stored : Stores (before ++ done) l c

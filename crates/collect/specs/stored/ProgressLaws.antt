@@ -8,10 +8,10 @@ use Rattle.lent.specs.Lists.{joined}
 use Rattle.lent.specs.ListLaws.{joined-append}
 use Rattle.segments.specs.Collect.{Collected}
 use Rattle.segments.specs.SegmentRows.{patternBytes, patternMasks}
-use Rattle.collect.specs.declared.stored.Counts.{Counts}
+use Rattle.collect.specs.declared.stored.CollectCounts.{CollectCounts}
 use Rattle.collect.specs.declared.stored.Stored.{Stored}
 use Rattle.collect.specs.declared.stored.Stored.the-variants.{Rows, NoRoom}
-use Rattle.collect.specs.stored.Stores.{Lists, Room, Stores, Extends, SameLengths}
+use Rattle.collect.specs.stored.Stores.{CollectLists, Room, Stores, Extends, SameLengths}
 use Rattle.collect.specs.stored.StoreLaws.{stored-count}
 use Rattle.collect.specs.stored.Progress.{Progress}
 
@@ -19,7 +19,7 @@ use Rattle.collect.specs.stored.Progress.{Progress}
 joined-both : {B : Type 0} (f : Collected → List B) (xs ys : List Collected) → length (joined f (xs ++ ys)) ≡ length (joined f xs) + length (joined f ys)
 joined-both f xs ys = ap length (joined-append f xs ys) ∙ length-append (joined f xs) (joined f ys)
 
-pub room-front : (xs ys : List Collected) (l : Lists) → Room (xs ++ ys) l → Room xs l
+pub room-front : (xs ys : List Collected) (l : CollectLists) → Room (xs ++ ys) l → Room xs l
 unfolding patternBytes patternMasks
 room-front xs ys l r = record {
   segments = omega (arith, r .segments, length-append xs ys);
@@ -30,20 +30,20 @@ room-front xs ys l r = record {
 }
 
 module _ (before all : List Collected) where
-  pub progress-starts : {l : Lists} {c : Counts} → Stores before l c → Progress before all all l c
+  pub progress-starts : {l : CollectLists} {c : CollectCounts} → Stores before l c → Progress before all all l c
   progress-starts {l} {c} s = record { done = []; whole = refl; stored = subst (λ gs. Stores gs l c) (sym (append-nil before)) s }
 
-  pub progress-count : (rest : List Collected) {l : Lists} {c : Counts} → Progress before all rest l c → c .segments + length rest ≡ length before + length all
+  pub progress-count : (rest : List Collected) {l : CollectLists} {c : CollectCounts} → Progress before all rest l c → c .segments + length rest ≡ length before + length all
   progress-count rest p = omega (arith, stored-count (p .stored), length-append before (p .done), ap length (p .whole), length-append (p .done) rest)
 
-  pub progress-begun : {rest : List Collected} {l : Lists} {c : Counts} → Progress before all rest l c → length before ≤ c .segments
+  pub progress-begun : {rest : List Collected} {l : CollectLists} {c : CollectCounts} → Progress before all rest l c → length before ≤ c .segments
   progress-begun p = omega (arith, stored-count (p .stored), length-append before (p .done))
 
-  module _ (new rest : List Collected) {l : Lists} {c : Counts} (after : Lists) (w : Stored) (p : Progress before all (new ++ rest) l c) (x : Extends new l c after w) where
+  module _ (new rest : List Collected) {l : CollectLists} {c : CollectCounts} (after : CollectLists) (w : Stored) (p : Progress before all (new ++ rest) l c) (x : Extends new l c after w) where
     together : (p .done ++ new) ++ rest ≡ all
     together = append-assoc (p .done) new rest ∙ p .whole
 
-    pub progress-on : {more : Counts} → w ≡ Rows more → Progress before all rest after more
+    pub progress-on : {more : CollectCounts} → w ≡ Rows more → Progress before all rest after more
     progress-on {more} e = record { done = p .done ++ new; whole = together; stored = subst (λ gs. Stores gs after more) (append-assoc before (p .done) new) (rw e at (x (before ++ p .done) (p .stored))) }
 
     pub progress-lacks : w ≡ NoRoom → Room (before ++ all) after → ⊥
@@ -51,14 +51,14 @@ module _ (before all : List Collected) where
         (rw e at (x (before ++ p .done) (p .stored)))
         (room-front ((before ++ p .done) ++ new) rest after (subst (λ gs. Room gs after) (ap (λ gs. before ++ gs) (sym together) ∙ sym (append-assoc before (p .done ++ new) rest) ∙ ap (λ gs. gs ++ rest) (sym (append-assoc before (p .done) new))) room))
 
-  pub progress-ends : {rest : List Collected} {l : Lists} {c : Counts} → rest ≡ [] → Progress before all rest l c → Stores (before ++ all) l c
+  pub progress-ends : {rest : List Collected} {l : CollectLists} {c : CollectCounts} → rest ≡ [] → Progress before all rest l c → Stores (before ++ all) l c
   progress-ends {rest} {l} {c} e p = subst (λ gs. Stores (before ++ gs) l c) (sym (append-nil (p .done)) ∙ ap (λ gs. p .done ++ gs) (sym e) ∙ p .whole) (p .stored)
 
 -- lengths that stay
-pub same-lengths : (l : Lists) → SameLengths l l
+pub same-lengths : (l : CollectLists) → SameLengths l l
 same-lengths l = record { segments = refl; references = refl; symbols = refl; bytes = refl; masks = refl }
 
-pub lengths-on : {a b c : Lists} → SameLengths a b → SameLengths b c → SameLengths a c
+pub lengths-on : {a b c : CollectLists} → SameLengths a b → SameLengths b c → SameLengths a c
 lengths-on p q = record {
   segments = q .segments ∙ p .segments;
   references = q .references ∙ p .references;

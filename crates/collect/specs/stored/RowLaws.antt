@@ -14,7 +14,7 @@ use Rattle.tables.specs.fill.Filling.{oneMore, putMore}
 use Rattle.tables.specs.fill.FillingLaws.{put-more-length}
 use Rattle.image.specs.declared.Seat.{Seat}
 use Rattle.segments.specs.SegmentLayouts.{segmentLayout}
-use Rattle.collect.specs.declared.stored.Counts.{Counts}
+use Rattle.collect.specs.declared.stored.CollectCounts.{CollectCounts}
 use Rattle.collect.specs.declared.stored.Stored.the-variants.{Rows, NoRoom}
 use Rattle.collect.specs.stored.Rows.{filledTo, since, rowOf, storedTo, finished, finishedIn}
 
@@ -29,7 +29,7 @@ fits-test used more len h = go (leb more (len - used)) refl
 pub since-back : (start end : ℕ) → end < start → _≡_ {A = Part} (record { at = start; len = 0 }) (since start end)
 since-back start end h = let e : 0 ≡ end - start = omega arith in ap (λ n. record { at = start; len = n }) e
 
-module _ (seat : Seat) (c : Counts) (end : ℕ) (references symbols : Fill) (m : List ℕ) where
+module _ (seat : Seat) (c : CollectCounts) (end : ℕ) (references symbols : Fill) (m : List ℕ) where
   pub without-references : references .over ≡ true → (NoRoom ≡ finished c end references symbols (length m)) × (m ≡ finishedIn seat c end references symbols m)
   unfolding finished finishedIn
   without-references e = rw e (refl, refl)
@@ -55,7 +55,7 @@ module _ (end : ℕ) (references symbols segments : Fill) where
   row-fits e = rw e refl
 
 -- memory keeps its length
-pub finished-length : (seat : Seat) (c : Counts) (end : ℕ) (references symbols : Fill) (m : List ℕ) → length (finishedIn seat c end references symbols m) ≡ length m
+pub finished-length : (seat : Seat) (c : CollectCounts) (end : ℕ) (references symbols : Fill) (m : List ℕ) → length (finishedIn seat c end references symbols m) ≡ length m
 unfolding finishedIn
 finished-length seat c end references symbols m =
     chosen P (references .over) (λ e. refl) λ e.

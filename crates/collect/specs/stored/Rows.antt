@@ -9,7 +9,7 @@ use Rattle.tables.specs.fill.Filling.{oneMore, putMore}
 use Rattle.image.specs.declared.Seat.{Seat}
 use Rattle.segments.specs.declared.SegmentRow.{SegmentRow}
 use Rattle.segments.specs.SegmentLayouts.{segmentLayout}
-use Rattle.collect.specs.declared.stored.Counts.{Counts}
+use Rattle.collect.specs.declared.stored.CollectCounts.{CollectCounts}
 use Rattle.collect.specs.declared.stored.Stored.{Stored}
 use Rattle.collect.specs.declared.stored.Stored.the-variants.{Rows, NoRoom}
 
@@ -20,7 +20,7 @@ filledTo n = record { rows = n; over = false }
 abbrev pub since : ℕ → ℕ → Part
 since start end = record { at = start; len = end - start }
 
-abbrev pub rowOf : Seat → Counts → ℕ → Fill → Fill → SegmentRow
+abbrev pub rowOf : Seat → CollectCounts → ℕ → Fill → Fill → SegmentRow
 rowOf seat c end references symbols = record {
   seat = seat;
   pattern = since (c .pattern) end;
@@ -34,10 +34,10 @@ storedTo end references symbols segments =
     if segments .over then NoRoom
     else Rows (record { segments = segments .rows; references = references .rows; symbols = symbols .rows; pattern = end })
 
-unfoldable pub finished : Counts → ℕ → Fill → Fill → ℕ → Stored
+unfoldable pub finished : CollectCounts → ℕ → Fill → Fill → ℕ → Stored
 finished c end references symbols len =
     if references .over then NoRoom else if symbols .over then NoRoom else storedTo end references symbols (oneMore (filledTo (c .segments)) 8 len)
 
-unfoldable pub finishedIn : Seat → Counts → ℕ → Fill → Fill → List ℕ → List ℕ
+unfoldable pub finishedIn : Seat → CollectCounts → ℕ → Fill → Fill → List ℕ → List ℕ
 finishedIn seat c end references symbols m =
     if references .over then m else if symbols .over then m else putMore segmentLayout (filledTo (c .segments)) (rowOf seat c end references symbols) m

@@ -12,7 +12,7 @@ use Rattle.lent.specs.ListLaws.{joined-same}
 use Rattle.lent.specs.Parts.{bytesOf}
 use Rattle.lent.specs.PartLaws.{part-fits}
 use Rattle.image.specs.declared.fixup.Rules.{Rules}
-use Rattle.image.specs.declared.fixup.Rules.the-variants.{Found, Documented}
+use Rattle.image.specs.declared.fixup.Rules.the-variants.{AsFound, Documented}
 use Rattle.omf51.specs.declared.ModuleId.{ModuleId}
 use Rattle.omf51.specs.declared.Definition.{Definition}
 use Rattle.omf51.specs.declared.Definition.the-variants.{Segment, Public, External}
@@ -71,5 +71,5 @@ absolute-by rules library m number s =
     rw (symbols-by m absoluteId (insideOf (s .content)) (symbolBase rules (s .content)) (Inside (s .content .offset) (s .content .part .len) (ownBy rules)) (λ offset. refl) (go rules), references-by m number 0 s) refl
   where
     go : (r : Rules) → symbolBase r (s .content) ≡ baseOf (Inside (s .content .offset) (s .content .part .len) (ownBy r))
-    go Found = refl
+    go AsFound = refl
     go Documented = refl

@@ -10,7 +10,7 @@ use Rattle.lent.specs.Lists.{one, keep, joined}
 use Rattle.lent.specs.Parts.{bytesOf}
 use Rattle.image.specs.declared.Seat.the-variants.{Anywhere, Only}
 use Rattle.image.specs.declared.fixup.Rules.{Rules}
-use Rattle.image.specs.declared.fixup.Rules.the-variants.{Found, Documented}
+use Rattle.image.specs.declared.fixup.Rules.the-variants.{AsFound, Documented}
 use Rattle.omf51.specs.declared.ModuleId.{ModuleId}
 use Rattle.omf51.specs.declared.Definition.{Definition}
 use Rattle.omf51.specs.declared.Content.{Content}
@@ -27,11 +27,11 @@ use Rattle.segment_parts.specs.Referring.{leavesIn, sectionLeaves}
 use Rattle.segment_parts.specs.Naming.{symbolBy}
 use Rattle.segment_parts.specs.symbols_by_offset.Flags.{Clear}
 use Rattle.segment_parts.specs.symbols_by_offset.Inside.{Offered}
-use Rattle.collect.specs.declared.stored.Counts.{Counts}
+use Rattle.collect.specs.declared.stored.CollectCounts.{CollectCounts}
 use Rattle.collect.specs.declared.stored.Stored.{Stored}
-use Rattle.collect.specs.stored.Stores.{Lists, Extends, SameLengths}
+use Rattle.collect.specs.stored.Stores.{CollectLists, Extends, SameLengths}
 
-abbrev pub lists : List ℕ → List ℕ → List ℕ → List ℕ → List ℕ → Lists
+abbrev pub lists : List ℕ → List ℕ → List ℕ → List ℕ → List ℕ → CollectLists
 lists segments references symbols bytes masks = record { segments = segments; references = references; symbols = symbols; bytes = bytes; masks = masks }
 
 abbrev pub keptOf : List ℕ → List Definition → ℕ → ℕ → List Section → List Definition → Collected
@@ -62,7 +62,7 @@ sectionsFor m id place = if eqb (keptPlace m id) place then sectionsOf m id else
 
 -- as documented, a symbol of an absolute content stands at its own address: its offset counts from the content's start
 abbrev pub ownBy : Rules → Bool
-ownBy Found = false
+ownBy AsFound = false
 ownBy Documented = true
 
 -- a content whose data lie within the library
@@ -71,14 +71,14 @@ pub record WholeContent (library : List ℕ) (content : Content) : Type 0 where
   pub short : content .part .len < 65536
   pub low : content .offset < 65536
 
-pub record StoresKept (library table : List ℕ) (number link : ℕ) (next places : List ℕ) (publicLink : ℕ) (publicNext publicPlaces : List ℕ) (size : ℕ) (c : Counts) (l : Lists) (apart : List ℕ) (after : Lists) (apart′ : List ℕ) (w : Stored) : Type 0 where
+pub record StoresKept (library table : List ℕ) (number link : ℕ) (next places : List ℕ) (publicLink : ℕ) (publicNext publicPlaces : List ℕ) (size : ℕ) (c : CollectCounts) (l : CollectLists) (apart : List ℕ) (after : CollectLists) (apart′ : List ℕ) (w : Stored) : Type 0 where
   pub long : SameLengths l after
   pub apart-long : length apart′ ≡ length apart
   pub extends : (definitions : List Definition) (sections : List Section) (publics : List Definition) → Tells definitions table
       → Follows (SectionIs library places) next 0 link sections → Follows (PublicIs library publicPlaces) publicNext 0 publicLink publics
       → Extends (one (keptOf library definitions number size sections publics)) l c after w
 
-pub record StoresAbsolute (library table : List ℕ) (number : ℕ) (own : Bool) (content : Content) (fixups : List Fixup) (keys : List ℕ) (n : ℕ) (entries heads onward : List ℕ) (c : Counts) (l : Lists) (apart flags : List ℕ) (after : Lists) (apart′ flags′ : List ℕ) (w : Stored) : Type 0 where
+pub record StoresAbsolute (library table : List ℕ) (number : ℕ) (own : Bool) (content : Content) (fixups : List Fixup) (keys : List ℕ) (n : ℕ) (entries heads onward : List ℕ) (c : CollectCounts) (l : CollectLists) (apart flags : List ℕ) (after : CollectLists) (apart′ flags′ : List ℕ) (w : Stored) : Type 0 where
   pub long : SameLengths l after
   pub apart-long : length apart′ ≡ length apart
   pub flags-long : length flags′ ≡ length flags

@@ -18,11 +18,11 @@ use Rattle.segments.specs.Collect.{Collected}
 use Rattle.segments.specs.SegmentRows.{following, segmentRowsFrom, segmentRows, noRow, patternBytes, patternMasks}
 use Rattle.segments.specs.SegmentLayouts.{segmentLayout, referenceLayout, symbolLayout}
 use Rattle.segments.specs.SegmentLayoutLaws.{segment-width}
-use Rattle.collect.specs.declared.stored.Counts.{Counts}
+use Rattle.collect.specs.declared.stored.CollectCounts.{CollectCounts}
 use Rattle.collect.specs.declared.stored.Stored.{Stored}
 use Rattle.collect.specs.stored.Rows.{filledTo, since, rowOf, storedTo, finished, finishedIn}
 use Rattle.collect.specs.stored.RowLaws.{without-references, without-symbols, with-row, row-lacks, row-fits}
-use Rattle.collect.specs.stored.Stores.{Lists, referencesIn, symbolsIn, Room, Padded, Stores, After}
+use Rattle.collect.specs.stored.Stores.{CollectLists, referencesIn, symbolsIn, Room, Padded, Stores, After}
 
 -- what holds rows is being filled
 pub holding : {R : Type 0} (l : Layout R) {rows : List R} {m : List ℕ} {n : ℕ} → Holds l rows m (filledTo n) → Filling l rows m (filledTo n)
@@ -73,7 +73,7 @@ rows-length last (x ∷ gs) = ap suc (rows-length _ gs)
 pub one-more-joined : {B : Type 0} (f : Collected → List B) (gs : List Collected) (g : Collected) → joined f (gs ++ one g) ≡ joined f gs ++ f g
 one-more-joined f gs g = joined-snoc f gs g
 
-module _ (gs : List Collected) (g : Collected) (l : Lists) (c : Counts) (s : Stores gs l c) (size : ℕ) (wide : length (g .bytes) ≡ size) (even : length (g .masks) ≡ length (g .bytes)) where
+module _ (gs : List Collected) (g : Collected) (l : CollectLists) (c : CollectCounts) (s : Stores gs l c) (size : ℕ) (wide : length (g .bytes) ≡ size) (even : length (g .masks) ≡ length (g .bytes)) where
   bytes-more : patternBytes (gs ++ one g) ≡ patternBytes gs ++ g .bytes
   unfolding patternBytes
   bytes-more = joined-snoc (λ x. x .bytes) gs g
@@ -96,7 +96,7 @@ module _ (gs : List Collected) (g : Collected) (l : Lists) (c : Counts) (s : Sto
     abbrev end : ℕ
     end = c .pattern + size
 
-    abbrev with-rows : List ℕ → Lists
+    abbrev with-rows : List ℕ → CollectLists
     with-rows n = record { segments = n; references = refs; symbols = syms; bytes = bytes; masks = masks }
 
     references-filled : Filling referenceLayout (referencesIn (gs ++ one g)) refs r
@@ -161,5 +161,5 @@ module _ (gs : List Collected) (g : Collected) (l : Lists) (c : Counts) (s : Sto
         go-r false o = go-y o (y .over) refl
 
 -- as many rows as segments
-pub stored-count : {gs : List Collected} {l : Lists} {c : Counts} → Stores gs l c → c .segments ≡ length gs
+pub stored-count : {gs : List Collected} {l : CollectLists} {c : CollectCounts} → Stores gs l c → c .segments ≡ length gs
 stored-count {gs} s = s .segments .number ∙ rows-length noRow gs

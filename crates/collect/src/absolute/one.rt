@@ -5,7 +5,7 @@ ghost use Rattle.library.specs.items.Left.{fixupsLeft};
 ghost use Rattle.segment_parts.specs.Referring.{Placeable};
 ghost use Rattle.segment_parts.specs.symbols_by_offset.Flags.{Clear};
 ghost use Rattle.collect.specs.stored.Segments.{lists, WholeContent, StoresAbsolute};
-use crate::stored::Counts;
+use crate::stored::CollectCounts;
 use crate::stored::Stored;
 use crate::stored::row::filled_to;
 use crate::stored::row::finish;
@@ -31,7 +31,7 @@ pub fn store_absolute(
     entries: &[u32],
     heads: &[u32],
     onward: &[u32],
-    c: Counts,
+    c: CollectCounts,
     segments: &mut [u64],
     references: &mut [u64],
     symbols: &mut [u64],

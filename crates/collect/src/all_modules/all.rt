@@ -2,23 +2,23 @@
 ghost use mathlib.Core.Path.{_≡_};
 ghost use mathlib.Core.List.{[]};
 ghost use Rattle.omf51.specs.Module.{moduleAt};
-ghost use Rattle.library.specs.Found.{found};
+ghost use Rattle.library.specs.Gathered.{itemsAt};
 ghost use Rattle.collect.specs.stored.Stores.{Stores};
 ghost use Rattle.collect.specs.stored.Segments.{lists};
 ghost use Rattle.collect.specs.all_modules.Modules.{Workable};
 ghost use Rattle.collect.specs.all_modules.All.{nothing, StoresAll};
 use crate::all_modules::module::store_module;
-use crate::stored::Counts;
+use crate::stored::CollectCounts;
 use crate::stored::Stored;
 use crate::stored::rules::is_own;
 use image::fixup::Rules;
 use library::ModuleAt;
 use library::module::module_at;
 
-fn none_yet() -> Counts
+fn none_yet() -> CollectCounts
     ensures { λ r. ⌜ r ≡ nothing ⌝ }
 {
-    Counts {
+    CollectCounts {
         segments: 0,
         references: 0,
         symbols: 0,
@@ -47,7 +47,7 @@ pub fn store_all(
     apart: &mut [u8],
 ) -> Stored
     requires { ⌜ Workable (now library) 0 (now table) (now ids) (now places) (now first) (now next) (now keys) (now entries) (now heads) (now onward) (now apart) × Stores [] (lists (now segments) (now references) (now symbols) (now bytes) (now masks)) nothing ⌝ }
-    ensures { λ r. ⌜ StoresAll (now (library .entry)) rules (found (now (library .entry)) (moduleAt (now (library .entry))) from) (now (table .exit))
+    ensures { λ r. ⌜ StoresAll (now (library .entry)) rules (itemsAt (now (library .entry)) (moduleAt (now (library .entry))) from) (now (table .exit))
         (lists (now (segments .entry)) (now (references .entry)) (now (symbols .entry)) (now (bytes .entry)) (now (masks .entry)))
         (lists (now (segments .exit)) (now (references .exit)) (now (symbols .exit)) (now (bytes .exit)) (now (masks .exit))) r ⌝ }
 {

@@ -2,7 +2,7 @@
 ghost use Rattle.collect.specs.stored.Segments.{lists};
 ghost use Rattle.collect.specs.all_modules.Modules.{Workable, StoresModule};
 use crate::one_module::both::both_parts;
-use crate::stored::Counts;
+use crate::stored::CollectCounts;
 use crate::stored::Stored;
 use library::Places;
 use module_ids::table::clear;
@@ -15,7 +15,7 @@ pub fn store_module(
     library: &[u8],
     own: bool,
     at: Places,
-    c: Counts,
+    c: CollectCounts,
     table: &mut [u64],
     ids: &mut [u16],
     places: &mut [u32],

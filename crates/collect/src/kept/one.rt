@@ -3,7 +3,7 @@ ghost use Prim.Native.Nat.{_≤_};
 ghost use lib.ListN.{length};
 ghost use Rattle.segment_parts.specs.Referring.{Placeable};
 ghost use Rattle.collect.specs.stored.Segments.{lists, StoresKept};
-use crate::stored::Counts;
+use crate::stored::CollectCounts;
 use crate::stored::Stored;
 use crate::stored::row::filled_to;
 use crate::stored::row::finish;
@@ -27,7 +27,7 @@ pub fn store_kept(
     onward: &[u32],
     entries: &[u32],
     size: usize,
-    c: Counts,
+    c: CollectCounts,
     segments: &mut [u64],
     references: &mut [u64],
     symbols: &mut [u64],

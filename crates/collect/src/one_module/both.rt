@@ -7,7 +7,7 @@ ghost use Rattle.collect.specs.stored.Segments.{lists};
 ghost use Rattle.collect.specs.one_module.Parts.{FlagsReady, StoresBothParts};
 use crate::one_module::part::first_part;
 use crate::one_module::part::second_part;
-use crate::stored::Counts;
+use crate::stored::CollectCounts;
 use crate::stored::Stored;
 
 pub fn both_parts(
@@ -18,7 +18,7 @@ pub fn both_parts(
     first: &[u32],
     next: &[u32],
     places: &[u32],
-    c: Counts,
+    c: CollectCounts,
     keys: &mut [u16],
     entries: &mut [u32],
     heads: &mut [u32],

@@ -8,7 +8,7 @@ ghost use Rattle.collect.specs.stored.Segments.{lists};
 ghost use Rattle.collect.specs.one_module.Parts.{FlagsReady, StoresFirstPart, StoresSecondPart};
 use crate::absolute::store_absolutes;
 use crate::kept::store_keeps;
-use crate::stored::Counts;
+use crate::stored::CollectCounts;
 use crate::stored::Stored;
 use module_index::forget;
 use module_index::index_publics;
@@ -23,7 +23,7 @@ pub fn first_part(
     first: &[u32],
     next: &[u32],
     places: &[u32],
-    c: Counts,
+    c: CollectCounts,
     keys: &mut [u16],
     entries: &mut [u32],
     heads: &mut [u32],
@@ -73,7 +73,7 @@ pub fn second_part(
     first: &[u32],
     next: &[u32],
     places: &[u32],
-    c: Counts,
+    c: CollectCounts,
     keys: &mut [u16],
     entries: &mut [u32],
     heads: &mut [u32],

@@ -4,7 +4,7 @@ ghost use Prim.Native.Nat.{_+_, _-_};
 ghost use lib.Dec.{leb};
 ghost use lib.ListN.{length};
 ghost use Rattle.collect.specs.stored.Rows.{filledTo, finished, finishedIn};
-use crate::stored::Counts;
+use crate::stored::CollectCounts;
 use crate::stored::Stored;
 use image::Seat;
 use lent::part::Part;
@@ -44,7 +44,7 @@ pub fn since(start: usize, end: usize) -> Part
 // `c` was stored before this segment; `end`, `references` and `symbols` are how far its parts reach.
 pub fn finish(
     seat: Seat,
-    c: Counts,
+    c: CollectCounts,
     end: usize,
     references: Fill,
     symbols: Fill,
@@ -68,7 +68,7 @@ pub fn finish(
     if segments.over {
         return Stored::NoRoom;
     }
-    Stored::Rows(Counts {
+    Stored::Rows(CollectCounts {
         segments: segments.rows,
         references: references.rows,
         symbols: symbols.rows,

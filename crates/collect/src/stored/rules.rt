@@ -8,7 +8,7 @@ pub fn is_own(rules: Rules) -> bool
     ensures { λ r. ⌜ r ≡ ownBy rules ⌝ }
 {
     match rules {
-        Rules::Found => false,
+        Rules::AsFound => false,
         Rules::Documented => true,
     }
 }

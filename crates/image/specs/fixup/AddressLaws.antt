@@ -6,7 +6,7 @@ use native.Mathlib.Omega.{arith}
 use borrow.Author.Tests.{lt-ltb, le-ltb}
 use lib.Bits.{bitAnd, bitOr, and-mask, or-shifted}
 use Rattle.image.specs.declared.fixup.Rules.{Rules}
-use Rattle.image.specs.declared.fixup.Rules.the-variants.{Found, Documented}
+use Rattle.image.specs.declared.fixup.Rules.the-variants.{AsFound, Documented}
 use mathlib.Core.Bool.{true, false}
 use mathlib.Core.List.{List}
 use Rattle.image.specs.declared.Stretch.{Stretch}
@@ -24,7 +24,7 @@ page11 next top b = (next / 2048 * 2048 + 256 * top + b) % 65536
 
 -- three bits are three bits
 pub top-small : (rules : Rules) (a : ℕ) → a < 256 → topBits rules a < 8
-top-small Found a h = omega arith
+top-small AsFound a h = omega arith
 top-small Documented a h = omega arith
 
 -- five bits of a page, three bits and a byte, shifted to their places and joined

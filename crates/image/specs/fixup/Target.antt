@@ -9,7 +9,7 @@ use Rattle.lent.specs.Choice.{if_then_else_}
 use Rattle.lent.specs.Lists.{all, from}
 use Rattle.image.specs.View.{cellAt, isByte}
 use Rattle.image.specs.declared.fixup.Rules.{Rules}
-use Rattle.image.specs.declared.fixup.Rules.the-variants.{Found, Documented}
+use Rattle.image.specs.declared.fixup.Rules.the-variants.{AsFound, Documented}
 use Rattle.image.specs.declared.fixup.Kind.{Kind}
 use Rattle.image.specs.declared.fixup.Kind.the-variants.{Relative, Word, Inblock}
 use Rattle.image.specs.declared.fixup.Target.{Target}
@@ -17,7 +17,7 @@ use Rattle.image.specs.declared.fixup.Target.the-variants.{At, Nowhere}
 
 -- the rule set of a number: all but 1 count as 0 (a run refuses those above 1)
 abbrev pub rulesOf : ℕ → Rules
-rulesOf n = if eqb n 1 then Documented else Found
+rulesOf n = if eqb n 1 then Documented else AsFound
 
 -- the kinds by their numbers in the file, of which only these leave a reference
 abbrev pub kindNumber : Kind → ℕ
@@ -54,7 +54,7 @@ addr16 a b = 256 * a + b
 -- pos + 2 with its low 11 bits cleared, 256 times the first byte's top three bits, the second byte, kept to 16 bits;
 -- as found, the three bits count as 0
 abbrev pub topBits : Rules → ℕ → ℕ
-topBits Found a = 0
+topBits AsFound a = 0
 topBits Documented a = a / 32
 
 abbrev pub addr11 : Rules → ℕ → ℕ → ℕ → ℕ

@@ -20,13 +20,13 @@ use Rattle.image.specs.MatchLaws.{Apart}
 use Rattle.image.specs.Window.{isApart}
 use Rattle.image.specs.WindowLaws.{is-apart}
 use Rattle.image.specs.declared.fixup.Rules.{Rules}
-use Rattle.image.specs.declared.fixup.Rules.the-variants.{Found, Documented}
+use Rattle.image.specs.declared.fixup.Rules.the-variants.{AsFound, Documented}
 use Rattle.image.specs.declared.fixup.Kind.{Kind}
 use Rattle.image.specs.declared.fixup.Target.the-variants.{At, Nowhere}
 use Rattle.image.specs.fixup.Target.{rulesOf, minus, leadsTo, reads, readable, target}
 
 -- rule set 0 is as found, 1 as documented
-pub rules-0 : rulesOf 0 ≡ Found
+pub rules-0 : rulesOf 0 ≡ AsFound
 rules-0 = refl
 
 pub rules-1 : rulesOf 1 ≡ Documented

@@ -15,21 +15,21 @@ use Rattle.omf51.specs.declared.End.the-variants.{At, Stop, Refused}
 use Rattle.omf51.specs.declared.Frame.{Frame}
 use Rattle.omf51.specs.declared.Content.{Content}
 use Rattle.omf51.specs.declared.Fixup.{Fixup}
-use Rattle.omf51.specs.Reader.{Outcome, read, stop, refused, andThen, give, many}
+use Rattle.omf51.specs.Reader.{ReadOutcome, read, stop, refused, andThen, give, many}
 use Rattle.omf51.specs.Record.{expected, recordOf}
 use Rattle.omf51.specs.RecordLaws.{record-framed, not-expected}
 use Rattle.omf51.specs.Entry.{ending, idSize}
 use Rattle.omf51.specs.Module.{fills, isIdle, fixupsAt, contentBody, Section, sectionAt, sectionsAt}
 use Rattle.omf51.specs.Ends.{endOf}
-use Rattle.library.specs.Found.{found}
-use Rattle.library.specs.RepeatLaws.{many-found}
+use Rattle.library.specs.Gathered.{itemsAt}
+use Rattle.library.specs.RepeatLaws.{many-items}
 use Rattle.library.specs.EndLaws.{Halts}
 use Rattle.library.specs.declared.items.NextContent.the-variants.{Item, Done}
 use Rattle.library.specs.items.Walk.{startAt}
 use Rattle.library.specs.items.Contents.{contentHere, contentOr, afterSection, seek}
 
 -- no record stands there
-abbrev pub Absent : Outcome Frame → Type 0
+abbrev pub Absent : ReadOutcome Frame → Type 0
 Absent (read f k) = ⊥
 Absent stop = Unit
 Absent (refused r) = Unit
@@ -58,7 +58,7 @@ module _ (n : ℕ) (library : List ℕ) (at : ℕ) (h : 0 < n) where
     pub seek-on : Absent (expected library fills at) → seek n library at ≡ seek (n - 1) library next
     seek-on a = seek-at ∙ rw e (go (expected library fills at) a)
       where
-        go : (o : Outcome Frame) → Absent o → contentOr library (seek (n - 1) library next) next o ≡ seek (n - 1) library next
+        go : (o : ReadOutcome Frame) → Absent o → contentOr library (seek (n - 1) library next) next o ≡ seek (n - 1) library next
         go (read f k) a = absurd a
         go stop a = refl
         go (refused r) a = refl
@@ -70,9 +70,9 @@ abbrev noSection : List Section
 noSection = []
 
 -- a content that was passed: its body has an id and an offset, and its fixups are found after it
-pub record Passed (library : List ℕ) (f : Frame) (k : ℕ) (o : Outcome (List Section)) (next : ℕ) : Type 0 where
+pub record Passed (library : List ℕ) (f : Frame) (k : ℕ) (o : ReadOutcome (List Section)) (next : ℕ) : Type 0 where
   pub room : f .body + idSize f + 2 ≤ f .end
-  pub is : o ≡ read (sectionOf (contentHere library f) (found library (fixupsAt library) k)) next
+  pub is : o ≡ read (sectionOf (contentHere library f) (itemsAt library (fixupsAt library) k)) next
 
 never : {B : Type 0} {next : ℕ} → Stop ≡ At next → B
 never e = let z : _≡_ {A = ℕ} 0 1 = cc in absurd (omega arith)
@@ -86,10 +86,10 @@ module _ (library : List ℕ) (at : ℕ) {f : Frame} {k : ℕ} (o : expected lib
   content-passed {next} =
       rw (record-framed library fills (contentBody library) at o) (go (leb (f .body + idSize f + 2) (f .end)) (leb-true (f .body + idSize f + 2) (f .end)))
     where
-      fixed : f .body + idSize f + 2 ≤ f .end → (w : Outcome (List Fixup)) → many library (fixupsAt library) k ≡ w
+      fixed : f .body + idSize f + 2 ≤ f .end → (w : ReadOutcome (List Fixup)) → many library (fixupsAt library) k ≡ w
           → endOf (andThen w λ fixups. give (sectionOf (contentHere library f) fixups)) ≡ At next
           → Passed library f k (andThen w λ fixups. give (sectionOf (contentHere library f) fixups)) next
-      fixed r (read fixups end) q e = let z : end ≡ next = cc in record { room = r; is = rw (many-found library (fixupsAt library) k q, z) }
+      fixed r (read fixups end) q e = let z : end ≡ next = cc in record { room = r; is = rw (many-items library (fixupsAt library) k q, z) }
       fixed r stop q e = never e
       fixed r (refused x) q e = never-refused e
 
@@ -116,12 +116,12 @@ pub section-skipped : (library : List ℕ) (at : ℕ) {next : ℕ} → Absent (e
 unfolding sectionsAt sectionAt recordOf
 section-skipped library at {next} a = go (fills (byteAt library at))
   where
-    idle : (o : Outcome Frame) → endOf (andThen o λ f k. read noSection k) ≡ At next → (andThen o λ f k. read noSection k) ≡ read [] next
+    idle : (o : ReadOutcome Frame) → endOf (andThen o λ f k. read noSection k) ≡ At next → (andThen o λ f k. read noSection k) ≡ read [] next
     idle (read f k) e = let z : k ≡ next = cc in rw z
     idle stop e = never e
     idle (refused r) e = never-refused e
 
-    content : (o : Outcome Frame) → Absent o
+    content : (o : ReadOutcome Frame) → Absent o
         → endOf (andThen (andThen o λ f k. andThen (contentBody library f (f .body)) λ a left. read a k) λ content m. andThen (many library (fixupsAt library) m) λ fixups. give (sectionOf content fixups)) ≡ At next
         → (andThen (andThen o λ f k. andThen (contentBody library f (f .body)) λ a left. read a k) λ content m. andThen (many library (fixupsAt library) m) λ fixups. give (sectionOf content fixups)) ≡ read [] next
     content (read f k) a e = absurd a

@@ -11,7 +11,7 @@ use Rattle.omf51.specs.declared.End.{End}
 use Rattle.omf51.specs.declared.End.the-variants.{At, Stop, Refused}
 use Rattle.omf51.specs.declared.Frame.{Frame}
 use Rattle.omf51.specs.declared.Content.{Content}
-use Rattle.omf51.specs.Reader.{Outcome, read, stop, refused, many}
+use Rattle.omf51.specs.Reader.{ReadOutcome, read, stop, refused, many}
 use Rattle.omf51.specs.Record.{expected}
 use Rattle.omf51.specs.RecordLaws.{Framed, cut, empty, past, unclosed, whole, framed, not-expected, read-fits}
 use Rattle.omf51.specs.Module.{fills, fixupsAt, sectionsAt}
@@ -42,7 +42,7 @@ pub record ContentGoes (library : List ℕ) (at : ℕ) (content : Content) (rest
   pub offset-small : Bytes library → content .offset < 65536
 
 -- a record is as long as it says
-abbrev LongAs : List ℕ → ℕ → Outcome Frame → Type 0
+abbrev LongAs : List ℕ → ℕ → ReadOutcome Frame → Type 0
 LongAs library at (read f next) = f .end ≡ at + 2 + wordAt library (at + 1)
 LongAs library at stop = Unit
 LongAs library at (refused r) = Unit
@@ -51,7 +51,7 @@ frame-long : (library : List ℕ) (allowed : ℕ → Bool) (at : ℕ) {f : Frame
 unfolding expected
 frame-long library allowed at e = subst (LongAs library at) e (chosen (LongAs library at) (allowed (byteAt library at)) (λ q. go (framed library at)) (λ q. tt))
   where
-    go : {o : Outcome Frame} → Framed library at o → LongAs library at o
+    go : {o : ReadOutcome Frame} → Framed library at o → LongAs library at o
     go (cut l) = tt
     go (empty l z) = tt
     go (past b l) = tt
@@ -59,7 +59,7 @@ frame-long library allowed at e = subst (LongAs library at) e (chosen (LongAs li
     go (whole b l) = refl
 
 -- the fixups of a content stand behind it
-stayed : {A : Type 0} (library : List ℕ) (at next : ℕ) (o : Outcome A) → Stayed library at o → endOf o ≡ At next → at ≤ next
+stayed : {A : Type 0} (library : List ℕ) (at next : ℕ) (o : ReadOutcome A) → Stayed library at o → endOf o ≡ At next → at ≤ next
 stayed library at next (read a k) s e = let q : k ≡ next = cc in omega (arith, s)
 stayed library at next stop s e = let z : _≡_ {A = ℕ} 0 1 = cc in absurd (omega arith)
 stayed library at next (refused r) s e = let z : _≡_ {A = ℕ} 0 1 = cc in absurd (omega arith)
@@ -108,7 +108,7 @@ unfolding seek
 seek-goes zero library at = tt
 seek-goes (suc n) library at = section (endOf (sectionsAt library at)) refl (seek-goes n library)
   where
-    content : (next : ℕ) → endOf (sectionsAt library at) ≡ At next → ((k : ℕ) → Sought library k (seek n library k)) → (o : Outcome Frame) → expected library fills at ≡ o
+    content : (next : ℕ) → endOf (sectionsAt library at) ≡ At next → ((k : ℕ) → Sought library k (seek n library k)) → (o : ReadOutcome Frame) → expected library fills at ≡ o
         → Sought library at (contentOr library (seek n library next) next o)
     content next e rest (read f k) q = content-large library at q e
     content next e rest stop q =

@@ -7,7 +7,7 @@ use Rattle.omf51.specs.declared.End.{End}
 use Rattle.omf51.specs.declared.End.the-variants.{At, Stop, Refused}
 use Rattle.omf51.specs.declared.Frame.{Frame}
 use Rattle.omf51.specs.declared.Content.{Content}
-use Rattle.omf51.specs.Reader.{Outcome, read, stop, refused}
+use Rattle.omf51.specs.Reader.{ReadOutcome, read, stop, refused}
 use Rattle.omf51.specs.Record.{expected}
 use Rattle.omf51.specs.Entry.{idSize, idAt}
 use Rattle.omf51.specs.Module.{fills, sectionsAt}
@@ -25,12 +25,12 @@ contentHere library f = record {
 }
 
 -- a content if its record stands here, or else what comes after a record that is skipped
-abbrev pub contentOr : List ℕ → NextContent → ℕ → Outcome Frame → NextContent
+abbrev pub contentOr : List ℕ → NextContent → ℕ → ReadOutcome Frame → NextContent
 contentOr library other next (read f k) = Item (contentHere library f) (startAt k) next
 contentOr library other next stop = other
 contentOr library other next (refused r) = other
 
-abbrev pub afterSection : List ℕ → (ℕ → NextContent) → Outcome Frame → End → NextContent
+abbrev pub afterSection : List ℕ → (ℕ → NextContent) → ReadOutcome Frame → End → NextContent
 afterSection library rest o (At next) = contentOr library (rest next) next o
 afterSection library rest o Stop = Done
 afterSection library rest o (Refused r) = Done

@@ -9,12 +9,12 @@ use Rattle.lent.specs.Choice.{if_then_else_}
 use Rattle.lent.specs.Parts.{byteAt}
 use Rattle.omf51.specs.declared.Frame.{Frame}
 use Rattle.omf51.specs.declared.End.the-variants.{At, Stop, Refused}
-use Rattle.omf51.specs.Reader.{Outcome, read, stop, refused, Reader, andThen, give, atLeastOne}
+use Rattle.omf51.specs.Reader.{ReadOutcome, read, stop, refused, Reader, andThen, give, atLeastOne}
 use Rattle.omf51.specs.Record.{expected, recordOf}
 use Rattle.omf51.specs.RecordLaws.{Fits, FrameFits, expected-fits}
 use Rattle.omf51.specs.Ends.{endOf}
-use Rattle.library.specs.Found.{found}
-use Rattle.library.specs.RepeatLaws.{found-turn, least-found}
+use Rattle.library.specs.Gathered.{itemsAt}
+use Rattle.library.specs.RepeatLaws.{items-turn, least-items}
 use Rattle.library.specs.PassLaws.{record-moves}
 use Rattle.library.specs.items.Walk.{frameTo}
 
@@ -24,14 +24,14 @@ module _ {A : Type 0} (library : List ℕ) (allowed has : ℕ → Bool) (each : 
   body f = if has (f .kind) then atLeastOne library (each f) else give []
 
   abbrev held : ℕ → ℕ → List A
-  held at next = if has (byteAt library at) then found library (each (frameTo library at next)) (at + 3) else []
+  held at next = if has (byteAt library at) then itemsAt library (each (frameTo library at next)) (at + 3) else []
 
   body-found : (f : Frame) (at next : ℕ) → f ≡ frameTo library at next → {what : List A} {end : ℕ} → body f (f .body) ≡ read what end → what ≡ held at next
   body-found f at next g {what} {end} e = go (has (byteAt library at)) (rw g at e)
     where
       go : (t : Bool) → (if t then atLeastOne library (each (frameTo library at next)) else give []) (at + 3) ≡ read what end
-          → what ≡ (if t then found library (each (frameTo library at next)) (at + 3) else [])
-      go true q = least-found library (each (frameTo library at next)) (at + 3) q
+          → what ≡ (if t then itemsAt library (each (frameTo library at next)) (at + 3) else [])
+      go true q = least-items library (each (frameTo library at next)) (at + 3) q
       go false q = cc
 
   passed : (at : ℕ) {next : ℕ} → endOf (recordOf library allowed body at) ≡ At next → recordOf library allowed body at ≡ read (held at next) next
@@ -44,7 +44,7 @@ module _ {A : Type 0} (library : List ℕ) (allowed has : ℕ → Bool) (each : 
       never-refused : {B : Type 0} (r : Refusal) → Refused r ≡ At next → B
       never-refused r e = let z : _≡_ {A = ℕ} 0 1 = cc in absurd (omega arith)
 
-      inner : (f : Frame) (k : ℕ) → Fits library at f k → (w : Outcome (List A)) → body f (f .body) ≡ w
+      inner : (f : Frame) (k : ℕ) → Fits library at f k → (w : ReadOutcome (List A)) → body f (f .body) ≡ w
           → endOf (andThen w λ a left. read a k) ≡ At next → (andThen w λ a left. read a k) ≡ read (held at next) next
       inner f k h (read what end) q e =
           let n : k ≡ next = cc in
@@ -54,7 +54,7 @@ module _ {A : Type 0} (library : List ℕ) (allowed has : ℕ → Bool) (each : 
       inner f k h stop q e = never e
       inner f k h (refused r) q e = never-refused r e
 
-      go : (o : Outcome Frame) → FrameFits library at o
+      go : (o : ReadOutcome Frame) → FrameFits library at o
           → endOf (andThen o λ f k. andThen (body f (f .body)) λ a left. read a k) ≡ At next
           → (andThen o λ f k. andThen (body f (f .body)) λ a left. read a k) ≡ read (held at next) next
       go (read f k) h e = inner f k h (body f (f .body)) refl e
@@ -63,5 +63,5 @@ module _ {A : Type 0} (library : List ℕ) (allowed has : ℕ → Bool) (each : 
 
   -- what is found from a record on: what it holds, and then the rest
   pub enter : (at : ℕ) {next : ℕ} → endOf (recordOf library allowed body at) ≡ At next
-      → found library (recordOf library allowed body) at ≡ held at next ++ found library (recordOf library allowed body) next
-  enter at e = found-turn library (recordOf library allowed body) (record-moves library allowed body) at (passed at e)
+      → itemsAt library (recordOf library allowed body) at ≡ held at next ++ itemsAt library (recordOf library allowed body) next
+  enter at e = items-turn library (recordOf library allowed body) (record-moves library allowed body) at (passed at e)

@@ -8,7 +8,7 @@ use Rattle.omf51.specs.declared.Content.{Content}
 use Rattle.omf51.specs.declared.Definition.{Definition}
 use Rattle.omf51.specs.declared.Fixup.{Fixup}
 use Rattle.omf51.specs.Module.{sectionsAt}
-use Rattle.library.specs.Found.{found}
+use Rattle.library.specs.Gathered.{itemsAt}
 use Rattle.library.specs.declared.items.Cursor.{Cursor}
 use Rattle.library.specs.declared.items.NextDefinition.the-variants as NextDefinition
 use Rattle.library.specs.declared.items.NextFixup.the-variants as NextFixup
@@ -27,5 +27,5 @@ pub fewer-fixups : (library : List ℕ) (c : Cursor) {f : Fixup} {rest : Cursor}
 fewer-fixups library c e = omega (arith, ap length (next-fixup-yields library c ∙ ap (fixupsAfter library) e))
 
 pub fewer-sections : (library : List ℕ) (at : ℕ) {content : Content} {fixups : Cursor} {rest : ℕ} → nextContent library at ≡ NextContent.Item content fixups rest
-    → length (found library (sectionsAt library) rest) < length (found library (sectionsAt library) at)
+    → length (itemsAt library (sectionsAt library) rest) < length (itemsAt library (sectionsAt library) at)
 fewer-sections library at e = omega (arith, ap length (next-content-yields library at ∙ ap (sectionsAfter library) e))

@@ -15,7 +15,7 @@ use Rattle.omf51.specs.declared.End.{End}
 use Rattle.omf51.specs.declared.End.the-variants.{At, Stop, Refused}
 use Rattle.omf51.specs.declared.Definition.the-variants.{Segment, Public, External}
 use Rattle.omf51.specs.declared.entry.Entries.{Entries}
-use Rattle.omf51.specs.Reader.{Outcome, read, stop, refused, andThen, give}
+use Rattle.omf51.specs.Reader.{ReadOutcome, read, stop, refused, andThen, give}
 use Rattle.omf51.specs.Entry.{ending, idSize, idAt, segmentSize, isSegment, isPublic, nameOffset, definitionOf, definitionAt, fixupAt}
 use Rattle.omf51.specs.Ends.{endOf, entryEnd}
 use Rattle.library.specs.Passes.{recordEnd}
@@ -63,7 +63,7 @@ pub step-whole : (what : Entries) (library : List ℕ) (c : Cursor) {here : Curs
 step-whole what library c {here} e = entry-whole what library here (subst (Stands what library) e (steps-stand (suc (length library)) what library c))
 
 -- what was read within a body
-record Within {A : Type 0} (f : Frame) (o : Outcome A) (a : A) (next end : ℕ) : Type 0 where
+record Within {A : Type 0} (f : Frame) (o : ReadOutcome A) (a : A) (next end : ℕ) : Type 0 where
   is : o ≡ read a end
   place : next ≡ end
   room : next ≤ f .end
@@ -76,7 +76,7 @@ ended {A} f a next {end} = go (leb next (f .end)) (leb-true next (f .end))
     go true h e = let q : next ≡ end = cc in record { is = ap (read a) q; place = q; room = h refl }
     go false h e = let z : _≡_ {A = ℕ} 0 1 = cc in absurd (omega arith)
 
-given : {A B : Type 0} (g : A → B) (o : Outcome A) → endOf (andThen o λ a. give (g a)) ≡ endOf o
+given : {A B : Type 0} (g : A → B) (o : ReadOutcome A) → endOf (andThen o λ a. give (g a)) ≡ endOf o
 given g (read a next) = refl
 given g stop = refl
 given g (refused r) = refl

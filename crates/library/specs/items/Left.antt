@@ -10,15 +10,15 @@ use Rattle.omf51.specs.declared.Fixup.{Fixup}
 use Rattle.omf51.specs.Reader.{Reader}
 use Rattle.omf51.specs.Entry.{definitionAt, fixupAt}
 use Rattle.omf51.specs.Module.{definitionsAt, fixupsAt}
-use Rattle.library.specs.Found.{found}
+use Rattle.library.specs.Gathered.{itemsAt}
 use Rattle.library.specs.declared.items.Cursor.{Cursor}
 
 -- the entries from a place in a body on, and then those of the records that follow
 abbrev pub leftIn : {A : Type 0} → List ℕ → (Frame → Reader (List A)) → Cursor → List A
-leftIn library each c = if leb (c .frame .end) (length library) then found library (each (c .frame)) (c .at) else []
+leftIn library each c = if leb (c .frame .end) (length library) then itemsAt library (each (c .frame)) (c .at) else []
 
 abbrev pub left : {A : Type 0} → List ℕ → (Frame → Reader (List A)) → Reader (List A) → Cursor → List A
-left library each records c = leftIn library each c ++ found library records (c .next)
+left library each records c = leftIn library each c ++ itemsAt library records (c .next)
 
 abbrev pub definitionsLeft : List ℕ → Cursor → List Definition
 definitionsLeft library = left library (definitionAt library) (definitionsAt library)

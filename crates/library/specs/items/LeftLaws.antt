@@ -16,9 +16,9 @@ use Rattle.omf51.specs.declared.End.the-variants.{At, Stop, Refused}
 use Rattle.omf51.specs.declared.entry.Entries.{Entries}
 use Rattle.omf51.specs.Reader.{read, Reader}
 use Rattle.omf51.specs.Ends.{endOf, entryEnd}
-use Rattle.library.specs.Found.{found}
-use Rattle.library.specs.RepeatLaws.{Moves, found-turn}
-use Rattle.library.specs.EndLaws.{Halts, MovedEnd, found-none}
+use Rattle.library.specs.Gathered.{itemsAt}
+use Rattle.library.specs.RepeatLaws.{Moves, items-turn}
+use Rattle.library.specs.EndLaws.{Halts, MovedEnd, items-none}
 use Rattle.library.specs.Passes.{holds, recordEnd}
 use Rattle.library.specs.PassLaws.{record-moved}
 use Rattle.library.specs.declared.items.Cursor.{Cursor}
@@ -38,7 +38,7 @@ pub record Walked {A : Type 0} (what : Entries) (library : List ℕ) (each : Fra
   pub last-halts : (f : Frame) → Halts (endOf (each f (f .end)))
   pub records-move : Moves library records
   pub enters : (at : ℕ) {next : ℕ} → endOf (records at) ≡ At next
-      → found library records at ≡ (if holds what (byteAt library at) then found library (each (frameTo library at next)) (at + 3) else []) ++ found library records next
+      → itemsAt library records at ≡ (if holds what (byteAt library at) then itemsAt library (each (frameTo library at next)) (at + 3) else []) ++ itemsAt library records next
 
 module _ {A : Type 0} (what : Entries) (library : List ℕ) (each : Frame → Reader (List A)) (records : Reader (List A)) (here : Frame → ℕ → A)
     (w : Walked what library each records here) where
@@ -52,33 +52,33 @@ module _ {A : Type 0} (what : Entries) (library : List ℕ) (each : Frame → Re
       let whole = entry-whole what library c e in
       let reads = w .entry-reads (c .frame) (c .at) (sym (w .entry-ends (c .frame) (c .at)) ∙ whole .ends) in
       rw
-      (le-leb (c .frame .end) (length library) (whole .inside), found-turn library (each (c .frame)) (w .entries-move (c .frame) (whole .inside)) (c .at) reads)
+      (le-leb (c .frame .end) (length library) (whole .inside), items-turn library (each (c .frame)) (w .entries-move (c .frame) (whole .inside)) (c .at) reads)
 
-  past-body : (c : Cursor) → Halts (entryIn what library c) → left library each records c ≡ found library records (c .next)
+  past-body : (c : Cursor) → Halts (entryIn what library c) → left library each records c ≡ itemsAt library records (c .next)
   past-body c = go (leb (c .frame .end) (length library)) (leb-true (c .frame .end) (length library))
     where
       go : (t : Bool) → (t ≡ true → c .frame .end ≤ length library) → Halts (if t then entryEnd what library (c .frame) (c .at) else Stop)
-          → (if t then found library (each (c .frame)) (c .at) else []) ++ found library records (c .next) ≡ found library records (c .next)
-      go true l h = rw (found-none library (each (c .frame)) (w .entries-move (c .frame) (l refl)) (c .at) (sym (w .entry-ends (c .frame) (c .at))) h)
+          → (if t then itemsAt library (each (c .frame)) (c .at) else []) ++ itemsAt library records (c .next) ≡ itemsAt library records (c .next)
+      go true l h = rw (items-none library (each (c .frame)) (w .entries-move (c .frame) (l refl)) (c .at) (sym (w .entry-ends (c .frame) (c .at))) h)
       go false l h = refl
 
-  in-record : (at : ℕ) {next : ℕ} → recordEnd what library at ≡ At next → found library records at ≡ left library each records (enteredAt what library at next)
+  in-record : (at : ℕ) {next : ℕ} → recordEnd what library at ≡ At next → itemsAt library records at ≡ left library each records (enteredAt what library at next)
   in-record at {next} e =
       let f : Frame = frameTo library at next in
       let m : MovedEnd library (at + 3) (At next) = record-moved what library at e in
-      let none = found-none library (each f) (w .entries-move f (omega (arith, m))) (f .end) refl (w .last-halts f) in
-      let inside : leftIn library each (enteredAt what library at next) ≡ found library (each f) (if holds what (byteAt library at) then at + 3 else next - 1) =
+      let none = items-none library (each f) (w .entries-move f (omega (arith, m))) (f .end) refl (w .last-halts f) in
+      let inside : leftIn library each (enteredAt what library at next) ≡ itemsAt library (each f) (if holds what (byteAt library at) then at + 3 else next - 1) =
       rw (le-leb (f .end) (length library) (omega (arith, m))) in
       w .enters at (sym (w .record-ends at) ∙ e)
-      ∙ ap (λ xs. xs ++ found library records next) (go f (holds what (byteAt library at)) none ∙ sym inside)
+      ∙ ap (λ xs. xs ++ itemsAt library records next) (go f (holds what (byteAt library at)) none ∙ sym inside)
     where
-      go : (f : Frame) (t : Bool) → found library (each f) (f .end) ≡ []
-          → (if t then found library (each f) (at + 3) else []) ≡ found library (each f) (if t then at + 3 else f .end)
+      go : (f : Frame) (t : Bool) → itemsAt library (each f) (f .end) ≡ []
+          → (if t then itemsAt library (each f) (at + 3) else []) ≡ itemsAt library (each f) (if t then at + 3 else f .end)
       go f true e = refl
       go f false e = sym e
 
-  no-record : (at : ℕ) → Halts (recordEnd what library at) → found library records at ≡ []
-  no-record at h = found-none library records (w .records-move) at (sym (w .record-ends at)) h
+  no-record : (at : ℕ) → Halts (recordEnd what library at) → itemsAt library records at ≡ []
+  no-record at h = items-none library records (w .records-move) at (sym (w .record-ends at)) h
 
   steps-yield : (n : ℕ) (c : Cursor) → length library - c .next < n → left library each records c ≡ unwound (steps n what library c)
   unfolding steps
@@ -86,7 +86,7 @@ module _ {A : Type 0} (what : Entries) (library : List ℕ) (each : Frame → Re
   steps-yield (suc n) c h = entry (entryIn what library c) refl (steps-yield n)
     where
       later : (e : End) → recordEnd what library (c .next) ≡ e → ((k : Cursor) → length library - k .next < n → left library each records k ≡ unwound (steps n what library k))
-          → found library records (c .next) ≡ unwound (afterRecord (steps n what library) what library (c .next) e)
+          → itemsAt library records (c .next) ≡ unwound (afterRecord (steps n what library) what library (c .next) e)
       later (At next) q rest =
           let m : MovedEnd library (c .next + 3) (At next) = record-moved what library (c .next) q in
           in-record (c .next) q ∙ rest (enteredAt what library (c .next) next) (omega (arith, m, h))
@@ -104,5 +104,5 @@ module _ {A : Type 0} (what : Entries) (library : List ℕ) (each : Frame → Re
   step-yields c = steps-yield (suc (length library)) c (omega arith)
 
   -- before the first record, all of them are left
-  pub start-left : (at : ℕ) → left library each records (startAt at) ≡ found library records at
+  pub start-left : (at : ℕ) → left library each records (startAt at) ≡ itemsAt library records at
   start-left at = past-body (startAt at) (rw (le-leb 0 (length library) (omega arith), w .entry-ends (startAt at .frame) 0) (w .last-halts (startAt at .frame)))

@@ -10,14 +10,14 @@ use Rattle.omf51.specs.declared.End.the-variants.{At, Stop, Refused}
 use Rattle.omf51.specs.declared.Definition.{Definition}
 use Rattle.omf51.specs.declared.Fixup.{Fixup}
 use Rattle.omf51.specs.declared.entry.Entries.the-variants.{Definitions, Fixups}
-use Rattle.omf51.specs.Reader.{Outcome, read, stop, refused}
+use Rattle.omf51.specs.Reader.{ReadOutcome, read, stop, refused}
 use Rattle.omf51.specs.Record.{expected}
 use Rattle.omf51.specs.Entry.{definitionAt, fixupAt}
 use Rattle.omf51.specs.Module.{fills, Section, definitionsAt, fixupsAt, sectionsAt}
 use Rattle.omf51.specs.Ends.{endOf}
-use Rattle.library.specs.Found.{found, followed}
-use Rattle.library.specs.RepeatLaws.{Moved, found-turn}
-use Rattle.library.specs.EndLaws.{Halts, MovedEnd, found-none}
+use Rattle.library.specs.Gathered.{itemsAt, followed}
+use Rattle.library.specs.RepeatLaws.{Moved, items-turn}
+use Rattle.library.specs.EndLaws.{Halts, MovedEnd, items-none}
 use Rattle.library.specs.Passes.{holds}
 use Rattle.library.specs.PassLaws.{definitions-move, fixups-move}
 use Rattle.library.specs.SectionLaws.{sections-move, section-moved}
@@ -40,7 +40,7 @@ use Rattle.library.specs.items.EnterLaws.{enter}
 use Rattle.library.specs.items.LeftLaws.{Walked, unwound, step-yields, start-left}
 
 -- an entry that ends within its body moves, and none stands at the body's end
-ends-within : {A : Type 0} (library : List ℕ) (f : Frame) (at : ℕ) (o : Outcome A) → f .end ≤ length library
+ends-within : {A : Type 0} (library : List ℕ) (f : Frame) (at : ℕ) (o : ReadOutcome A) → f .end ≤ length library
     → ((end : ℕ) → endOf o ≡ At end → (at < end) × (end ≤ f .end)) → Moved library at o
 ends-within library f at (read a next) h room = let r = room next refl in (r .0, omega arith)
 ends-within library f at stop h room = tt
@@ -78,7 +78,7 @@ next-definition-yields library c = step-yields Definitions library _ _ _ (defini
     go (Entry here end) = refl
     go Done = refl
 
-pub definitions-start : (library : List ℕ) (at : ℕ) → definitionsLeft library (startAt at) ≡ found library (definitionsAt library) at
+pub definitions-start : (library : List ℕ) (at : ℕ) → definitionsLeft library (startAt at) ≡ itemsAt library (definitionsAt library) at
 definitions-start library = start-left Definitions library _ _ _ (definitions-walked library)
 
 -- fixups
@@ -108,25 +108,25 @@ next-fixup-yields library c = step-yields Fixups library _ _ _ (fixups-walked li
     go (Entry here end) = refl
     go Done = refl
 
-pub fixups-start : (library : List ℕ) (at : ℕ) → fixupsLeft library (startAt at) ≡ found library (fixupsAt library) at
+pub fixups-start : (library : List ℕ) (at : ℕ) → fixupsLeft library (startAt at) ≡ itemsAt library (fixupsAt library) at
 fixups-start library = start-left Fixups library _ _ _ (fixups-walked library)
 
 -- contents, each with its fixups
 abbrev pub sectionsAfter : List ℕ → NextContent → List Section
-sectionsAfter library (NextContent.Item content fixups rest) = sectionOf content (fixupsLeft library fixups) ++ found library (sectionsAt library) rest
+sectionsAfter library (NextContent.Item content fixups rest) = sectionOf content (fixupsLeft library fixups) ++ itemsAt library (sectionsAt library) rest
 sectionsAfter library NextContent.Done = []
 
-seek-yields : (n : ℕ) (library : List ℕ) (at : ℕ) → length library - at < n → found library (sectionsAt library) at ≡ sectionsAfter library (seek n library at)
+seek-yields : (n : ℕ) (library : List ℕ) (at : ℕ) → length library - at < n → itemsAt library (sectionsAt library) at ≡ sectionsAfter library (seek n library at)
 unfolding seek
 seek-yields zero library at h = absurd (omega arith)
 seek-yields (suc n) library at h = section (endOf (sectionsAt library at)) refl (seek-yields n library)
   where
-    turn : {o : Outcome (List Section)} → sectionsAt library at ≡ o → found library (sectionsAt library) at ≡ followed (found library (sectionsAt library)) o
-    turn e = found-turn library (sectionsAt library) (sections-move library) at e
+    turn : {o : ReadOutcome (List Section)} → sectionsAt library at ≡ o → itemsAt library (sectionsAt library) at ≡ followed (itemsAt library (sectionsAt library)) o
+    turn e = items-turn library (sectionsAt library) (sections-move library) at e
 
-    content : (next : ℕ) → endOf (sectionsAt library at) ≡ At next → ((k : ℕ) → length library - k < n → found library (sectionsAt library) k ≡ sectionsAfter library (seek n library k))
-        → (o : Outcome Frame) → expected library fills at ≡ o
-        → found library (sectionsAt library) at ≡ sectionsAfter library (contentOr library (seek n library next) next o)
+    content : (next : ℕ) → endOf (sectionsAt library at) ≡ At next → ((k : ℕ) → length library - k < n → itemsAt library (sectionsAt library) k ≡ sectionsAfter library (seek n library k))
+        → (o : ReadOutcome Frame) → expected library fills at ≡ o
+        → itemsAt library (sectionsAt library) at ≡ sectionsAfter library (contentOr library (seek n library next) next o)
     content next e rest (read f k) q = turn (section-passed library at q e .is) ∙ rw (fixups-start library k)
     content next e rest stop q =
         let m : MovedEnd library at (At next) = section-moved library at e in
@@ -135,11 +135,11 @@ seek-yields (suc n) library at h = section (endOf (sectionsAt library at)) refl 
         let m : MovedEnd library at (At next) = section-moved library at e in
         turn (section-skipped library at (subst Absent (sym q) tt) e) ∙ rest next (omega (arith, m, h))
 
-    section : (e : End) → endOf (sectionsAt library at) ≡ e → ((k : ℕ) → length library - k < n → found library (sectionsAt library) k ≡ sectionsAfter library (seek n library k))
-        → found library (sectionsAt library) at ≡ sectionsAfter library (afterSection library (seek n library) (expected library fills at) e)
+    section : (e : End) → endOf (sectionsAt library at) ≡ e → ((k : ℕ) → length library - k < n → itemsAt library (sectionsAt library) k ≡ sectionsAfter library (seek n library k))
+        → itemsAt library (sectionsAt library) at ≡ sectionsAfter library (afterSection library (seek n library) (expected library fills at) e)
     section (At next) e rest = content next e rest (expected library fills at) refl
-    section Stop e rest = found-none library (sectionsAt library) (sections-move library) at e tt
-    section (Refused r) e rest = found-none library (sectionsAt library) (sections-move library) at e tt
+    section Stop e rest = items-none library (sectionsAt library) (sections-move library) at e tt
+    section (Refused r) e rest = items-none library (sectionsAt library) (sections-move library) at e tt
 
-pub next-content-yields : (library : List ℕ) (at : ℕ) → found library (sectionsAt library) at ≡ sectionsAfter library (nextContent library at)
+pub next-content-yields : (library : List ℕ) (at : ℕ) → itemsAt library (sectionsAt library) at ≡ sectionsAfter library (nextContent library at)
 next-content-yields library at = seek-yields (suc (length library)) library at (omega arith)

@@ -33,7 +33,7 @@ asksOf there (Goal.Segment number) (At t) = true
 asksOf there (Goal.Name name) (At t) = there t name
 
 abbrev pub bearsOut : (ℕ → Part → Bool) → List ℕ → Rules → ℕ → Reference → Bool
-bearsOut there cells rules found r = asksOf there (r .goal) (target cells rules (found + r .place) (r .kind) (r .offset))
+bearsOut there cells rules base r = asksOf there (r .goal) (target cells rules (base + r .place) (r .kind) (r .offset))
 
 -- the references of the segment of a number, none where there is no such segment
 abbrev pub referencesOf : List ℕ → List ℕ → ℕ → ℕ → List Reference
@@ -50,7 +50,7 @@ isNotedRow library noted goals row = isFound library 6 noted goals (row .positio
 -- all public references of a match ask for what is there; and the grade of a row, 0 for a symbol that is dropped
 module _ (cells library : List ℕ) (rules : Rules) (segments references : List ℕ) (n : ℕ) (placed positions : List ℕ) where
   abbrev pub isBorne : ℕ → ℕ → Bool
-  isBorne i found = all (bearsOut (isFound library 8 placed positions) cells rules found) (referencesOf segments references n i)
+  isBorne i base = all (bearsOut (isFound library 8 placed positions) cells rules base) (referencesOf segments references n i)
 
   abbrev pub rowGrade : List ℕ → List ℕ → Placed → ℕ
-  rowGrade noted goals row = gradeBy (row .valid) (isNotedRow library noted goals row) (isBorne (row .segment .0) (row .found))
+  rowGrade noted goals row = gradeBy (row .valid) (isNotedRow library noted goals row) (isBorne (row .segment .0) (row .base))

@@ -95,17 +95,17 @@ module _ (library cells : List ℕ) (a : Asked) (segments references symbols byt
   pub found-noted : (at : ℕ) (name : Part) → isFound library 6 noted goals at name ≡ isNoted library ns at name
   found-noted at name = sym (found-any notedSheet library noted-reads ns (sought .notings) refl at name)
 
-  borne-is : (p : Placing) → isBorne cells library (a .rules) segments references n placed positions (p .segment) (p .found) ≡ borneOut library cells a gs ps ns p
+  borne-is : (p : Placing) → isBorne cells library (a .rules) segments references n placed positions (p .segment) (p .base) ≡ borneOut library cells a gs ps ns p
   unfolding notes
   borne-is p =
       let g = getD gs (p .segment) noSegment in
-      ap (λ rs. all (bearsOut (isFound library 8 placed positions) cells (a .rules) (p .found)) rs) (references-are segments references symbols bytes masks n (p .segment))
-      ∙ ap (λ there. all (bearsOut there cells (a .rules) (p .found)) (g .references)) found-placed
-      ∙ sym (notes-ask (isPlaced library ps) cells a (p .found) (isValid a g) (g .references))
+      ap (λ rs. all (bearsOut (isFound library 8 placed positions) cells (a .rules) (p .base)) rs) (references-are segments references symbols bytes masks n (p .segment))
+      ∙ ap (λ there. all (bearsOut there cells (a .rules) (p .base)) (g .references)) found-placed
+      ∙ sym (notes-ask (isPlaced library ps) cells a (p .base) (isValid a g) (g .references))
 
   pub grade-is : (p : Placing) (link alike : ℕ) → rowGrade cells library (a .rules) segments references n placed positions noted goals (placedSheet .row p link alike)
       ≡ (if p .valid || isNoted library ns (p .position) (p .name) then grade library cells a gs ps ns p else 0)
   unfolding grade
   grade-is p link alike =
-      ap (λ t. gradeBy (p .valid) t (isBorne cells library (a .rules) segments references n placed positions (p .segment) (p .found))) (found-noted (p .position) (p .name))
+      ap (λ t. gradeBy (p .valid) t (isBorne cells library (a .rules) segments references n placed positions (p .segment) (p .base))) (found-noted (p .position) (p .name))
       ∙ ap (gradeBy (p .valid) (isNoted library ns (p .position) (p .name))) (borne-is p)

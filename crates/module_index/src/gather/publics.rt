@@ -1,7 +1,7 @@
 // The public definitions of a module: the id of each, and where it is read again.
 ghost use Rattle.lent.specs.Lists.{keep};
 ghost use Rattle.omf51.specs.Module.{definitionsAt};
-ghost use Rattle.library.specs.Found.{found};
+ghost use Rattle.library.specs.Gathered.{itemsAt};
 ghost use Rattle.module_index.specs.gather.Places.{publicKey, PublicIs, noDefinition, isPublicDefinition};
 ghost use Rattle.module_index.specs.gather.Into.{Roomy, GatheredInto};
 use library::items::NextDefinition;
@@ -12,7 +12,7 @@ use omf51::Definition;
 // Stores the id and the place of each public definition from a place on, and answers how many there are.
 pub fn gather_publics(library: &[u8], from: usize, keys: &mut [u16], places: &mut [u32]) -> usize
     requires { ⌜ Roomy 5 (now library) (now keys) (now places) ⌝ }
-    ensures { λ r. ⌜ GatheredInto publicKey (PublicIs (now (library .entry))) noDefinition (keep isPublicDefinition (found (now (library .entry)) (definitionsAt (now (library .entry))) from)) (now (keys .entry)) (now (places .entry)) (now (keys .exit)) (now (places .exit)) r ⌝ }
+    ensures { λ r. ⌜ GatheredInto publicKey (PublicIs (now (library .entry))) noDefinition (keep isPublicDefinition (itemsAt (now (library .entry)) (definitionsAt (now (library .entry))) from)) (now (keys .entry)) (now (places .entry)) (now (keys .exit)) (now (places .exit)) r ⌝ }
 {
     let mut c = start(from);
     let mut n = 0;

@@ -1,6 +1,6 @@
 // The contents of a module: the id of each, and where it is sought.
 ghost use Rattle.omf51.specs.Module.{sectionsAt};
-ghost use Rattle.library.specs.Found.{found};
+ghost use Rattle.library.specs.Gathered.{itemsAt};
 ghost use Rattle.module_index.specs.gather.Places.{sectionKey, SectionIs, noSection};
 ghost use Rattle.module_index.specs.gather.Into.{Roomy, GatheredInto};
 use library::items::NextContent;
@@ -9,7 +9,7 @@ use library::items::contents::next_content;
 // Stores the id and the place of each content from a place on, and answers how many there are.
 pub fn gather_sections(library: &[u8], from: usize, keys: &mut [u16], places: &mut [u32]) -> usize
     requires { ⌜ Roomy 7 (now library) (now keys) (now places) ⌝ }
-    ensures { λ r. ⌜ GatheredInto sectionKey (SectionIs (now (library .entry))) noSection (found (now (library .entry)) (sectionsAt (now (library .entry))) from) (now (keys .entry)) (now (places .entry)) (now (keys .exit)) (now (places .exit)) r ⌝ }
+    ensures { λ r. ⌜ GatheredInto sectionKey (SectionIs (now (library .entry))) noSection (itemsAt (now (library .entry)) (sectionsAt (now (library .entry))) from) (now (keys .entry)) (now (places .entry)) (now (keys .exit)) (now (places .exit)) r ⌝ }
 {
     let mut at = from;
     let mut n = 0;

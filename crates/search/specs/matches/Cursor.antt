@@ -12,8 +12,8 @@ use Rattle.image.specs.declared.Stretch.{Stretch}
 use Rattle.image.specs.View.{view}
 use Rattle.image.specs.Match.{matchesAt, matches}
 use Rattle.image.specs.Next.{matchesFrom}
-use Rattle.search.specs.declared.matches.Cursor.{Cursor}
-use Rattle.search.specs.declared.matches.Cursor.the-variants.{Along, Plain, Once, Over}
+use Rattle.search.specs.declared.matches.MatchCursor.{MatchCursor}
+use Rattle.search.specs.declared.matches.MatchCursor.the-variants.{Along, Plain, Once, Over}
 use Rattle.search.specs.declared.matches.Next.{Next}
 use Rattle.search.specs.declared.matches.Next.the-variants.{At, Done}
 use Rattle.search.specs.byte_index.Index.{Nexts}
@@ -24,7 +24,7 @@ abbrev pub leftAlong : List ℕ → List ℕ → List ℕ → ℕ → ℕ → Li
 leftAlong cells bytes masks anchor link = if eqb link 0 then [] else matchesFrom cells bytes masks (link - 1 - anchor)
 
 -- the matches that are left, ascending
-abbrev pub placesLeft : List ℕ → List ℕ → List ℕ → Cursor → List ℕ
+abbrev pub placesLeft : List ℕ → List ℕ → List ℕ → MatchCursor → List ℕ
 placesLeft cells bytes masks (Along anchor link) = leftAlong cells bytes masks anchor link
 placesLeft cells bytes masks (Plain at) = matchesFrom cells bytes masks at
 placesLeft cells bytes masks (Once at) = keep (matchesAt cells bytes masks) (one at)
@@ -39,14 +39,14 @@ pub record SoundAlong (image bytes masks : List ℕ) (anchor link : ℕ) : Type 
   pub anchored : Anchor bytes masks anchor
   pub leads : Leads image (getD bytes anchor 0) link
 
-abbrev pub Sound : List ℕ → List ℕ → List ℕ → Cursor → Type 0
+abbrev pub Sound : List ℕ → List ℕ → List ℕ → MatchCursor → Type 0
 Sound image bytes masks (Along anchor link) = SoundAlong image bytes masks anchor link
 Sound image bytes masks (Plain at) = Unit
 Sound image bytes masks (Once at) = Unit
 Sound image bytes masks Over = Unit
 
 -- at the start all matches are left, whatever is withheld
-pub record Started (image : List ℕ) (seat : Seat) (bytes masks : List ℕ) (c : Cursor) : Type 0 where
+pub record Started (image : List ℕ) (seat : Seat) (bytes masks : List ℕ) (c : MatchCursor) : Type 0 where
   pub sound : Sound image bytes masks c
   pub all : (s : Stretch) → placesLeft (view image s) bytes masks c ≡ matches (view image s) seat bytes masks
 
@@ -55,16 +55,16 @@ pub record Walk (image bytes masks next : List ℕ) (anchor link : ℕ) : Type 0
   pub nexts : Nexts image next
   pub sound : SoundAlong image bytes masks anchor link
 
-pub record Search (image bytes masks next : List ℕ) (c : Cursor) : Type 0 where
+pub record Search (image bytes masks next : List ℕ) (c : MatchCursor) : Type 0 where
   pub nexts : Nexts image next
   pub sound : Sound image bytes masks c
 
 -- what a step leaves: the first of the matches left and a search of the others, or none was left
-pub record Reached (image : List ℕ) (s : Stretch) (bytes masks : List ℕ) (c : Cursor) (at : ℕ) (rest : Cursor) : Type 0 where
+pub record Reached (image : List ℕ) (s : Stretch) (bytes masks : List ℕ) (c : MatchCursor) (at : ℕ) (rest : MatchCursor) : Type 0 where
   pub places : placesLeft (view image s) bytes masks c ≡ at ∷ placesLeft (view image s) bytes masks rest
   pub matched : matchesAt (view image s) bytes masks at ≡ true
   pub sound : Sound image bytes masks rest
 
-abbrev pub Stepped : List ℕ → Stretch → List ℕ → List ℕ → Cursor → Next → Type 0
+abbrev pub Stepped : List ℕ → Stretch → List ℕ → List ℕ → MatchCursor → Next → Type 0
 Stepped image s bytes masks c (At at rest) = Reached image s bytes masks c at rest
 Stepped image s bytes masks c Done = placesLeft (view image s) bytes masks c ≡ []

@@ -9,8 +9,8 @@ use lib.Dec.{eqb}
 use lib.ListN.{length, getD}
 use Rattle.lent.specs.Choice.{if_then_else_}
 use Rattle.lent.specs.Lists.{keep}
-use Rattle.image.specs.declared.Found.{Found}
-use Rattle.image.specs.declared.Found.the-variants.{At as FoundAt, Nothing}
+use Rattle.image.specs.declared.FirstPlace.{FirstPlace}
+use Rattle.image.specs.declared.FirstPlace.the-variants.{At as FoundAt, Nothing}
 use Rattle.image.specs.declared.Seat.the-variants.{Anywhere, Only}
 use Rattle.image.specs.declared.Stretch.{Stretch}
 use Rattle.image.specs.View.{view}
@@ -20,8 +20,8 @@ use Rattle.image.specs.MatchLaws.{matches-at}
 use Rattle.image.specs.Next.{matchesFrom, nextMatch}
 use Rattle.image.specs.NextLaws.{matches-from-0, from-match, from-other, from-past, next-match, next-other, next-past}
 use Rattle.tables.specs.links.Index.{linkFrom}
-use Rattle.search.specs.declared.matches.Cursor.{Cursor}
-use Rattle.search.specs.declared.matches.Cursor.the-variants.{Along, Plain, Once, Over}
+use Rattle.search.specs.declared.matches.MatchCursor.{MatchCursor}
+use Rattle.search.specs.declared.matches.MatchCursor.the-variants.{Along, Plain, Once, Over}
 use Rattle.search.specs.declared.matches.Next.{Next}
 use Rattle.search.specs.declared.matches.Next.the-variants.{At, Done}
 use Rattle.search.specs.byte_index.Index.{Heads, Nexts}
@@ -121,11 +121,11 @@ module _ (image : List ℕ) (s : Stretch) (bytes masks next : List ℕ) (anchor 
 
 -- a step that tries each place: the next match is the first of those left
 module _ (cells bytes masks : List ℕ) where
-  abbrev Listed : ℕ → Found → Type 0
+  abbrev Listed : ℕ → FirstPlace → Type 0
   Listed from (FoundAt at) = (matchesFrom cells bytes masks from ≡ at ∷ matchesFrom cells bytes masks (at + 1)) × (matchesAt cells bytes masks at ≡ true)
   Listed from Nothing = matchesFrom cells bytes masks from ≡ []
 
-  listed-on : (from : ℕ) (f : Found) → matchesFrom cells bytes masks from ≡ matchesFrom cells bytes masks (from + 1) → Listed (from + 1) f → Listed from f
+  listed-on : (from : ℕ) (f : FirstPlace) → matchesFrom cells bytes masks from ≡ matchesFrom cells bytes masks (from + 1) → Listed (from + 1) f → Listed from f
   listed-on from (FoundAt at) e l = (e ∙ l .0, l .1)
   listed-on from Nothing e l = e ∙ l
 
@@ -139,7 +139,7 @@ module _ (cells bytes masks : List ℕ) where
           rw (next-other cells bytes masks from (omega arith) q)
           (listed-on from (nextMatch cells bytes masks (from + 1)) (from-other cells bytes masks from (omega arith) q) rest)
 
-  listed : (from : ℕ) {f : Found} → nextMatch cells bytes masks from ≡ f → Listed from f
+  listed : (from : ℕ) {f : FirstPlace} → nextMatch cells bytes masks from ≡ f → Listed from f
   listed from e = subst (Listed from) e (listed-from (length cells + 1 - from) from refl)
 
 module _ (image : List ℕ) (s : Stretch) (bytes masks : List ℕ) where
@@ -159,14 +159,14 @@ module _ (image : List ℕ) (s : Stretch) (bytes masks : List ℕ) where
   once-done at e = rw e
 
   -- for whoever goes over the matches: what a step has reached, that fewer are left after it, and where it ends
-  module _ (c : Cursor) where
-    pub stepped-at : {r : Next} {at : ℕ} {rest : Cursor} → r ≡ At at rest → Stepped image s bytes masks c r → Reached image s bytes masks c at rest
+  module _ (c : MatchCursor) where
+    pub stepped-at : {r : Next} {at : ℕ} {rest : MatchCursor} → r ≡ At at rest → Stepped image s bytes masks c r → Reached image s bytes masks c at rest
     stepped-at e p = subst (Stepped image s bytes masks c) e p
 
     pub stepped-done : {r : Next} → r ≡ Done → Stepped image s bytes masks c r → placesLeft (view image s) bytes masks c ≡ []
     stepped-done e p = subst (Stepped image s bytes masks c) e p
 
-    module _ {at : ℕ} {rest : Cursor} (p : Reached image s bytes masks c at rest) where
+    module _ {at : ℕ} {rest : MatchCursor} (p : Reached image s bytes masks c at rest) where
       pub reached-fits : at + length bytes ≤ length image
       reached-fits = omega (arith, matches-at (view image s) bytes masks at .0 (p .matched) .fits, view-length image s)
 

@@ -2,7 +2,7 @@
 ghost use Prim.Native.Nat.{_≤_};
 ghost use lib.ListN.{length};
 ghost use Rattle.search.specs.byte_index.Anchor.{Anchored};
-use image::Found;
+use image::FirstPlace;
 
 fn lesser(a: usize, b: usize) -> usize
     ensures { λ r. ⌜ r ≤ a ⌝ }
@@ -12,7 +12,7 @@ fn lesser(a: usize, b: usize) -> usize
 
 // The place of the byte that is compared whole and is rarest in the image, of those that stand there less than `most` times. One
 // that stands there less than 4 times is rare enough, and so is one that stands there not more often than bytes were looked at.
-pub fn anchor(bytes: &[u8], masks: &[u8], first: &[u32], most: usize) -> Found
+pub fn anchor(bytes: &[u8], masks: &[u8], first: &[u32], most: usize) -> FirstPlace
     requires { ⌜ 512 ≤ length (now first) ⌝ }
     ensures { λ r. ⌜ Anchored (now (bytes .entry)) (now (masks .entry)) r ⌝ }
 {
@@ -29,7 +29,7 @@ pub fn anchor(bytes: &[u8], masks: &[u8], first: &[u32], most: usize) -> Found
             let count = first[256 + bytes[i] as usize] as usize;
             if count < rarest {
                 if count < 4 {
-                    return Found::At(i);
+                    return FirstPlace::At(i);
                 }
                 rarest = count;
                 place = i;
@@ -39,7 +39,7 @@ pub fn anchor(bytes: &[u8], masks: &[u8], first: &[u32], most: usize) -> Found
         i += 1;
     }
     if place < n {
-        return Found::At(place);
+        return FirstPlace::At(place);
     }
-    Found::Nothing
+    FirstPlace::Nothing
 }

@@ -1,6 +1,6 @@
 // The public definitions of id 0: the offset of each, and where it is read again.
 ghost use Rattle.omf51.specs.Module.{definitionsAt};
-ghost use Rattle.library.specs.Found.{found};
+ghost use Rattle.library.specs.Gathered.{itemsAt};
 ghost use Rattle.module_index.specs.gather.Places.{PublicIs, noDefinition};
 ghost use Rattle.module_index.specs.gather.Into.{Roomy, GatheredInto};
 ghost use Rattle.module_index.specs.Indexed.{Blank};
@@ -14,7 +14,7 @@ use tables::links::link;
 // Stores the offset and the place of each public definition of id 0 from a place on, and answers how many there are.
 fn gather_offsets(library: &[u8], from: usize, keys: &mut [u16], places: &mut [u32]) -> usize
     requires { ⌜ Roomy 5 (now library) (now keys) (now places) ⌝ }
-    ensures { λ r. ⌜ GatheredInto offsetKey (PublicIs (now (library .entry))) noDefinition (zeroPublics (found (now (library .entry)) (definitionsAt (now (library .entry))) from)) (now (keys .entry)) (now (places .entry)) (now (keys .exit)) (now (places .exit)) r ⌝ }
+    ensures { λ r. ⌜ GatheredInto offsetKey (PublicIs (now (library .entry))) noDefinition (zeroPublics (itemsAt (now (library .entry)) (definitionsAt (now (library .entry))) from)) (now (keys .entry)) (now (places .entry)) (now (keys .exit)) (now (places .exit)) r ⌝ }
 {
     let mut c = start(from);
     let mut n = 0;
@@ -47,7 +47,7 @@ pub fn index_offsets(
     next: &mut [u32],
 ) -> usize
     requires { ⌜ Blank 5 (now library) (now keys) (now places) (now first) (now next) ⌝ }
-    ensures { λ r. ⌜ OffsetsIndexed (now (library .entry)) (zeroPublics (found (now (library .entry)) (definitionsAt (now (library .entry))) from)) (now (keys .entry)) (now (places .entry)) (now (first .entry)) (now (next .entry)) (now (keys .exit)) (now (places .exit)) (now (first .exit)) (now (next .exit)) r ⌝ }
+    ensures { λ r. ⌜ OffsetsIndexed (now (library .entry)) (zeroPublics (itemsAt (now (library .entry)) (definitionsAt (now (library .entry))) from)) (now (keys .entry)) (now (places .entry)) (now (first .entry)) (now (next .entry)) (now (keys .exit)) (now (places .exit)) (now (first .exit)) (now (next .exit)) r ⌝ }
 {
     let n = gather_offsets(library, from, keys, places);
     link(&keys[0..n], first, next);

@@ -14,8 +14,8 @@ use Rattle.library.specs.items.Contents.{nextContent}
 use Rattle.library.specs.items.ContentSizeLaws.{content-goes}
 use Rattle.tables.specs.links.FollowLaws.{follows-step}
 use Rattle.segment_parts.specs.SectionLaws.{section-met, none-met}
-use Rattle.collect.specs.declared.stored.Counts.{Counts}
-use Rattle.collect.specs.stored.Stores.{Lists, Stores, After, SameLengths}
+use Rattle.collect.specs.declared.stored.CollectCounts.{CollectCounts}
+use Rattle.collect.specs.stored.Stores.{CollectLists, Stores, After, SameLengths}
 use Rattle.collect.specs.stored.ProgressLaws.{same-lengths, lengths-on}
 use Rattle.collect.specs.stored.Segments.{lists, absoluteOf, publicsOf, ownBy}
 use Rattle.collect.specs.stored.SegmentLaws.{absolute-by}
@@ -28,7 +28,7 @@ use borrow.Author.Needs.{needs}
 use Rattle.collect.proofs.absolute.store_absolutes.Statement.{statement}
 use Rattle.collect.proofs.absolute.store_absolutes.Tie as tie
 
-record Inv (library : List ℕ) (own : Bool) (number : ℕ) (table first next places keys : List ℕ) (n : ℕ) (entries heads onward apart₀ flags₀ apart flags : List ℕ) (c₀ : Counts) (l₀ l : Lists) (last here : ℕ) (c : Counts) : Type 0 where
+record Inv (library : List ℕ) (own : Bool) (number : ℕ) (table first next places keys : List ℕ) (n : ℕ) (entries heads onward apart₀ flags₀ apart flags : List ℕ) (c₀ : CollectCounts) (l₀ l : CollectLists) (last here : ℕ) (c : CollectCounts) : Type 0 where
   long : SameLengths l₀ l
   apart-long : length apart ≡ length apart₀
   flags-long : length flags ≡ length flags₀

@@ -1,7 +1,7 @@
 -- `conclude` tells the three ends apart: no room, refused, done. Assumes nothing.
 use mathlib.Core.Path.{sym, subst, _∙_}
 use Rattle.omf51.specs.Module.{moduleAt}
-use Rattle.library.specs.Found.{found}
+use Rattle.library.specs.Gathered.{itemsAt}
 use Rattle.segments.specs.Collect.{collect}
 use Rattle.segments.specs.Refuse.{collectRefusal}
 use Rattle.module_ids.specs.fault.ScanLaws.{told}
@@ -32,7 +32,7 @@ returns c =
     let a = c .before .before .before .before .before .before .before .before .before .before .before .before .before .before .before .before .before .before .before .before .before .before .before .before .before .args in
     let lib = a .library .now in
     let after = lists (a .segments .now) (a .references .now) (a .symbols .now) (a .bytes .now) (a .masks .now) in
-    let modules = found lib (moduleAt lib) (a .from) in
+    let modules = itemsAt lib (moduleAt lib) (a .from) in
     record { concludes = λ rules l n s. lacks-is rules lib modules l after (c .before .before .before .before .before .before .before .before .before .before .before .before .before .before .before .before .before .before .before .before .before .before .before .before .before .pre .1) n (subst (After (collect rules lib modules) after) (c .before .before .before .before .before .before .before .before .before .before .before .before .before .before .before .before .enum-told .given .1) s) (c .before .before .before .before .before .before .before .before .before .before .clear-all .ensures) }
 
 scan-requires : tie.Need-scan-requires
@@ -61,7 +61,7 @@ returns-2 c =
     let a = c .before .before .before .before .before .before .before .before .before .before .before .before .before .before .before .before .before .before .before .before .before .before .before .before .before .before .before .before .before .before .before .before .before .args in
     let lib = a .library .now in
     let after = lists (a .segments .now) (a .references .now) (a .symbols .now) (a .bytes .now) (a .masks .now) in
-    let modules = found lib (moduleAt lib) (a .from) in
+    let modules = itemsAt lib (moduleAt lib) (a .from) in
     record { concludes = λ rules l n s. refused-is rules lib modules l after (c .before .before .before .before .before .before .before .before .before .before .before .before .before .before .before .before .before .before .before .before .before .before .before .before .before .before .before .before .before .before .before .before .before .pre .1) n (subst (After (collect rules lib modules) after) (c .before .before .before .before .before .before .before .before .before .before .before .before .before .before .before .before .before .before .before .before .before .before .before .before .stored .given .1) s) (told {o = collectRefusal modules} (sym (c .before .before .before .before .before .before .before .before .before .before .before .before .before .before .before .before .before .before .before .before .before .scan .ensures .says) ∙ c .before .before .before .before .before .before .before .before .before .before .before .before .before .before .before .before .before .verdict .given .1)) (c .before .before .before .before .before .before .before .before .before .before .clear-all2 .ensures) }
 
 same-length-12 : tie.Need-same-length-12
@@ -72,7 +72,7 @@ returns-3 c =
     let a = c .before .before .before .before .before .before .before .before .before .before .before .before .before .before .before .before .args in
     let lib = a .library .now in
     let after = lists (a .segments .now) (a .references .now) (a .symbols .now) (a .bytes .now) (a .masks .now) in
-    let modules = found lib (moduleAt lib) (a .from) in
+    let modules = itemsAt lib (moduleAt lib) (a .from) in
     record { concludes = λ rules l n s. done-is rules lib modules l after (c .before .before .before .before .before .before .before .before .before .before .before .before .before .before .before .before .pre .1) n (subst (After (collect rules lib modules) after) (c .before .before .before .before .before .before .before .stored .given .1) s) (told {o = collectRefusal modules} (sym (c .before .before .before .before .scan .ensures .says) ∙ c .enum-told2 .given .1)) }
 
 pub conclude-spec : {M : Type 1} → statement M

@@ -2,7 +2,7 @@
 use mathlib.Core.Path.{_∙_}
 use native.Mathlib.Omega.{arith}
 use Rattle.omf51.specs.Module.{moduleAt}
-use Rattle.library.specs.Found.{found}
+use Rattle.library.specs.Gathered.{itemsAt}
 use Rattle.collect.specs.stored.ProgressLaws.{lengths-on}
 use Rattle.collect.specs.stored.Segments.{lists}
 use Rattle.collect.specs.EndLaws.{long-is, zeroed-stores, zeroed-lengths}
@@ -12,7 +12,7 @@ use Rattle.collect.proofs.entry.collect.Statement.{statement}
 use Rattle.collect.proofs.entry.collect.Tie as tie
 
 returns : tie.Need-returns
-returns c = let a = c .before .before .before .before .before .before .before .args in long-is (a .rules) (a .library .now) (found (a .library .now) (moduleAt (a .library .now)) (a .from)) (lists (a .segments .now) (a .references .now) (a .symbols .now) (a .bytes .now) (a .masks .now)) (omega (arith, c .if1 .taken))
+returns c = let a = c .before .before .before .before .before .before .before .args in long-is (a .rules) (a .library .now) (itemsAt (a .library .now) (moduleAt (a .library .now)) (a .from)) (lists (a .segments .now) (a .references .now) (a .symbols .now) (a .bytes .now) (a .masks .now)) (omega (arith, c .if1 .taken))
 
 store-requires : tie.Need-store-requires
 store-requires c κs =

@@ -6,14 +6,14 @@ use native.Mathlib.Omega.{arith}
 use lib.ListN.{length}
 use denote.Ref.{now}
 use Rattle.omf51.specs.Module.{Module, definitionsAt}
-use Rattle.library.specs.Found.{found}
+use Rattle.library.specs.Gathered.{itemsAt}
 use Rattle.library.specs.declared.items.Cursor.{Cursor}
 use Rattle.library.specs.items.Left.{definitionsLeft}
 use Rattle.library.specs.items.Yields.{definitionsAfter, next-definition-yields, definitions-start}
 use Rattle.segments.specs.Collect.{Collected}
 use Rattle.module_index.specs.Indexed.{Indexed}
-use Rattle.collect.specs.declared.stored.Counts.{Counts}
-use Rattle.collect.specs.stored.Stores.{Lists, Stores, SameLengths}
+use Rattle.collect.specs.declared.stored.CollectCounts.{CollectCounts}
+use Rattle.collect.specs.stored.Stores.{CollectLists, Stores, SameLengths}
 use Rattle.collect.specs.stored.StoreLaws.{stored-count}
 use Rattle.collect.specs.stored.Progress.{Progress}
 use Rattle.collect.specs.stored.ProgressLaws.{progress-starts, progress-ends, same-lengths, lengths-on}
@@ -24,10 +24,10 @@ use borrow.Author.Needs.{needs}
 use Rattle.collect.proofs.kept.store_keeps.Statement.{statement}
 use Rattle.collect.proofs.kept.store_keeps.Tie as tie
 
-record Inv (library : List ℕ) (from : ℕ) (table first next places heads onward entries apart₀ apart : List ℕ) (c₀ : Counts) (l₀ l : Lists) (at : Cursor) (c : Counts) : Type 0 where
+record Inv (library : List ℕ) (from : ℕ) (table first next places heads onward entries apart₀ apart : List ℕ) (c₀ : CollectCounts) (l₀ l : CollectLists) (at : Cursor) (c : CollectCounts) : Type 0 where
   long : SameLengths l₀ l
   apart-long : length apart ≡ length apart₀
-  progress : (m : Module) (gs : List Collected) → m .definitions ≡ found library (definitionsAt library) from → Indexed library m table first next places heads onward entries → Stores gs l₀ c₀
+  progress : (m : Module) (gs : List Collected) → m .definitions ≡ itemsAt library (definitionsAt library) from → Indexed library m table first next places heads onward entries → Stores gs l₀ c₀
       → Progress gs (keptSegments library m (c₀ .segments)) (keptRest library m (c₀ .segments) (c .segments - c₀ .segments) (definitionsLeft library at)) l c
 
 abbrev Inv-loop : tie.InvT-loop

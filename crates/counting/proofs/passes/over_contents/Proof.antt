@@ -2,7 +2,7 @@
 use mathlib.Core.Path.{sym, _∙_}
 use lib.ListN.{length}
 use Rattle.omf51.specs.Module.{sectionsAt}
-use Rattle.library.specs.Found.{found}
+use Rattle.library.specs.Gathered.{itemsAt}
 use Rattle.library.specs.items.Fewer.{fewer-sections}
 use borrow.Author.Needs.{needs}
 use Rattle.counting.proofs.passes.over_contents.Statement.{statement}
@@ -12,7 +12,7 @@ abbrev Inv-loop : tie.InvT-loop
 Inv-loop library contents sum₀ at₀ sum at = Unit
 
 abbrev μ-loop : tie.MeasureT-loop
-μ-loop library contents sum₀ at₀ sum at = length (found library (sectionsAt library) at)
+μ-loop library contents sum₀ at₀ sum at = length (itemsAt library (sectionsAt library) at)
 
 loop-less : tie.Need-loop-less Inv-loop μ-loop
 loop-less c = fewer-sections (c .before .before .before .before .before .before .before .before .before .before .args .library .now) (c .before .before .before .before .before .before .before .before .loop .at) (sym (c .before .before .before .before .before .before .before .next-content .ensures) ∙ c .before .before .before .before .before .content .given .1)

@@ -5,11 +5,11 @@ use Rattle.libfind.proofs.entry.find_collected.Tie as tie
 use mathlib.Core.Path.{sym, ap, _∙_}
 use Rattle.image.specs.View.{view}
 use Rattle.search.specs.visit.Visits.{stored}
-use Rattle.listing.specs.Outcome.{Lists, found}
+use Rattle.listing.specs.Outcome.{FindLists, findOutcome}
 use Rattle.run.specs.Run.{lentLists}
 use Rattle.libfind.specs.Ends.{givenLists, concluded}
 
-abbrev lent : tie.Start → Lists
+abbrev lent : tie.Start → FindLists
 lent c = let a = c .args in givenLists (lentLists (a .segments .now) (a .references .now) (a .symbols .now) (a .bytes .now) (a .masks .now) (a .placed .now) (a .noted .now) (a .lines .now))
 
 same-length : tie.Need-same-length
@@ -39,9 +39,9 @@ same-length-8 c = c .before .before .before .before .lines .given
 returns : tie.Need-returns
 returns c = let a = c .before .before .before .before .before .before .before .before .before .before .before .before .before .before .before .before .before .before .before .before .before .before .before .before .before .before .before .before .before .before .before .before .before .before .before .before .before .before .before .args in
     let q = c .before .before .before .before .before .before .before .before .before .before .before .before .before .before .before .before .before .before .before .find in
-    let left : Lists = record { searched = record { stored = stored (q .last .1 .1 .1 .1 .1 .1 .0) (q .last .1 .1 .1 .1 .1 .1 .1 .0) (q .last .1 .1 .1 .1 .1 .1 .1 .1 .0) (q .last .1 .1 .1 .1 .1 .1 .1 .1 .1 .0) (q .last .1 .1 .1 .1 .1 .1 .1 .1 .1 .1 .0); placed = q .last .1 .1 .1 .1 .1 .1 .1 .1 .1 .1 .1 .0; noted = q .last .1 .1 .1 .1 .1 .1 .1 .1 .1 .1 .1 .1 .0 }; lines = q .last .1 .1 .1 .1 .1 .1 .1 .1 .1 .1 .1 .1 .1 .0 } in
+    let left : FindLists = record { searched = record { stored = stored (q .last .1 .1 .1 .1 .1 .1 .0) (q .last .1 .1 .1 .1 .1 .1 .1 .0) (q .last .1 .1 .1 .1 .1 .1 .1 .1 .0) (q .last .1 .1 .1 .1 .1 .1 .1 .1 .1 .0) (q .last .1 .1 .1 .1 .1 .1 .1 .1 .1 .1 .0); placed = q .last .1 .1 .1 .1 .1 .1 .1 .1 .1 .1 .1 .0; noted = q .last .1 .1 .1 .1 .1 .1 .1 .1 .1 .1 .1 .1 .0 }; lines = q .last .1 .1 .1 .1 .1 .1 .1 .1 .1 .1 .1 .1 .1 .0 } in
     ap (λ r. concluded (a .collected) (record { answer = r; left = left })) (sym (c .before .f .given .1))
-    ∙ ap (concluded (a .collected)) (q .ensures ∙ ap (λ x. found (view (a .image .now) (a .settings .stretch)) x (a .settings .skip) (a .library .now) (a .collected .segments) (lent (c .before .before .before .before .before .before .before .before .before .before .before .before .before .before .before .before .before .before .before .before .before .before .before .before .before .before .before .before .before .before .before .before .before .before .before .before .before .before .before))) (c .before .before .before .before .before .before .before .before .before .before .before .before .before .before .before .before .before .before .before .before .before .before .before .before .before .before .before .before .asked-of .ensures))
+    ∙ ap (concluded (a .collected)) (q .ensures ∙ ap (λ x. findOutcome (view (a .image .now) (a .settings .stretch)) x (a .settings .skip) (a .library .now) (a .collected .segments) (lent (c .before .before .before .before .before .before .before .before .before .before .before .before .before .before .before .before .before .before .before .before .before .before .before .before .before .before .before .before .before .before .before .before .before .before .before .before .before .before .before))) (c .before .before .before .before .before .before .before .before .before .before .before .before .before .before .before .before .before .before .before .before .before .before .before .before .before .before .before .before .asked-of .ensures))
 
 same-length-9 : tie.Need-same-length-9
 same-length-9 c = c .before .before .before .before .before .before .before .before .before .before .before .before .before .before .before .before .before .before .segments .given
@@ -70,9 +70,9 @@ same-length-16 c = c .before .before .before .before .lines .given
 returns-2 : tie.Need-returns-2
 returns-2 c = let a = c .before .before .before .before .before .before .before .before .before .before .before .before .before .before .before .before .before .before .before .before .before .before .before .before .before .before .before .before .before .before .before .before .before .before .before .before .before .before .before .args in
     let q = c .before .before .before .before .before .before .before .before .before .before .before .before .before .before .before .before .before .before .before .find in
-    let left : Lists = record { searched = record { stored = stored (q .last .1 .1 .1 .1 .1 .1 .0) (q .last .1 .1 .1 .1 .1 .1 .1 .0) (q .last .1 .1 .1 .1 .1 .1 .1 .1 .0) (q .last .1 .1 .1 .1 .1 .1 .1 .1 .1 .0) (q .last .1 .1 .1 .1 .1 .1 .1 .1 .1 .1 .0); placed = q .last .1 .1 .1 .1 .1 .1 .1 .1 .1 .1 .1 .0; noted = q .last .1 .1 .1 .1 .1 .1 .1 .1 .1 .1 .1 .1 .0 }; lines = q .last .1 .1 .1 .1 .1 .1 .1 .1 .1 .1 .1 .1 .1 .0 } in
+    let left : FindLists = record { searched = record { stored = stored (q .last .1 .1 .1 .1 .1 .1 .0) (q .last .1 .1 .1 .1 .1 .1 .1 .0) (q .last .1 .1 .1 .1 .1 .1 .1 .1 .0) (q .last .1 .1 .1 .1 .1 .1 .1 .1 .1 .0) (q .last .1 .1 .1 .1 .1 .1 .1 .1 .1 .1 .0); placed = q .last .1 .1 .1 .1 .1 .1 .1 .1 .1 .1 .1 .0; noted = q .last .1 .1 .1 .1 .1 .1 .1 .1 .1 .1 .1 .1 .0 }; lines = q .last .1 .1 .1 .1 .1 .1 .1 .1 .1 .1 .1 .1 .1 .0 } in
     ap (λ r. concluded (a .collected) (record { answer = r; left = left })) (sym (c .before .r .given .1))
-    ∙ ap (concluded (a .collected)) (q .ensures ∙ ap (λ x. found (view (a .image .now) (a .settings .stretch)) x (a .settings .skip) (a .library .now) (a .collected .segments) (lent (c .before .before .before .before .before .before .before .before .before .before .before .before .before .before .before .before .before .before .before .before .before .before .before .before .before .before .before .before .before .before .before .before .before .before .before .before .before .before .before))) (c .before .before .before .before .before .before .before .before .before .before .before .before .before .before .before .before .before .before .before .before .before .before .before .before .before .before .before .before .asked-of .ensures))
+    ∙ ap (concluded (a .collected)) (q .ensures ∙ ap (λ x. findOutcome (view (a .image .now) (a .settings .stretch)) x (a .settings .skip) (a .library .now) (a .collected .segments) (lent (c .before .before .before .before .before .before .before .before .before .before .before .before .before .before .before .before .before .before .before .before .before .before .before .before .before .before .before .before .before .before .before .before .before .before .before .before .before .before .before))) (c .before .before .before .before .before .before .before .before .before .before .before .before .before .before .before .before .before .before .before .before .before .before .before .before .before .before .before .before .asked-of .ensures))
 
 pub find-collected-spec : {M : Type 1} → statement M
 find-collected-spec =

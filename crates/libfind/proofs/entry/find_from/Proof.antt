@@ -5,10 +5,10 @@ use Rattle.libfind.proofs.entry.find_from.Tie as tie
 use mathlib.Core.Path.{sym, ap, _∙_}
 use Rattle.image.specs.declared.fixup.Rules.{Rules}
 use Rattle.omf51.specs.Module.{moduleAt}
-use Rattle.library.specs.Found.{found}
-use Rattle.collect.specs.stored.Stores.{Lists}
+use Rattle.library.specs.Gathered.{itemsAt}
+use Rattle.collect.specs.stored.Stores.{CollectLists}
 use Rattle.collect.specs.stored.Segments.{lists}
-use Rattle.collect.specs.Outcome.{Outcome, collection}
+use Rattle.collect.specs.Outcome.{CollectOutcome, collection}
 use Rattle.run.specs.Run.{Lent, lentLists}
 use Rattle.libfind.specs.Ends.{collectable}
 use Rattle.libfind.specs.EndLaws.{refused-collecting, collected-then}
@@ -16,8 +16,8 @@ use Rattle.libfind.specs.EndLaws.{refused-collecting, collected-then}
 abbrev lent : tie.Start → Lent
 lent c = let a = c .args in lentLists (a .segments .now) (a .references .now) (a .symbols .now) (a .bytes .now) (a .masks .now) (a .placed .now) (a .noted .now) (a .lines .now)
 
-abbrev collected : tie.Start → Rules → Outcome
-collected c rules = collection rules (c .args .library .now) (found (c .args .library .now) (moduleAt (c .args .library .now)) (c .args .first)) (collectable (lent c))
+abbrev collected : tie.Start → Rules → CollectOutcome
+collected c rules = collection rules (c .args .library .now) (itemsAt (c .args .library .now) (moduleAt (c .args .library .now)) (c .args .first)) (collectable (lent c))
 
 same-length : tie.Need-same-length
 same-length c = c .before .before .before .before .before .before .before .before .before .before .before .before .before .before .before .segments2 .given ∙ c .before .before .before .before .before .before .before .before .before .before .before .before .before .before .before .before .before .before .before .before .before .before .before .before .before .before .before .before .before .before .before .before .before .before .before .before .before .segments .given
@@ -47,7 +47,7 @@ returns : tie.Need-returns
 returns c = λ b.
     let a = c .before .before .before .before .before .before .before .before .before .before .before .before .before .before .before .before .before .before .before .before .before .before .before .before .before .before .before .before .before .before .before .before .before .before .before .before .before .before .before .before .before .before .before .before .before .before .before .before .before .before .before .before .before .before .before .args in
     let q = c .before .before .before .before .before .before .before .before .before .before .before .before .before .before .before .before .before .before .before .before .before .before .before .before .before .before .before .before .before .before .before .before .before .before .before .before .before .before .collect in
-    let left : Lists = lists (q .last .1 .1 .1 .0) (q .last .1 .1 .1 .1 .0) (q .last .1 .1 .1 .1 .1 .0) (q .last .1 .1 .1 .1 .1 .1 .0) (q .last .1 .1 .1 .1 .1 .1 .1 .0) in
+    let left : CollectLists = lists (q .last .1 .1 .1 .0) (q .last .1 .1 .1 .1 .0) (q .last .1 .1 .1 .1 .1 .0) (q .last .1 .1 .1 .1 .1 .1 .0) (q .last .1 .1 .1 .1 .1 .1 .1 .0) in
     c .before .before .before .before .before .before .before .before .before .before .before .before .before .before .before .before .find-collected .ensures
     ∙ collected-then (a .image .now) (a .library .now) (a .settings) (lent (c .before .before .before .before .before .before .before .before .before .before .before .before .before .before .before .before .before .before .before .before .before .before .before .before .before .before .before .before .before .before .before .before .before .before .before .before .before .before .before .before .before .before .before .before .before .before .before .before .before .before .before .before .before .before .before)) b
     (ap (λ r. record { answer = r; left = left }) (sym (c .before .before .before .before .before .before .before .before .before .before .before .before .before .before .before .before .before .before .before .before .before .before .before .before .before .before .collected .given .1)) ∙ q .ensures ∙ ap (collected (c .before .before .before .before .before .before .before .before .before .before .before .before .before .before .before .before .before .before .before .before .before .before .before .before .before .before .before .before .before .before .before .before .before .before .before .before .before .before .before .before .before .before .before .before .before .before .before .before .before .before .before .before .before .before .before)) (c .before .before .before .before .before .before .before .before .before .before .before .before .before .before .before .before .before .before .before .before .before .before .before .before .before .before .before .before .before .before .before .before .before .before .before .before .before .before .before .before .before .before .before .before .rules-of .ensures))
@@ -80,7 +80,7 @@ returns-2 : tie.Need-returns-2
 returns-2 c = λ b.
     let a = c .before .before .before .before .before .before .before .before .before .before .before .before .before .before .before .before .before .before .before .before .before .before .before .before .before .before .before .before .before .before .before .before .before .before .before .before .before .before .before .before .before .before .args in
     let q = c .before .before .before .before .before .before .before .before .before .before .before .before .before .before .before .before .before .before .before .before .before .before .before .before .before .collect in
-    let left : Lists = lists (q .last .1 .1 .1 .0) (q .last .1 .1 .1 .1 .0) (q .last .1 .1 .1 .1 .1 .0) (q .last .1 .1 .1 .1 .1 .1 .0) (q .last .1 .1 .1 .1 .1 .1 .1 .0) in
+    let left : CollectLists = lists (q .last .1 .1 .1 .0) (q .last .1 .1 .1 .1 .0) (q .last .1 .1 .1 .1 .1 .0) (q .last .1 .1 .1 .1 .1 .1 .0) (q .last .1 .1 .1 .1 .1 .1 .1 .0) in
     refused-collecting (a .image .now) (a .library .now) (a .settings) (lent (c .before .before .before .before .before .before .before .before .before .before .before .before .before .before .before .before .before .before .before .before .before .before .before .before .before .before .before .before .before .before .before .before .before .before .before .before .before .before .before .before .before .before)) b
     (ap (λ r. record { answer = r; left = left }) (sym (c .before .before .before .before .before .before .before .before .before .before .before .before .before .r .given .1)) ∙ q .ensures ∙ ap (collected (c .before .before .before .before .before .before .before .before .before .before .before .before .before .before .before .before .before .before .before .before .before .before .before .before .before .before .before .before .before .before .before .before .before .before .before .before .before .before .before .before .before .before)) (c .before .before .before .before .before .before .before .before .before .before .before .before .before .before .before .before .before .before .before .before .before .before .before .before .before .before .before .before .before .before .before .rules-of .ensures))
     (c .before .before .before .before .before .before .before .before .before .before .clear .ensures) (c .before .before .before .before .before .before .clear2 .ensures) (c .before .before .clear3 .ensures)

@@ -9,14 +9,14 @@ use Prim.Native.Nat.{_≤_}
 use Rattle.image.specs.View.{view}
 use Rattle.image.specs.ViewLaws.{view-length}
 use Rattle.search.specs.visit.Visits.{stored}
-use Rattle.search.specs.Outcome.{Lists as Searchable}
-use Rattle.listing.specs.Outcome.{Lists}
+use Rattle.search.specs.Outcome.{SearchLists as Searchable}
+use Rattle.listing.specs.Outcome.{FindLists}
 use Rattle.listing.specs.OutcomeLaws.{search-done, search-refused, long-is, refused-is}
 
 abbrev given : tie.Start → Searchable
 given c = record { stored = stored (c .args .segments .now) (c .args .references .now) (c .args .symbols .now) (c .args .bytes .now) (c .args .masks .now); placed = c .args .placed .now; noted = c .args .noted .now }
 
-abbrev lent : tie.Start → Lists
+abbrev lent : tie.Start → FindLists
 lent c = record { searched = given c; lines = c .args .lines .now }
 
 returns : tie.Need-returns

@@ -7,8 +7,8 @@ use Rattle.lent.specs.declared.refusal.Refusal.the-variants.{TooFewRows}
 use Rattle.lent.specs.Rows.{zeros}
 use Rattle.image.specs.View.{view}
 use Rattle.search.specs.visit.Visits.{stored}
-use Rattle.search.specs.Outcome.{Lists as Searchable, zeroed as zeroedSearch}
-use Rattle.listing.specs.declared.Found.the-variants.{Refused}
+use Rattle.search.specs.Outcome.{SearchLists as Searchable, searchZeroed as zeroedSearch}
+use Rattle.listing.specs.declared.FindAnswer.the-variants.{Refused}
 use Rattle.listing.specs.OutcomeLaws.{lines-found, emptied, lacks-is, done-is}
 
 abbrev lent : tie.Start → Searchable

@@ -20,24 +20,24 @@ use Rattle.listing.specs.grade.GradeLaws.{turned-true, turned-false, all
 use borrow.Author.Needs.{needs}
 
 abbrev bears : List ℕ → Stretch → Rules → List ℕ → List ℕ → List ℕ → ℕ → Reference → Bool
-bears image s rules library placed positions found = bearsOut (isFound library 8 placed positions) (view image s) rules found
+bears image s rules library placed positions base = bearsOut (isFound library 8 placed positions) (view image s) rules base
 
 record Inv (p : Reference → Bool) (references : List ℕ) (part : Part) (k : ℕ) : Type 0 where
   within : k ≤ part .len
   left : all p (rowsFrom referenceLayout references part k) ≡ all p (rowsFrom referenceLayout references part 0)
 
 abbrev Inv-loop : tie.InvT-loop
-Inv-loop image s rules library references placed positions found at len k₀ k = Inv (bears image s rules library placed positions found) references (record { at = at; len = len }) k
+Inv-loop image s rules library references placed positions base at len k₀ k = Inv (bears image s rules library placed positions base) references (record { at = at; len = len }) k
 
 abbrev μ-loop : tie.MeasureT-loop
-μ-loop image s rules library references placed positions found at len k₀ k = len - k
+μ-loop image s rules library references placed positions base at len k₀ k = len - k
 
 fits : (c : tie.In-loop Inv-loop μ-loop) → c .before .before .before .before .before .before .before .before .before .args .part .at + c .before .before .before .before .before .before .before .before .before .args .part .len ≤ length (c .before .before .before .before .before .before .before .before .before .args .references .now) / 6
 fits c = rows-few referenceLayout (c .before .before .before .before .before .before .before .before .before .args .references .now) (c .before .before .before .before .before .before .before .before .before .args .part) (c .before .before .before .lies-within .result) (c .before .before .before .lies-within .ensures) (c .before .before .if1 .left)
 
 returns : tie.Need-returns Inv-loop μ-loop
 returns c = let a = c .before .before .before .before .before .before .before .args in
-    sym (all-end (bears (a .image .now) (a .s) (a .rules) (a .library .now) (a .placed .now) (a .positions .now) (a .found)) (rows-past referenceLayout (a .references .now) (a .part) (c .before .lies-within .result) (c .before .lies-within .ensures) (c .if1 .taken)))
+    sym (all-end (bears (a .image .now) (a .s) (a .rules) (a .library .now) (a .placed .now) (a .positions .now) (a .base)) (rows-past referenceLayout (a .references .now) (a .part) (c .before .lies-within .result) (c .before .lies-within .ensures) (c .if1 .taken)))
 
 loop-holds : tie.Need-loop-holds Inv-loop μ-loop
 loop-holds c = record { within = omega arith; left = refl }
@@ -47,10 +47,10 @@ add-reference-at c = omega (arith, c .loop-test .taken, fits c, c .before .befor
 
 returns-2 : tie.Need-returns-2 Inv-loop μ-loop
 returns-2 c = let a = c .before .before .before .before .before .before .before .before .before .before .before .before .args in
-    sym (ap (all (bears (a .image .now) (a .s) (a .rules) (a .library .now) (a .placed .now) (a .positions .now) (a .found))) (rows-within referenceLayout (a .references .now) (a .part) (c .before .before .before .before .before .before .lies-within .result) (c .before .before .before .before .before .before .lies-within .ensures) (c .before .before .before .before .before .if1 .left))
+    sym (ap (all (bears (a .image .now) (a .s) (a .rules) (a .library .now) (a .placed .now) (a .positions .now) (a .base))) (rows-within referenceLayout (a .references .now) (a .part) (c .before .before .before .before .before .before .lies-within .result) (c .before .before .before .before .before .before .lies-within .ensures) (c .before .before .before .before .before .if1 .left))
     ∙ sym (c .before .before .before .before .loop .inv .left)
-    ∙ all-fails (bears (a .image .now) (a .s) (a .rules) (a .library .now) (a .placed .now) (a .positions .now) (a .found)) (rows-turn referenceLayout (a .references .now) (a .part) (c .before .before .before .before .loop .k) (omega (arith, c .before .before .before .loop-test .taken)))
-    (ap (bears (a .image .now) (a .s) (a .rules) (a .library .now) (a .placed .now) (a .positions .now) (a .found)) (sym (c .before .before .reference-at .ensures)) ∙ turned-true (c .before .bears-out .result) (c .before .bears-out .ensures) (c .if2 .taken)))
+    ∙ all-fails (bears (a .image .now) (a .s) (a .rules) (a .library .now) (a .placed .now) (a .positions .now) (a .base)) (rows-turn referenceLayout (a .references .now) (a .part) (c .before .before .before .before .loop .k) (omega (arith, c .before .before .before .loop-test .taken)))
+    (ap (bears (a .image .now) (a .s) (a .rules) (a .library .now) (a .placed .now) (a .positions .now) (a .base)) (sym (c .before .before .reference-at .ensures)) ∙ turned-true (c .before .bears-out .result) (c .before .bears-out .ensures) (c .if2 .taken)))
 
 add-k : tie.Need-add-k Inv-loop μ-loop
 add-k c = omega (arith, c .before .before .before .loop-test .taken, fits (c .before .before .before), c .before .before .before .before .before .before .before .before .before .before .before .before .good .1 .1 .1 .1 .0)
@@ -63,16 +63,16 @@ loop-again c = let a = c .before .before .before .before .before .before .before
     record {
       within = omega (arith, c .before .before .before .loop-test .taken);
       left =
-          sym (all-on (bears (a .image .now) (a .s) (a .rules) (a .library .now) (a .placed .now) (a .positions .now) (a .found)) (rows-turn referenceLayout (a .references .now) (a .part) (c .before .before .before .before .loop .k) (omega (arith, c .before .before .before .loop-test .taken)))
-          (ap (bears (a .image .now) (a .s) (a .rules) (a .library .now) (a .placed .now) (a .positions .now) (a .found)) (sym (c .before .before .reference-at .ensures)) ∙ turned-false (c .before .bears-out .result) (c .before .bears-out .ensures) (c .if2 .left)))
+          sym (all-on (bears (a .image .now) (a .s) (a .rules) (a .library .now) (a .placed .now) (a .positions .now) (a .base)) (rows-turn referenceLayout (a .references .now) (a .part) (c .before .before .before .before .loop .k) (omega (arith, c .before .before .before .loop-test .taken)))
+          (ap (bears (a .image .now) (a .s) (a .rules) (a .library .now) (a .placed .now) (a .positions .now) (a .base)) (sym (c .before .before .reference-at .ensures)) ∙ turned-false (c .before .bears-out .result) (c .before .bears-out .ensures) (c .if2 .left)))
           ∙ c .before .before .before .before .loop .inv .left;
     }
 
 returns-3 : tie.Need-returns-3 Inv-loop μ-loop
 returns-3 c = let a = c .before .before .before .before .before .before .before .before .before .args in
-    sym (ap (all (bears (a .image .now) (a .s) (a .rules) (a .library .now) (a .placed .now) (a .positions .now) (a .found))) (rows-within referenceLayout (a .references .now) (a .part) (c .before .before .before .lies-within .result) (c .before .before .before .lies-within .ensures) (c .before .before .if1 .left))
+    sym (ap (all (bears (a .image .now) (a .s) (a .rules) (a .library .now) (a .placed .now) (a .positions .now) (a .base))) (rows-within referenceLayout (a .references .now) (a .part) (c .before .before .before .lies-within .result) (c .before .before .before .lies-within .ensures) (c .before .before .if1 .left))
     ∙ sym (c .before .loop .inv .left)
-    ∙ all-end (bears (a .image .now) (a .s) (a .rules) (a .library .now) (a .placed .now) (a .positions .now) (a .found)) (rows-end referenceLayout (a .references .now) (a .part) (c .before .loop .k) (omega (arith, c .loop-test .left))))
+    ∙ all-end (bears (a .image .now) (a .s) (a .rules) (a .library .now) (a .placed .now) (a .positions .now) (a .base)) (rows-end referenceLayout (a .references .now) (a .part) (c .before .loop .k) (omega (arith, c .loop-test .left))))
 
 pub bear-out-spec : {M : Type 1} → statement M
 bear-out-spec =

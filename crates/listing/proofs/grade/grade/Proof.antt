@@ -16,7 +16,7 @@ abbrev there : tie.Start → Bool
 there c = isNotedRow (c .args .library .now) (c .args .noted .now) (c .args .goals .now) (c .args .row)
 
 abbrev borne : tie.Start → Bool
-borne c = isBorne (view (c .args .image .now) (c .args .s)) (c .args .library .now) (c .args .rules) (c .args .segments .now) (c .args .references .now) (c .args .n) (c .args .placed .now) (c .args .positions .now) (c .args .row .segment .0) (c .args .row .found)
+borne c = isBorne (view (c .args .image .now) (c .args .s)) (c .args .library .now) (c .args .rules) (c .args .segments .now) (c .args .references .now) (c .args .n) (c .args .placed .now) (c .args .positions .now) (c .args .row .segment .0) (c .args .row .base)
 
 returns : tie.Need-returns
 returns c = sym (grade-dropped (c .before .before .before .before .before .before .before .before .before .before .before .before .args .row .valid) (there (c .before .before .before .before .before .before .before .before .before .before .before .before)) (borne (c .before .before .before .before .before .before .before .before .before .before .before .before)) (turned-true (c .before .is-kept .result) (kept-is (c .before .before .before .before .before .before .before .before .before .before .before .before .args .row .valid) (c .before .before .is-found .result) (c .before .before .is-found .ensures) (c .before .is-kept .ensures)) (c .if1 .taken)))

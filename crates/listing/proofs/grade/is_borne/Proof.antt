@@ -16,7 +16,7 @@ use Rattle.listing.specs.grade.Grades.{isFound, bearsOut}
 use Rattle.listing.specs.grade.GradeLaws.{all-end}
 
 abbrev bears : tie.Start → Reference → Bool
-bears c = bearsOut (isFound (c .args .library .now) 8 (c .args .placed .now) (c .args .positions .now)) (view (c .args .image .now) (c .args .s)) (c .args .rules) (c .args .found)
+bears c = bearsOut (isFound (c .args .library .now) 8 (c .args .placed .now) (c .args .positions .now)) (view (c .args .image .now) (c .args .s)) (c .args .rules) (c .args .base)
 
 returns : tie.Need-returns
 returns c = rw (le-ltb (c .before .before .before .before .before .before .before .args .number) (c .before .before .before .before .before .before .before .args .n) (c .if1 .taken)) (sym (all-end (bears (c .before .before .before .before .before .before .before)) refl))

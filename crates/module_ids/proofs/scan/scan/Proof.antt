@@ -14,7 +14,7 @@ use Rattle.segments.specs.Refuse.{collectRefusal}
 use Rattle.library.proofs.ModuleAt.{the-type}
 use Rattle.library.specs.declared.ModuleAt.{ModuleAt}
 use Rattle.library.specs.declared.ModuleAt.the-variants.{Whole, Stop, Refused}
-use Rattle.library.specs.Found.{found}
+use Rattle.library.specs.Gathered.{itemsAt}
 use Rattle.library.specs.Passes.{placesRead, placesAt}
 use Rattle.library.specs.WholeLaws.{moduleOf, modules-step, modules-end, module-moved, Ended}
 use Rattle.module_ids.specs.Noted.{Tells}
@@ -28,7 +28,7 @@ use Rattle.module_ids.proofs.scan.scan.Tie as tie
 record Inv (library table₀ table : List ℕ) (first at : ℕ) : Type 0 where
   long : length table ≡ length table₀
   clear : Tells [] table
-  same : collectRefusal (found library (moduleAt library) at) ≡ collectRefusal (found library (moduleAt library) first)
+  same : collectRefusal (itemsAt library (moduleAt library) at) ≡ collectRefusal (itemsAt library (moduleAt library) first)
 
 ends : (r : ModuleAt) → OneOf (1 ∷ 2 ∷ []) (tagOf the-type r) → Ended r
 ends (Whole p) (inl z) = absurd (omega arith)
@@ -77,7 +77,7 @@ returns-2 c =
     let e = told {o = sectionsFault (moduleOf lib p .definitions) (moduleOf lib p .sections)} (sym (c .before .before .before .before .before .before .before .sections-fault .ensures _ (c .before .before .before .before .before .before .before .before .before .before .before .fill .ensures .tells)) ∙ c .before .verdict .given .1) in
     record {
       clear-again = c .before .before .before .before .before .clear .ensures;
-      says = ap verdictOf (ap (λ o. orElse o (collectRefusal (found lib (moduleAt lib) (p .next)))) (sym e) ∙ sym (module-fault (moduleOf lib p) (found lib (moduleAt lib) (p .next))) ∙ ap collectRefusal (sym (modules-step lib (l .at) (stands i))) ∙ l .inv .same);
+      says = ap verdictOf (ap (λ o. orElse o (collectRefusal (itemsAt lib (moduleAt lib) (p .next)))) (sym e) ∙ sym (module-fault (moduleOf lib p) (itemsAt lib (moduleAt lib) (p .next))) ∙ ap collectRefusal (sym (modules-step lib (l .at) (stands i))) ∙ l .inv .same);
     }
 
 loop-less : tie.Need-loop-less Inv-loop μ-loop
@@ -93,7 +93,7 @@ loop-again c =
     record {
       long = search needs;
       clear = c .before .before .before .before .clear .ensures;
-      same = ap (λ o. orElse o (collectRefusal (found lib (moduleAt lib) (p .next)))) (sym e) ∙ sym (module-fault (moduleOf lib p) (found lib (moduleAt lib) (p .next))) ∙ ap collectRefusal (sym (modules-step lib (l .at) (stands i))) ∙ l .inv .same;
+      same = ap (λ o. orElse o (collectRefusal (itemsAt lib (moduleAt lib) (p .next)))) (sym e) ∙ sym (module-fault (moduleOf lib p) (itemsAt lib (moduleAt lib) (p .next))) ∙ ap collectRefusal (sym (modules-step lib (l .at) (stands i))) ∙ l .inv .same;
     }
 
 pub scan-spec : {M : Type 1} → statement M

@@ -7,7 +7,7 @@ use lib.ListN.{length}
 use denote.Ref.{now}
 use Rattle.omf51.specs.declared.Definition.{Definition}
 use Rattle.omf51.specs.Module.{Section, sectionsAt}
-use Rattle.library.specs.Found.{found}
+use Rattle.library.specs.Gathered.{itemsAt}
 use Rattle.library.specs.items.Left.{fixupsLeft}
 use Rattle.library.specs.items.Yields.{sectionsAfter, next-content-yields}
 use Rattle.module_ids.specs.Noted.{Tells}
@@ -19,7 +19,7 @@ use Rattle.module_ids.proofs.scan.sections_fault.Statement.{statement}
 use Rattle.module_ids.proofs.scan.sections_fault.Tie as tie
 
 abbrev left : List ℕ → ℕ → List Section
-left library at = found library (sectionsAt library) at
+left library at = itemsAt library (sectionsAt library) at
 
 abbrev Inv : List ℕ → List ℕ → ℕ → ℕ → Type 0
 Inv library table from at = (ds : List Definition) → Tells ds table → sectionsFault ds (left library at) ≡ sectionsFault ds (left library from)

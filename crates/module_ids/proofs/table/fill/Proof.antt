@@ -8,7 +8,7 @@ use denote.Ref.{now}
 use Rattle.lent.specs.Lists.{one, keep}
 use Rattle.omf51.specs.declared.Definition.{Definition}
 use Rattle.omf51.specs.Module.{definitionsAt}
-use Rattle.library.specs.Found.{found}
+use Rattle.library.specs.Gathered.{itemsAt}
 use Rattle.library.specs.declared.items.Cursor.{Cursor}
 use Rattle.library.specs.items.Left.{definitionsLeft}
 use Rattle.library.specs.items.Yields.{definitionsAfter, next-definition-yields, definitions-start}
@@ -23,7 +23,7 @@ use Rattle.module_ids.proofs.table.fill.Tie as tie
 record Inv (library : List ℕ) (at : ℕ) (table₀ table : List ℕ) (c : Cursor) (n : ℕ) : Type 0 where
   long : length table ≡ length table₀
   done : List Definition
-  whole : done ++ definitionsLeft library c ≡ found library (definitionsAt library) at
+  whole : done ++ definitionsLeft library c ≡ itemsAt library (definitionsAt library) at
   tells : Tells done table
   number : n ≡ length (keep isKept done)
   few : n ≤ c .at

@@ -6,7 +6,7 @@ use Rattle.image.specs.View.{view}
 use Rattle.image.specs.ViewLaws.{view-length}
 use Rattle.search.specs.declared.Searched.the-variants.{Refused}
 use Rattle.search.specs.visit.Visits.{Stored, stored}
-use Rattle.search.specs.Outcome.{Lists}
+use Rattle.search.specs.Outcome.{SearchLists}
 use Rattle.search.specs.EndLaws.{long-is, lacks-is, done-is, zeroed-same}
 use Rattle.search.proofs.entry.search.Statement.{statement}
 use Rattle.search.proofs.entry.search.Tie as tie
@@ -14,7 +14,7 @@ use Rattle.search.proofs.entry.search.Tie as tie
 abbrev rows : tie.Start → Stored
 rows c = stored (c .args .segments .now) (c .args .references .now) (c .args .symbols .now) (c .args .bytes .now) (c .args .masks .now)
 
-abbrev lent : tie.Start → Lists
+abbrev lent : tie.Start → SearchLists
 lent c = record { stored = rows c; placed = c .args .placed .now; noted = c .args .noted .now }
 
 returns : tie.Need-returns
@@ -29,7 +29,7 @@ returns-2 : tie.Need-returns-2
 returns-2 c =
     let a = c .before .before .before .before .before .before .before .before .before .before .before .before .before .before .before .before .before .before .before .before .before .before .before .before .before .before .before .before .before .before .before .before .before .before .before .before .before .before .before .before .before .before .before .before .before .before .args in
     let f = c .before .before .before .before .before .before .before .before .before .before .before .before .before .before .before .before .before .before .before .before .before .before .before .before .before .before .before .before .fill-rows in
-    ap (λ (l : Lists). record { answer = Refused TooFewRows; left = l }) (c .before .before .before .before .before .before .before .before .before .before .before .before .before .before .clear-all .ensures ∙ zeroed-same (rows (c .before .before .before .before .before .before .before .before .before .before .before .before .before .before .before .before .before .before .before .before .before .before .before .before .before .before .before .before .before .before .before .before .before .before .before .before .before .before .before .before .before .before .before .before .before .before)) (a .placed .now) (a .noted .now) (f .last .1 .1 .1 .1 .1 .1 .1 .1 .1 .1 .0) (f .last .1 .1 .1 .1 .1 .1 .1 .1 .1 .1 .1 .0) (c .before .before .before .before .before .before .before .before .before .before .before .before .before .before .before .before .before .before .before .before .before .before .before .before .before .before .before .placed .given) (c .before .before .before .before .before .before .before .before .before .before .before .before .before .before .before .before .before .before .before .before .before .before .before .before .before .noted .given))
+    ap (λ (l : SearchLists). record { answer = Refused TooFewRows; left = l }) (c .before .before .before .before .before .before .before .before .before .before .before .before .before .before .clear-all .ensures ∙ zeroed-same (rows (c .before .before .before .before .before .before .before .before .before .before .before .before .before .before .before .before .before .before .before .before .before .before .before .before .before .before .before .before .before .before .before .before .before .before .before .before .before .before .before .before .before .before .before .before .before .before)) (a .placed .now) (a .noted .now) (f .last .1 .1 .1 .1 .1 .1 .1 .1 .1 .1 .0) (f .last .1 .1 .1 .1 .1 .1 .1 .1 .1 .1 .1 .0) (c .before .before .before .before .before .before .before .before .before .before .before .before .before .before .before .before .before .before .before .before .before .before .before .before .before .before .before .placed .given) (c .before .before .before .before .before .before .before .before .before .before .before .before .before .before .before .before .before .before .before .before .before .before .before .before .before .noted .given))
     ∙ lacks-is (view (a .image .now) (a .s)) (a .asked) (a .library .now) (a .n) (lent (c .before .before .before .before .before .before .before .before .before .before .before .before .before .before .before .before .before .before .before .before .before .before .before .before .before .before .before .before .before .before .before .before .before .before .before .before .before .before .before .before .before .before .before .before .before .before)) (omega (arith, c .before .before .before .before .before .before .before .before .before .before .before .before .before .before .before .before .before .before .before .before .before .before .before .before .before .before .before .before .before .before .before .before .before .before .before .before .if1 .left, view-length (a .image .now) (a .s))) (f .last .1 .1 .1 .1 .1 .1 .1 .1 .1 .1 .0) (f .last .1 .1 .1 .1 .1 .1 .1 .1 .1 .1 .1 .0) (f .result) (f .ensures) (c .before .before .before .before .before .before .before .before .before .before .before .before .before .before .before .before .before .before .before .before .before .before .before .lacks-room .result) (c .before .before .before .before .before .before .before .before .before .before .before .before .before .before .before .before .before .before .before .before .before .before .before .lacks-room .ensures) (c .before .before .before .before .before .before .before .before .before .before .before .before .before .before .before .before .before .before .before .before .before .before .if2 .taken)
 
 returns-3 : tie.Need-returns-3

@@ -3,8 +3,8 @@ use Prim.Native.Nat.{_+_}
 use mathlib.Core.Path.{sym, subst, _∙_}
 use native.Mathlib.Omega.{arith}
 use denote.Ref.{now}
-use Rattle.search.specs.declared.matches.Cursor.{Cursor}
-use Rattle.search.specs.declared.matches.Cursor.the-variants.{Plain, Over}
+use Rattle.search.specs.declared.matches.MatchCursor.{MatchCursor}
+use Rattle.search.specs.declared.matches.MatchCursor.the-variants.{Plain, Over}
 use Rattle.search.specs.declared.matches.Next.the-variants.{Done}
 use Rattle.search.specs.matches.Cursor.{Sound, Reached, Stepped}
 use Rattle.search.specs.matches.StepLaws.{plain-at, plain-done, once-at, once-done, reached-fits}
@@ -34,31 +34,31 @@ returns : tie.Need-returns
 returns c =
     let a = c .before .before .before .before .before .before .before .before .before .args in
     let at = c .before .before .before .c3 .given .0 .0 in
-    subst (λ (x : Cursor). Reached (a .image .now) (a .s) (a .bytes .now) (a .masks .now) x at Over) (sym (c .before .before .before .c3 .given .1))
+    subst (λ (x : MatchCursor). Reached (a .image .now) (a .s) (a .bytes .now) (a .masks .now) x at Over) (sym (c .before .before .before .c3 .given .1))
     (once-at (a .image .now) (a .s) (a .bytes .now) (a .masks .now) at (sym (c .before .match-at .ensures) ∙ c .if1 .taken))
 
 returns-2 : tie.Need-returns-2
 returns-2 c =
     let a = c .before .before .before .before .before .before .before .before .args in
-    subst (λ (x : Cursor). Stepped (a .image .now) (a .s) (a .bytes .now) (a .masks .now) x (c .step-along .result)) (sym (c .before .before .c .given .1)) (c .step-along .ensures)
+    subst (λ (x : MatchCursor). Stepped (a .image .now) (a .s) (a .bytes .now) (a .masks .now) x (c .step-along .result)) (sym (c .before .before .c .given .1)) (c .step-along .ensures)
 
 returns-3 : tie.Need-returns-3
 returns-3 c =
     let a = c .before .before .before .before .before .before .before .before .before .before .before .args in
     let at = c .before .at .given .0 .0 in
-    subst (λ (x : Cursor). Reached (a .image .now) (a .s) (a .bytes .now) (a .masks .now) x at (Plain (at + 1))) (sym (c .before .before .before .before .before .c2 .given .1)) (plain (c .before))
+    subst (λ (x : MatchCursor). Reached (a .image .now) (a .s) (a .bytes .now) (a .masks .now) x at (Plain (at + 1))) (sym (c .before .before .before .before .before .c2 .given .1)) (plain (c .before))
 
 returns-4 : tie.Need-returns-4
 returns-4 c =
     let a = c .before .before .before .before .before .before .before .before .before .before .args in
-    subst (λ (x : Cursor). Stepped (a .image .now) (a .s) (a .bytes .now) (a .masks .now) x Done) (sym (c .before .before .before .before .c2 .given .1))
+    subst (λ (x : MatchCursor). Stepped (a .image .now) (a .s) (a .bytes .now) (a .masks .now) x Done) (sym (c .before .before .before .before .c2 .given .1))
     (plain-done (a .image .now) (a .s) (a .bytes .now) (a .masks .now) (c .before .before .before .before .c2 .given .0 .0) (sym (c .before .before .next-match .ensures) ∙ c .enum-told .given .1))
 
 returns-5 : tie.Need-returns-5
 returns-5 c =
     let a = c .before .before .before .before .before .before .before .before .before .args in
     let at = c .before .before .before .c3 .given .0 .0 in
-    subst (λ (x : Cursor). Stepped (a .image .now) (a .s) (a .bytes .now) (a .masks .now) x Done) (sym (c .before .before .before .c3 .given .1))
+    subst (λ (x : MatchCursor). Stepped (a .image .now) (a .s) (a .bytes .now) (a .masks .now) x Done) (sym (c .before .before .before .c3 .given .1))
     (once-done (a .image .now) (a .s) (a .bytes .now) (a .masks .now) at (sym (c .before .match-at .ensures) ∙ c .if1 .left))
 
 pub next-place-spec : {M : Type 1} → statement M

@@ -4,7 +4,7 @@ use native.Mathlib.Omega.{arith}
 use lib.ListN.{getD}
 use denote.Ref.{now}
 use Rattle.image.specs.declared.Seat.{Seat}
-use Rattle.search.specs.declared.matches.Cursor.the-variants.{Along, Plain, Once}
+use Rattle.search.specs.declared.matches.MatchCursor.the-variants.{Along, Plain, Once}
 use Rattle.search.specs.byte_index.Anchor.{Anchor, Anchored}
 use Rattle.search.specs.matches.Cursor.{Started}
 use Rattle.search.specs.matches.StepLaws.{started-along, started-plain, started-once}

@@ -17,7 +17,7 @@ use Rattle.search.proofs.place.place_symbol.Statement.{statement}
 use Rattle.search.proofs.place.place_symbol.Tie as tie
 
 abbrev new : tie.Start → Placing
-new c = placingOf (c .args .number) (c .args .found) (c .args .valid) (c .args .y)
+new c = placingOf (c .args .number) (c .args .base) (c .args .valid) (c .args .y)
 
 returns : tie.Need-returns
 returns c =

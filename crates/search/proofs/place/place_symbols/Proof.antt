@@ -21,19 +21,19 @@ use Rattle.search.proofs.place.place_symbols.Statement.{statement}
 use Rattle.search.proofs.place.place_symbols.Tie as tie
 
 abbrev left : SegmentNumber → ℕ → Bool → List ℕ → Part → ℕ → List Placing
-left number found valid symbols part k = map (placingOf number found valid) (rowsFrom symbolLayout symbols part k)
+left number base valid symbols part k = map (placingOf number base valid) (rowsFrom symbolLayout symbols part k)
 
-record Inv (library : List ℕ) (end : ℕ) (number : SegmentNumber) (found : ℕ) (valid : Bool) (symbols : List ℕ) (part : Part) (placed₀ heads₀ : List ℕ) (f₀ : Fill) (placed heads : List ℕ) (f : Fill) (k : ℕ) : Type 0 where
+record Inv (library : List ℕ) (end : ℕ) (number : SegmentNumber) (base : ℕ) (valid : Bool) (symbols : List ℕ) (part : Part) (placed₀ heads₀ : List ℕ) (f₀ : Fill) (placed heads : List ℕ) (f : Fill) (k : ℕ) : Type 0 where
   within : k ≤ part .len
   long : length placed ≡ length placed₀
   heads-long : length heads ≡ length heads₀
-  leads : LeadsOn placedSheet library (place library end) (left number found valid symbols part k) (table placed heads f) (left number found valid symbols part 0) (table placed₀ heads₀ f₀)
+  leads : LeadsOn placedSheet library (place library end) (left number base valid symbols part k) (table placed heads f) (left number base valid symbols part 0) (table placed₀ heads₀ f₀)
 
 abbrev Inv-loop : tie.InvT-loop
-Inv-loop library end number found valid symbols placed₀ heads₀ f₀ at len k₀ placed heads f k = Inv library end number found valid symbols (record { at = at; len = len }) placed₀ heads₀ f₀ placed heads f k
+Inv-loop library end number base valid symbols placed₀ heads₀ f₀ at len k₀ placed heads f k = Inv library end number base valid symbols (record { at = at; len = len }) placed₀ heads₀ f₀ placed heads f k
 
 abbrev μ-loop : tie.MeasureT-loop
-μ-loop library end number found valid symbols placed₀ heads₀ f₀ at len k₀ placed heads f k = len - k
+μ-loop library end number base valid symbols placed₀ heads₀ f₀ at len k₀ placed heads f k = len - k
 
 fits : (c : tie.In-loop Inv-loop μ-loop) → c .before .before .before .before .before .before .before .before .args .part .at + c .before .before .before .before .before .before .before .before .args .part .len ≤ length (c .before .before .before .before .before .before .before .before .args .symbols .now) / 3
 fits c = rows-few symbolLayout (c .before .before .before .before .before .before .before .before .args .symbols .now) (c .before .before .before .before .before .before .before .before .args .part) (c .before .before .before .lies-within .result) (c .before .before .before .lies-within .ensures) (c .before .before .if1 .left)
@@ -41,14 +41,14 @@ fits c = rows-few symbolLayout (c .before .before .before .before .before .befor
 returns : tie.Need-returns Inv-loop μ-loop
 returns c =
     let a = c .before .before .before .before .before .before .args in
-    subst (λ ys. Takes placedSheet (a .library .now) (place (a .library .now) (a .end)) (map (placingOf (a .number) (a .found) (a .valid)) ys) (table (a .placed .now) (a .heads .now) (a .before)) (table (a .placed .now) (a .heads .now) (a .before)))
+    subst (λ ys. Takes placedSheet (a .library .now) (place (a .library .now) (a .end)) (map (placingOf (a .number) (a .base) (a .valid)) ys) (table (a .placed .now) (a .heads .now) (a .before)) (table (a .placed .now) (a .heads .now) (a .before)))
     (sym (rows-past symbolLayout (a .symbols .now) (a .part) (c .before .lies-within .result) (c .before .lies-within .ensures) (c .if1 .taken)))
     (takes-none placedSheet (a .library .now) (place (a .library .now) (a .end)) (table (a .placed .now) (a .heads .now) (a .before)))
 
 loop-holds : tie.Need-loop-holds Inv-loop μ-loop
 loop-holds c =
     let a = c .before .before .before .before .before .before .args in
-    record { within = omega arith; long = refl; heads-long = refl; leads = leads-all placedSheet (a .library .now) (place (a .library .now) (a .end)) (left (a .number) (a .found) (a .valid) (a .symbols .now) (a .part) 0) (table (a .placed .now) (a .heads .now) (a .before)) }
+    record { within = omega arith; long = refl; heads-long = refl; leads = leads-all placedSheet (a .library .now) (place (a .library .now) (a .end)) (left (a .number) (a .base) (a .valid) (a .symbols .now) (a .part) 0) (table (a .placed .now) (a .heads .now) (a .before)) }
 
 add-symbol-at : tie.Need-add-symbol-at Inv-loop μ-loop
 add-symbol-at c = omega (arith, c .loop-test .taken, fits c, c .before .before .before .before .before .before .before .before .good .1 .1 .1 .1 .1 .0)
@@ -68,10 +68,10 @@ loop-again c =
       long = c .before .before .before .placed .given ∙ l .inv .long;
       heads-long = c .before .heads .given ∙ l .inv .heads-long;
       leads =
-          lead-on placedSheet (a .library .now) (place (a .library .now) (a .end)) (one (placingOf (a .number) (a .found) (a .valid) (symbolAt (a .symbols .now) (a .part .at + l .k)))) (left (a .number) (a .found) (a .valid) (a .symbols .now) (a .part) (l .k + 1)) (left (a .number) (a .found) (a .valid) (a .symbols .now) (a .part) 0)
+          lead-on placedSheet (a .library .now) (place (a .library .now) (a .end)) (one (placingOf (a .number) (a .base) (a .valid) (symbolAt (a .symbols .now) (a .part .at + l .k)))) (left (a .number) (a .base) (a .valid) (a .symbols .now) (a .part) (l .k + 1)) (left (a .number) (a .base) (a .valid) (a .symbols .now) (a .part) 0)
           {t₀ = table (a .placed .now) (a .heads .now) (a .before)} {t = table (l .placed) (l .heads) (l .f)} {u = table (c .before .before .before .before .place-symbol .last .1 .1 .1 .1 .1 .1 .0) (c .before .before .before .before .place-symbol .last .1 .1 .1 .1 .1 .1 .1 .0) (c .before .before .before .before .place-symbol .result)}
-          (ap (map (placingOf (a .number) (a .found) (a .valid))) (rows-turn symbolLayout (a .symbols .now) (a .part) (l .k) (omega (arith, c .before .before .before .before .before .before .before .before .loop-test .taken))))
-          (subst (λ y. Takes placedSheet (a .library .now) (place (a .library .now) (a .end)) (one (placingOf (a .number) (a .found) (a .valid) y)) (table (l .placed) (l .heads) (l .f)) (table (c .before .before .before .before .place-symbol .last .1 .1 .1 .1 .1 .1 .0) (c .before .before .before .before .place-symbol .last .1 .1 .1 .1 .1 .1 .1 .0) (c .before .before .before .before .place-symbol .result))) (c .before .before .before .before .before .before .before .symbol-at .ensures) (c .before .before .before .before .place-symbol .ensures))
+          (ap (map (placingOf (a .number) (a .base) (a .valid))) (rows-turn symbolLayout (a .symbols .now) (a .part) (l .k) (omega (arith, c .before .before .before .before .before .before .before .before .loop-test .taken))))
+          (subst (λ y. Takes placedSheet (a .library .now) (place (a .library .now) (a .end)) (one (placingOf (a .number) (a .base) (a .valid) y)) (table (l .placed) (l .heads) (l .f)) (table (c .before .before .before .before .place-symbol .last .1 .1 .1 .1 .1 .1 .0) (c .before .before .before .before .place-symbol .last .1 .1 .1 .1 .1 .1 .1 .0) (c .before .before .before .before .place-symbol .result))) (c .before .before .before .before .before .before .before .symbol-at .ensures) (c .before .before .before .before .place-symbol .ensures))
           (l .inv .leads);
     }
 
@@ -85,10 +85,10 @@ returns-2 : tie.Need-returns-2 Inv-loop μ-loop
 returns-2 c =
     let a = c .before .before .before .before .before .before .before .before .args in
     let l = c .before .loop in
-    subst (λ ys. Takes placedSheet (a .library .now) (place (a .library .now) (a .end)) (map (placingOf (a .number) (a .found) (a .valid)) ys) (table (a .placed .now) (a .heads .now) (a .before)) (table (l .placed) (l .heads) (l .f)))
+    subst (λ ys. Takes placedSheet (a .library .now) (place (a .library .now) (a .end)) (map (placingOf (a .number) (a .base) (a .valid)) ys) (table (a .placed .now) (a .heads .now) (a .before)) (table (l .placed) (l .heads) (l .f)))
     (sym (rows-within symbolLayout (a .symbols .now) (a .part) (c .before .before .before .lies-within .result) (c .before .before .before .lies-within .ensures) (c .before .before .if1 .left)))
-    (all-taken placedSheet (a .library .now) (place (a .library .now) (a .end)) (left (a .number) (a .found) (a .valid) (a .symbols .now) (a .part) 0) {t₀ = table (a .placed .now) (a .heads .now) (a .before)} {t = table (l .placed) (l .heads) (l .f)}
-    (ap (map (placingOf (a .number) (a .found) (a .valid))) (rows-end symbolLayout (a .symbols .now) (a .part) (l .k) (omega (arith, c .loop-test .left)))) (l .inv .leads))
+    (all-taken placedSheet (a .library .now) (place (a .library .now) (a .end)) (left (a .number) (a .base) (a .valid) (a .symbols .now) (a .part) 0) {t₀ = table (a .placed .now) (a .heads .now) (a .before)} {t = table (l .placed) (l .heads) (l .f)}
+    (ap (map (placingOf (a .number) (a .base) (a .valid))) (rows-end symbolLayout (a .symbols .now) (a .part) (l .k) (omega (arith, c .loop-test .left)))) (l .inv .leads))
 
 pub place-symbols-spec : {M : Type 1} → statement M
 place-symbols-spec =

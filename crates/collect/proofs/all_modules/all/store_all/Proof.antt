@@ -14,13 +14,13 @@ use Rattle.omf51.specs.Module.{moduleAt}
 use Rattle.library.proofs.ModuleAt.{the-type}
 use Rattle.library.specs.declared.ModuleAt.{ModuleAt}
 use Rattle.library.specs.declared.ModuleAt.the-variants.{Whole, Stop, Refused}
-use Rattle.library.specs.Found.{found}
+use Rattle.library.specs.Gathered.{itemsAt}
 use Rattle.library.specs.Passes.{placesRead, placesAt}
 use Rattle.library.specs.WholeLaws.{moduleOf, modules-step, modules-end, module-moved, Ended}
 use Rattle.module_ids.specs.Noted.{Tells}
 use Rattle.module_index.specs.Indexed.{Blank}
-use Rattle.collect.specs.declared.stored.Counts.{Counts}
-use Rattle.collect.specs.stored.Stores.{Lists, Stores, SameLengths}
+use Rattle.collect.specs.declared.stored.CollectCounts.{CollectCounts}
+use Rattle.collect.specs.stored.Stores.{CollectLists, Stores, SameLengths}
 use Rattle.collect.specs.stored.ProgressLaws.{same-lengths, lengths-on}
 use Rattle.collect.specs.stored.Segments.{lists, ownBy}
 use Rattle.collect.specs.all_modules.AllLaws.{Collecting, collecting-starts, collecting-on, collecting-lacks, collecting-ends, stored-few}
@@ -40,14 +40,14 @@ record Long (table₀ ids₀ places₀ first₀ next₀ keys₀ entries₀ heads
   heads-long : length heads ≡ length heads₀
   onward-long : length onward ≡ length onward₀
 
-record Inv (library : List ℕ) (from : ℕ) (own : Bool) (table ids places first next keys entries heads onward apart₀ apart : List ℕ) (l₀ l : Lists) (at : ℕ) (c : Counts) : Type 0 where
+record Inv (library : List ℕ) (from : ℕ) (own : Bool) (table ids places first next keys entries heads onward apart₀ apart : List ℕ) (l₀ l : CollectLists) (at : ℕ) (c : CollectCounts) : Type 0 where
   long : SameLengths l₀ l
   apart-long : length apart ≡ length apart₀
   tells : Tells [] table
   contents : Blank 7 library ids places first next
   publics : Blank 5 library keys entries heads onward
   few : c .segments * 8 ≤ length (l .segments)
-  collecting : (rules : Rules) → own ≡ ownBy rules → Collecting rules library (found library (moduleAt library) from) (found library (moduleAt library) at) l c
+  collecting : (rules : Rules) → own ≡ ownBy rules → Collecting rules library (itemsAt library (moduleAt library) from) (itemsAt library (moduleAt library) at) l c
 
 ends : (r : ModuleAt) → OneOf (1 ∷ 2 ∷ []) (tagOf the-type r) → Ended r
 ends (Whole p) (inl z) = absurd (omega arith)
@@ -83,7 +83,7 @@ loop-holds c =
         contents = p .0 .contents;
         publics = p .0 .publics;
         few = stored-few begun;
-        collecting = λ rules o. collecting-starts rules (a .library .now) (found (a .library .now) (moduleAt (a .library .now)) (a .from)) begun;
+        collecting = λ rules o. collecting-starts rules (a .library .now) (itemsAt (a .library .now) (moduleAt (a .library .now)) (a .from)) begun;
       },
     )
 
@@ -206,7 +206,7 @@ returns-2 c =
     record {
       tells = s .ensures .tells;
       long = lengths-on (i .long) (s .ensures .long);
-      stored = collecting-lacks (a .rules) lib (found lib (moduleAt lib) (a .from)) now-lists after (l .c) (s .result) (moduleOf lib p) (modules-step lib (l .at) (stands (c .before .before .before .before .before .before .before .before .before .before .before .before .before .before .before .before .before .before .before .before .before .before .before .before .before .before .before .before .before .before .before .before .before .before .before .before .before .before .before .before .before .before .before .before .before .before .before .before))) (i .collecting (a .rules) o) (s .ensures .extends (a .rules) o) (c .enum-told .given .1);
+      stored = collecting-lacks (a .rules) lib (itemsAt lib (moduleAt lib) (a .from)) now-lists after (l .c) (s .result) (moduleOf lib p) (modules-step lib (l .at) (stands (c .before .before .before .before .before .before .before .before .before .before .before .before .before .before .before .before .before .before .before .before .before .before .before .before .before .before .before .before .before .before .before .before .before .before .before .before .before .before .before .before .before .before .before .before .before .before .before .before))) (i .collecting (a .rules) o) (s .ensures .extends (a .rules) o) (c .enum-told .given .1);
     }
 
 loop-less : tie.Need-loop-less Inv-loop μ-loop
@@ -222,7 +222,7 @@ loop-again c =
     let now-lists = lists (l .segments) (l .references) (l .symbols) (l .bytes) (l .masks) in
     let after = lists (s .last .1 .1 .1 .1 .1 .1 .1 .1 .1 .1 .1 .1 .1 .0) (s .last .1 .1 .1 .1 .1 .1 .1 .1 .1 .1 .1 .1 .1 .1 .0) (s .last .1 .1 .1 .1 .1 .1 .1 .1 .1 .1 .1 .1 .1 .1 .1 .0) (s .last .1 .1 .1 .1 .1 .1 .1 .1 .1 .1 .1 .1 .1 .1 .1 .1 .0) (s .last .1 .1 .1 .1 .1 .1 .1 .1 .1 .1 .1 .1 .1 .1 .1 .1 .1 .0) in
     let p = c .before .before .before .before .before .before .before .before .before .before .before .before .before .before .before .before .before .before .before .before .before .before .before .before .before .before .before .before .before .before .before .before .before .before .before .before .before .before .before .before .before .before .before .before .before .before .before .before .before .before .module .given .0 .0 in
-    let on : (rules : Rules) → c .before .before .before .before .before .before .before .before .before .before .before .before .before .before .before .before .before .before .before .before .before .before .before .before .before .before .before .before .before .before .before .before .before .before .before .before .before .before .before .before .before .before .before .before .before .before .before .before .before .before .before .before .before .before .before .is-own .result ≡ ownBy rules → Collecting rules lib (found lib (moduleAt lib) (a .from)) (found lib (moduleAt lib) (p .next)) after (c .before .stored .given .0 .0) = λ rules o. collecting-on rules lib (found lib (moduleAt lib) (a .from)) now-lists after (l .c) (s .result) (moduleOf lib p) (modules-step lib (l .at) (stands (c .before .before .before .before .before .before .before .before .before .before .before .before .before .before .before .before .before .before .before .before .before .before .before .before .before .before .before .before .before .before .before .before .before .before .before .before .before .before .before .before .before .before .before .before .before .before .before .before .before))) (i .collecting rules o) (s .ensures .extends rules o) (c .before .stored .given .1) in (
+    let on : (rules : Rules) → c .before .before .before .before .before .before .before .before .before .before .before .before .before .before .before .before .before .before .before .before .before .before .before .before .before .before .before .before .before .before .before .before .before .before .before .before .before .before .before .before .before .before .before .before .before .before .before .before .before .before .before .before .before .before .before .is-own .result ≡ ownBy rules → Collecting rules lib (itemsAt lib (moduleAt lib) (a .from)) (itemsAt lib (moduleAt lib) (p .next)) after (c .before .stored .given .0 .0) = λ rules o. collecting-on rules lib (itemsAt lib (moduleAt lib) (a .from)) now-lists after (l .c) (s .result) (moduleOf lib p) (modules-step lib (l .at) (stands (c .before .before .before .before .before .before .before .before .before .before .before .before .before .before .before .before .before .before .before .before .before .before .before .before .before .before .before .before .before .before .before .before .before .before .before .before .before .before .before .before .before .before .before .before .before .before .before .before .before))) (i .collecting rules o) (s .ensures .extends rules o) (c .before .stored .given .1) in (
       record { table-long = c .before .before .before .before .before .before .before .before .before .before .before .before .before .before .before .before .before .before .before .before .before .before .before .before .before .before .before .before .before .before .before .before .table .given ∙ l .inv .0 .table-long; ids-long = c .before .before .before .before .before .before .before .before .before .before .before .before .before .before .before .before .before .before .before .before .before .before .before .before .before .before .before .before .before .before .ids .given ∙ l .inv .0 .ids-long; places-long = c .before .before .before .before .before .before .before .before .before .before .before .before .before .before .before .before .before .before .before .before .before .before .before .before .before .before .before .before .places .given ∙ l .inv .0 .places-long; first-long = c .before .before .before .before .before .before .before .before .before .before .before .before .before .before .before .before .before .before .before .before .before .before .before .before .before .before .first .given ∙ l .inv .0 .first-long; next-long = c .before .before .before .before .before .before .before .before .before .before .before .before .before .before .before .before .before .before .before .before .before .before .before .before .next .given ∙ l .inv .0 .next-long; keys-long = c .before .before .before .before .before .before .before .before .before .before .before .before .before .before .before .before .before .before .before .before .before .before .keys .given ∙ l .inv .0 .keys-long; entries-long = c .before .before .before .before .before .before .before .before .before .before .before .before .before .before .before .before .before .before .before .before .entries .given ∙ l .inv .0 .entries-long; heads-long = c .before .before .before .before .before .before .before .before .before .before .before .before .before .before .before .before .before .before .heads .given ∙ l .inv .0 .heads-long; onward-long = c .before .before .before .before .before .before .before .before .before .before .before .before .before .before .before .before .onward .given ∙ l .inv .0 .onward-long },
       record {
         long = lengths-on (i .long) (s .ensures .long);

@@ -25,7 +25,7 @@ use Rattle.listing.specs.position.KnownLaws.{rowLines, known-within, kno
 use borrow.Author.Needs.{needs}
 
 abbrev none : Placing
-none = record { position = 0; name = record { at = 0; len = 0 }; valid = false; segment = 0; found = 0 }
+none = record { position = 0; name = record { at = 0; len = 0 }; valid = false; segment = 0; base = 0 }
 
 record Inv (cells : List ℕ) (rules : Rules) (library segments : List ℕ) (n : ℕ) (references placed positions noted goals : List ℕ) (at : ℕ) (m₀ : List ℕ) (from : ℕ) (b₀ : Best) (m : List ℕ) (b : Best) (here : ℕ) : Type 0 where
   few : b .count + here ≤ b₀ .count + length placed / 8

@@ -8,7 +8,7 @@ use borrow.Author.Needs.{needs}
 use denote.Ref.{now}
 use Rattle.lent.specs.Lists.{one}
 use Rattle.omf51.specs.Module.{Section, sectionsAt}
-use Rattle.library.specs.Found.{found}
+use Rattle.library.specs.Gathered.{itemsAt}
 use Rattle.library.specs.declared.items.NextContent.the-variants.{Item}
 use Rattle.library.specs.items.Contents.{nextContent}
 use Rattle.library.specs.items.Left.{fixupsLeft}
@@ -28,7 +28,7 @@ record Inv (library : List ℕ) (from : ℕ) (keys₀ places₀ keys places : Li
   keys-long : length keys ≡ length keys₀
   places-long : length places ≡ length places₀
   done : List Section
-  whole : done ++ found library (sectionsAt library) at ≡ found library (sectionsAt library) from
+  whole : done ++ itemsAt library (sectionsAt library) at ≡ itemsAt library (sectionsAt library) from
   gathered : Held sectionKey (Stands library) noSection done keys places n
   few : 7 * n ≤ at
 
@@ -36,7 +36,7 @@ abbrev Inv-loop : tie.InvT-loop
 Inv-loop library from keys₀ places₀ at₀ n₀ keys places at n = Inv library from keys₀ places₀ keys places at n
 
 abbrev μ-loop : tie.MeasureT-loop
-μ-loop library from keys₀ places₀ at₀ n₀ keys places at n = length (found library (sectionsAt library) at)
+μ-loop library from keys₀ places₀ at₀ n₀ keys places at n = length (itemsAt library (sectionsAt library) at)
 
 -- the next content, once it is known
 abbrev Told : Type 0

@@ -7,7 +7,7 @@ use Rattle.lent.specs.Lists.{one}
 use Rattle.image.specs.declared.Stretch.{Stretch}
 use Rattle.image.specs.View.{view}
 use Rattle.segments.specs.declared.SegmentRow.{SegmentRow}
-use Rattle.search.specs.declared.matches.Cursor.{Cursor}
+use Rattle.search.specs.declared.matches.MatchCursor.{MatchCursor}
 use Rattle.search.specs.matches.Cursor.{placesLeft, Sound, Reached}
 use Rattle.search.specs.matches.StepLaws.{stepped-at, stepped-done, reached-less}
 use Rattle.search_rules.specs.declared.Asked.{Asked}
@@ -20,8 +20,8 @@ use borrow.Author.Needs.{needs}
 use Rattle.search.proofs.visit.segment.search_segment.Statement.{statement}
 use Rattle.search.proofs.visit.segment.search_segment.Tie as tie
 
-record Inv (image : List ℕ) (s : Stretch) (asked : Asked) (library : List ℕ) (t : Stored) (n i : ℕ) (placed₀ positions₀ noted₀ goals₀ : List ℕ) (row : SegmentRow) (f₀ : Fills) (pattern masked : List ℕ) (c₀ : Cursor)
-    (placed positions noted goals : List ℕ) (f : Fills) (c : Cursor) : Type 0 where
+record Inv (image : List ℕ) (s : Stretch) (asked : Asked) (library : List ℕ) (t : Stored) (n i : ℕ) (placed₀ positions₀ noted₀ goals₀ : List ℕ) (row : SegmentRow) (f₀ : Fills) (pattern masked : List ℕ) (c₀ : MatchCursor)
+    (placed positions noted goals : List ℕ) (f : Fills) (c : MatchCursor) : Type 0 where
   placed-long : length placed ≡ length placed₀
   positions-long : length positions ≡ length positions₀
   noted-long : length noted ≡ length noted₀

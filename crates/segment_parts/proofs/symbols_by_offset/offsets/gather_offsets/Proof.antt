@@ -15,7 +15,7 @@ use Rattle.omf51.proofs.Definition.{the-type}
 use Rattle.omf51.specs.declared.Definition.{Definition}
 use Rattle.omf51.specs.declared.Definition.the-variants.{Segment, Public, External}
 use Rattle.omf51.specs.Module.{definitionsAt}
-use Rattle.library.specs.Found.{found}
+use Rattle.library.specs.Gathered.{itemsAt}
 use Rattle.library.specs.declared.items.Cursor.{Cursor}
 use Rattle.library.specs.declared.items.NextDefinition.the-variants.{Item}
 use Rattle.library.specs.items.Items.{nextDefinition}
@@ -47,7 +47,7 @@ record Inv (library : List ℕ) (from : ℕ) (keys₀ places₀ keys places : Li
   keys-long : length keys ≡ length keys₀
   places-long : length places ≡ length places₀
   done : List Definition
-  whole : done ++ definitionsLeft library c ≡ found library (definitionsAt library) from
+  whole : done ++ definitionsLeft library c ≡ itemsAt library (definitionsAt library) from
   gathered : Zero-held library done keys places n
   few : 5 * n ≤ c .at
   ordered : Ordered c
