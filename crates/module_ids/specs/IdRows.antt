@@ -14,7 +14,7 @@ use Rattle.module_ids.specs.declared.Mark.the-variants.{Missing, Other, 
 use Rattle.module_ids.specs.declared.KeptAs.{KeptAs}
 use Rattle.module_ids.specs.declared.KeptAs.the-variants.{None, Place}
 use Rattle.module_ids.specs.declared.IdRow.{IdRow}
-use Rattle.module_ids.specs.declared.row.Triple.{Triple}
+use Rattle.module_ids.specs.declared.row.KeptTriple.{KeptTriple}
 
 -- what the definitions of a module say of an id
 abbrev pub markOf : Option Definition → Mark
@@ -46,7 +46,7 @@ abbrev pub markFrom : ℕ → Mark
 markFrom n = if eqb n 0 then Missing else if eqb n 1 then Other else Code
 
 -- the kept segment's numbers, as the code has them
-abbrev pub keptCells : KeptAs → Triple
+abbrev pub keptCells : KeptAs → KeptTriple
 keptCells None = record { flag = 0; place = 0; size = 0 }
 keptCells (Place place size) = record { flag = 3; place = place; size = size }
 

@@ -13,7 +13,7 @@ use omf51::ModuleId;
 const WIDTH: usize = 6;
 
 // The numbers of a kept segment. The flag is 3, above every mark, so that one number holds a mark, `% 3`, and whether a segment is kept.
-struct KeptCells {
+struct KeptTriple {
     flag: u64,
     place: u64,
     size: u64,
@@ -41,16 +41,16 @@ fn mark_from(n: u64) -> Mark
     }
 }
 
-fn kept_cells(kept: KeptAs) -> KeptCells
+fn kept_cells(kept: KeptAs) -> KeptTriple
     ensures { λ r. ⌜ (r ≡ keptCells kept) × (r .flag ≤ 3) ⌝ }
 {
     match kept {
-        KeptAs::None => KeptCells {
+        KeptAs::None => KeptTriple {
             flag: 0,
             place: 0,
             size: 0,
         },
-        KeptAs::Place { place, size } => KeptCells {
+        KeptAs::Place { place, size } => KeptTriple {
             flag: 3,
             place: place as u64,
             size: size as u64,
