@@ -25,7 +25,7 @@ fn rules_of(number: u64) -> Rules
     if number == 1 {
         return Rules::Documented;
     }
-    Rules::FindAnswer
+    Rules::AsFound
 }
 
 // What is asked of the search.
