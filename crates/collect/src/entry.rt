@@ -17,6 +17,7 @@ use crate::conclude::conclude;
 use crate::stored::Stored;
 use image::fixup::Rules;
 use lent::refusal::Refusal;
+use library::LONGEST_LIBRARY;
 use tables::zeros::content_room;
 use tables::zeros::few_entries;
 use tables::zeros::few_ids;
@@ -28,6 +29,9 @@ use tables::zeros::many_entries;
 use tables::zeros::many_ids;
 use tables::zeros::many_keys;
 use tables::zeros::many_places;
+
+// A library up to this length is collected with small tables.
+const SHORT_LIBRARY: usize = 65536;
 
 // A library of at most 64 KiB, for which small tables do.
 fn store_short(
@@ -142,7 +146,7 @@ fn store(
         (lists (now (segments .entry)) (now (references .entry)) (now (symbols .entry)) (now (bytes .entry)) (now (masks .entry)))
         (lists (now (segments .exit)) (now (references .exit)) (now (symbols .exit)) (now (bytes .exit)) (now (masks .exit))) r ⌝ }
 {
-    if library.len() <= 65536 {
+    if library.len() <= SHORT_LIBRARY {
         return store_short(
             library,
             rules,
@@ -182,7 +186,7 @@ pub fn collect(
     ensures { λ r. ⌜ record { answer = r; left = lists (now (segments .exit)) (now (references .exit)) (now (symbols .exit)) (now (bytes .exit)) (now (masks .exit)) }
         ≡ collection rules (now (library .entry)) (itemsAt (now (library .entry)) (moduleAt (now (library .entry))) from) (lists (now (segments .entry)) (now (references .entry)) (now (symbols .entry)) (now (bytes .entry)) (now (masks .entry))) ⌝ }
 {
-    if library.len() > 1048576 {
+    if library.len() > LONGEST_LIBRARY {
         return Collection::Refused(Refusal::LibraryTooLong);
     }
     let mut table = id_table();

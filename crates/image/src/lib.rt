@@ -9,6 +9,9 @@ ghost use Rattle.image.specs.Next.{nextMatch};
 
 pub mod fixup;
 
+// An image is at most this long.
+pub const LONGEST_IMAGE: usize = 65536;
+
 // A stretch of the image that is withheld: `len` bytes from `start` on.
 pub struct Stretch {
     pub start: usize,

@@ -1,17 +1,19 @@
 -- What a run comes to once the library is read: by the collection, and then by what is found.
-use Prim.Native.Nat.{ℕ}
+use Prim.Native.Nat.{ℕ, _≤_}
 use mathlib.Core.Path.{_≡_}
 use mathlib.Core.List.{List}
+use lib.ListN.{length}
+use Rattle.image.specs.View.{view}
 use Rattle.search.specs.visit.Visits.{stored}
 use Rattle.collect.specs.declared.stored.CollectCounts.{CollectCounts as Stored}
 use Rattle.collect.specs.stored.Stores.{CollectLists as Collectable}
 use Rattle.listing.specs.declared.FindAnswer.{FindAnswer}
 use Rattle.listing.specs.declared.FindAnswer.the-variants as FindAnswer
-use Rattle.listing.specs.Outcome.{FindLists, FindOutcome as Finding}
+use Rattle.listing.specs.Outcome.{FindLists, FindOutcome as Finding, findOutcome}
 use Rattle.run.specs.declared.Settings.{Settings}
 use Rattle.run.specs.declared.Answer.{Answer}
 use Rattle.run.specs.declared.Answer.the-variants.{Done, Refused}
-use Rattle.run.specs.Run.{Lent, Outcome, run}
+use Rattle.run.specs.Run.{Lent, Outcome, askedOf, run}
 use Rattle.libfind.specs.Begin.{Begun}
 
 -- the lists that are lent to the collection, and what finding is lent once they are filled
@@ -59,6 +61,12 @@ answerBy c (FindAnswer.Refused r) = Refused r
 
 abbrev pub concluded : Stored → Finding → Outcome
 concluded c o = record { answer = answerBy c (o .answer); left = allOf (o .left) }
+
+-- the run, once the segments are collected: the search, and then the list
+abbrev pub FindsCollected : List ℕ → List ℕ → Settings → Stored → Lent → Answer → Lent → Type 0
+FindsCollected image library s c before r after =
+    length image ≤ 65536
+    → record { answer = r; left = after } ≡ concluded c (findOutcome (view image (s .stretch)) (askedOf s) (s .skip) library (c .segments) (givenLists before))
 
 -- the run, from the place of the first module on
 abbrev pub FindsFrom : List ℕ → List ℕ → Settings → ℕ → Lent → Answer → Lent → Type 0

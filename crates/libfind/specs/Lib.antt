@@ -3,3 +3,4 @@ pub mod Begin
 pub mod BeginLaws
 pub mod Ends
 pub mod EndLaws
+pub mod FlowLaws

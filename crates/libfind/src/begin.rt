@@ -3,8 +3,10 @@ ghost use mathlib.Core.Path.{_≡_};
 ghost use Prim.Native.Nat.{_+_};
 ghost use lib.Dec.{ltb};
 ghost use Rattle.libfind.specs.Begin.{settingsRefusal, checked, beginning};
+use image::LONGEST_IMAGE;
 use image::Stretch;
 use lent::refusal::Refusal;
+use library::LONGEST_LIBRARY;
 use library::Reading;
 use library::file::read;
 use run::Settings;
@@ -38,10 +40,10 @@ fn check(image: usize, library: usize, settings: Settings) -> Checked
     if 1 < settings.rules {
         return Checked::Refused(Refusal::RuleSet);
     }
-    if 65536 < image {
+    if LONGEST_IMAGE < image {
         return Checked::Refused(Refusal::ImageTooLong);
     }
-    if 1048576 < library {
+    if LONGEST_LIBRARY < library {
         return Checked::Refused(Refusal::LibraryTooLong);
     }
     if passes_end(settings.stretch, image) {

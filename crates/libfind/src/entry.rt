@@ -1,50 +1,31 @@
-// The entry point.
+// The entry point, and the flow of a run: the library is read, its segments are collected, the image is searched for them, and the names
+// that were found are listed.
 ghost use mathlib.Core.Path.{_≡_};
-ghost use Rattle.image.specs.View.{view};
 ghost use Rattle.image.specs.fixup.Target.{rulesOf};
-ghost use Rattle.listing.specs.Outcome.{findOutcome};
 ghost use Rattle.run.specs.Run.{lentLists, askedOf, run};
-ghost use Rattle.libfind.specs.Ends.{givenLists, concluded, FindsFrom};
+ghost use Rattle.libfind.specs.Ends.{answerBy, FindsCollected, FindsFrom};
 use crate::begin::Beginning;
 use crate::begin::begin;
 use collect::Collection;
 use collect::entry::collect;
+use collect::stored::CollectCounts;
 use image::fixup::Rules;
 use lent::rows::clear;
 use listing::FindAnswer;
-use listing::entry::find;
+use listing::entry::list;
 use run::Answer;
 use run::Counts;
 use run::Settings;
+use search::Searched;
+use search::entry::search;
 use search_rules::Asked;
 
-// The rule set of a number that was accepted.
-fn rules_of(number: u64) -> Rules
-    ensures { λ r. ⌜ r ≡ rulesOf number ⌝ }
-{
-    if number == 1 {
-        return Rules::Documented;
-    }
-    Rules::FindAnswer
-}
-
-// What is asked of the search.
-fn asked_of(settings: Settings) -> Asked
-    ensures { λ r. ⌜ r ≡ askedOf settings ⌝ }
-{
-    Asked {
-        rules: rules_of(settings.rules),
-        check: settings.check,
-        minimum: settings.minimum,
-    }
-}
-
-// The segments are collected: the image is searched for them, and what is found is listed.
-fn find_collected(
+// Lists where the names of a library stand in an image. The answer and all that is left in lent memory are those of the run that is
+// defined: rows and counts, or the number of the first refusal that applies.
+pub fn find_names(
     image: &[u8],
     library: &[u8],
     settings: Settings,
-    collected: collect::stored::CollectCounts,
     segments: &mut [u64],
     references: &mut [u64],
     symbols: &mut [u64],
@@ -55,37 +36,25 @@ fn find_collected(
     lines: &mut [u64],
 ) -> Answer
     ensures { λ r. ⌜ record { answer = r; left = lentLists (now (segments .exit)) (now (references .exit)) (now (symbols .exit)) (now (bytes .exit)) (now (masks .exit)) (now (placed .exit)) (now (noted .exit)) (now (lines .exit)) }
-        ≡ concluded collected (findOutcome (view (now (image .entry)) (settings .stretch)) (askedOf settings) (settings .skip) (now (library .entry)) (collected .segments)
-        (givenLists (lentLists (now (segments .entry)) (now (references .entry)) (now (symbols .entry)) (now (bytes .entry)) (now (masks .entry)) (now (placed .entry)) (now (noted .entry)) (now (lines .entry))))) ⌝ }
+        ≡ run (now (image .entry)) (now (library .entry)) settings
+        (lentLists (now (segments .entry)) (now (references .entry)) (now (symbols .entry)) (now (bytes .entry)) (now (masks .entry)) (now (placed .entry)) (now (noted .entry)) (now (lines .entry))) ⌝ }
 {
-    let asked = asked_of(settings);
-    let skip = settings.skip;
-    match find(
-        image,
-        settings.stretch,
-        asked,
-        skip,
-        library,
-        collected.segments,
-        segments,
-        references,
-        symbols,
-        bytes,
-        masks,
-        placed,
-        noted,
-        lines,
-    ) {
-        FindAnswer::Done(f) => Answer::Done(Counts {
-            segments: collected.segments,
-            references: collected.references,
-            symbols: collected.symbols,
-            pattern: collected.pattern,
-            placed: f.placed,
-            noted: f.noted,
-            lines: f.lines,
-        }),
-        FindAnswer::Refused(r) => Answer::Refused(r),
+    match begin(image, library, settings) {
+        Beginning::At(first) => find_from(
+            image,
+            library,
+            settings,
+            first,
+            segments,
+            references,
+            symbols,
+            bytes,
+            masks,
+            placed,
+            noted,
+            lines,
+        ),
+        Beginning::Refused(r) => Answer::Refused(r),
     }
 }
 
@@ -142,12 +111,12 @@ fn find_from(
     }
 }
 
-// Lists where the names of a library stand in an image. The answer and all that is left in lent memory are those of the run that is
-// defined: rows and counts, or the number of the first refusal that applies.
-pub fn find_names(
+// The segments are collected: the image is searched for them, and the names that were found are listed.
+fn find_collected(
     image: &[u8],
     library: &[u8],
     settings: Settings,
+    collected: CollectCounts,
     segments: &mut [u64],
     references: &mut [u64],
     symbols: &mut [u64],
@@ -157,25 +126,90 @@ pub fn find_names(
     noted: &mut [u64],
     lines: &mut [u64],
 ) -> Answer
-    ensures { λ r. ⌜ record { answer = r; left = lentLists (now (segments .exit)) (now (references .exit)) (now (symbols .exit)) (now (bytes .exit)) (now (masks .exit)) (now (placed .exit)) (now (noted .exit)) (now (lines .exit)) }
-        ≡ run (now (image .entry)) (now (library .entry)) settings
-        (lentLists (now (segments .entry)) (now (references .entry)) (now (symbols .entry)) (now (bytes .entry)) (now (masks .entry)) (now (placed .entry)) (now (noted .entry)) (now (lines .entry))) ⌝ }
+    ensures { λ r. ⌜ FindsCollected (now (image .entry)) (now (library .entry)) settings collected
+        (lentLists (now (segments .entry)) (now (references .entry)) (now (symbols .entry)) (now (bytes .entry)) (now (masks .entry)) (now (placed .entry)) (now (noted .entry)) (now (lines .entry))) r
+        (lentLists (now (segments .exit)) (now (references .exit)) (now (symbols .exit)) (now (bytes .exit)) (now (masks .exit)) (now (placed .exit)) (now (noted .exit)) (now (lines .exit))) ⌝ }
 {
-    match begin(image, library, settings) {
-        Beginning::At(first) => find_from(
-            image,
-            library,
-            settings,
-            first,
-            segments,
-            references,
-            symbols,
-            bytes,
-            masks,
-            placed,
-            noted,
-            lines,
-        ),
-        Beginning::Refused(r) => Answer::Refused(r),
+    let stretch = settings.stretch;
+    let skip = settings.skip;
+    let asked = asked_of(settings);
+    let n = collected.segments;
+    match search(
+        image,
+        stretch,
+        asked,
+        library,
+        n,
+        segments,
+        references,
+        symbols,
+        bytes,
+        masks,
+        placed,
+        noted,
+    ) {
+        Searched::Done(found) => {
+            let listed = list(
+                image,
+                stretch,
+                asked,
+                skip,
+                library,
+                n,
+                segments,
+                references,
+                symbols,
+                bytes,
+                masks,
+                placed,
+                noted,
+                lines,
+                found,
+            );
+            conclude(collected, listed)
+        }
+        Searched::Refused(r) => {
+            clear(lines);
+            Answer::Refused(r)
+        }
     }
+}
+
+// The answer of the run: the counts of the collection, of the search and of the list, or the refusal of the last two.
+fn conclude(collected: CollectCounts, listed: FindAnswer) -> Answer
+    ensures { λ r. ⌜ r ≡ answerBy collected listed ⌝ }
+{
+    match listed {
+        FindAnswer::Done(found) => Answer::Done(Counts {
+            segments: collected.segments,
+            references: collected.references,
+            symbols: collected.symbols,
+            pattern: collected.pattern,
+            placed: found.placed,
+            noted: found.noted,
+            lines: found.lines,
+        }),
+        FindAnswer::Refused(r) => Answer::Refused(r),
+    }
+}
+
+// What is asked of the search.
+fn asked_of(settings: Settings) -> Asked
+    ensures { λ r. ⌜ r ≡ askedOf settings ⌝ }
+{
+    Asked {
+        rules: rules_of(settings.rules),
+        check: settings.check,
+        minimum: settings.minimum,
+    }
+}
+
+// The rule set of a number that was accepted.
+fn rules_of(number: u64) -> Rules
+    ensures { λ r. ⌜ r ≡ rulesOf number ⌝ }
+{
+    if number == 1 {
+        return Rules::Documented;
+    }
+    Rules::AsFound
 }

@@ -14,7 +14,13 @@ use crate::handing::length_of;
 use crate::handing::settings_of;
 use crate::handing::size_of;
 use libfind::entry::find_names;
+use listing_rules::rows::LINE_WIDTH;
 use listing_rules::rows::line_at;
+use search_rules::NOTED_WIDTH;
+use search_rules::PLACED_WIDTH;
+use segments::rows::REFERENCE_WIDTH;
+use segments::rows::SEGMENT_WIDTH;
+use segments::rows::SYMBOL_WIDTH;
 
 // The whole run.
 #[no_mangle]
@@ -100,7 +106,16 @@ pub extern "C" fn sillmarble_describe(name: &[u8], out: &mut [u8]) -> usize
 pub extern "C" fn sillmarble_row_width(list: usize) -> usize
     ensures { λ r. ⌜ r ≡ widthOf list ⌝ }
 {
-    let widths = [8usize, 6, 3, 1, 1, 8, 6, 4];
+    let widths = [
+        SEGMENT_WIDTH,
+        REFERENCE_WIDTH,
+        SYMBOL_WIDTH,
+        1,
+        1,
+        PLACED_WIDTH,
+        NOTED_WIDTH,
+        LINE_WIDTH,
+    ];
     if list < 8 {
         return widths[list];
     }

@@ -6,6 +6,9 @@ pub mod repeat;
 
 use lent::refusal::Refusal;
 
+// A library file is at most this long.
+pub const LONGEST_LIBRARY: usize = 1048576;
+
 // Where a whole module's definitions and contents start, and what stands after it.
 pub struct Places {
     pub definitions: usize,

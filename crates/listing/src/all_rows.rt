@@ -12,6 +12,9 @@ use image::Stretch;
 use image::fixup::Rules;
 use lent::rows::clear;
 use listing_rules::Skip;
+use listing_rules::rows::LINE_WIDTH;
+use search_rules::NOTED_WIDTH;
+use search_rules::PLACED_WIDTH;
 use tables::by_name::head_rows;
 use tables::fill::Fill;
 use tables::zeros::bucket_heads;
@@ -34,10 +37,10 @@ fn leave(m: &mut [u64], f: Fill)
     if f.over {
         return;
     }
-    if m.len() / 4 < f.rows {
+    if m.len() / LINE_WIDTH < f.rows {
         return;
     }
-    clear_behind(m, f.rows * 4);
+    clear_behind(m, f.rows * LINE_WIDTH);
 }
 
 // The heads of the buckets are made from the rows: first the positions of the image, then the targets at or past its end.
@@ -60,8 +63,8 @@ pub fn list_rows(
 {
     let mut positions = bucket_heads();
     let mut goals = bucket_heads();
-    head_rows(library, placed, 8, symbols, &mut positions);
-    head_rows(library, noted, 6, names, &mut goals);
+    head_rows(library, placed, PLACED_WIDTH, symbols, &mut positions);
+    head_rows(library, noted, NOTED_WIDTH, names, &mut goals);
     let inside = list_inside(
         image,
         s,

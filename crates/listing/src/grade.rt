@@ -11,12 +11,16 @@ use image::fixup::Rules;
 use image::fixup::Target;
 use lent::part::Part;
 use search::targets::target_of;
+use search_rules::NOTED_WIDTH;
+use search_rules::PLACED_WIDTH;
 use search_rules::Placed;
 use segments::Goal;
 use segments::Reference;
 use segments::recalled::lies_within;
+use segments::rows::REFERENCE_WIDTH;
 use segments::rows::reference_at;
 use segments::rows::segment_at;
+use tables::by_name::KEYS;
 use tables::by_name::bucket;
 use tables::by_name::find;
 use tables::by_name::head_at;
@@ -26,7 +30,7 @@ fn is_found(library: &[u8], width: usize, m: &[u64], heads: &[u64], key: u64, na
     ensures { λ r. ⌜ r ≡ isFound (now (library .entry)) width (now (m .entry)) (now (heads .entry)) key name ⌝ }
 {
     let shared = bucket(library, key, name);
-    let head = head_at(heads, 65536 + shared);
+    let head = head_at(heads, KEYS + shared);
     find(library, m, width, head, key, name) != 0
 }
 
@@ -49,7 +53,7 @@ fn bears_out(
     };
     match goal {
         Goal::Segment(_) => true,
-        Goal::Name(name) => is_found(library, 8, placed, positions, t, name),
+        Goal::Name(name) => is_found(library, PLACED_WIDTH, placed, positions, t, name),
     }
 }
 
@@ -69,7 +73,7 @@ fn bear_out(
 {
     let at = part.at;
     let len = part.len;
-    if !lies_within(part, references.len() / 6) {
+    if !lies_within(part, references.len() / REFERENCE_WIDTH) {
         return true;
     }
     let mut k = 0;
@@ -141,7 +145,14 @@ pub fn grade(
     ensures { λ r. ⌜ r ≡ rowGrade (view (now (image .entry)) s) (now (library .entry)) rules (now (segments .entry)) (now (references .entry)) n (now (placed .entry)) (now (positions .entry)) (now (noted .entry)) (now (goals .entry)) row ⌝ }
 {
     let number = row.segment;
-    let there = is_found(library, 6, noted, goals, row.position as u64, row.name);
+    let there = is_found(
+        library,
+        NOTED_WIDTH,
+        noted,
+        goals,
+        row.position as u64,
+        row.name,
+    );
     if !is_kept(row.valid, there) {
         return 0;
     }

@@ -1,4 +1,4 @@
-// Finding names in an image: it is searched for segments that are stored in lent memory, and what was found is listed.
+// Listing the names that a search placed and noted: at each position of the image, and then past its end.
 pub mod all_rows;
 pub mod entry;
 pub mod grade;
@@ -9,14 +9,14 @@ pub mod position;
 
 use lent::refusal::Refusal;
 
-// How many rows were written.
+// How many rows the search and the list wrote.
 pub struct FindCounts {
     pub placed: usize,
     pub noted: usize,
     pub lines: usize,
 }
 
-// What it comes to.
+// What the search and the list come to.
 pub enum FindAnswer {
     Done(FindCounts),
     Refused(Refusal),

@@ -8,12 +8,12 @@ use lent::part::Part;
 use lent::rows;
 
 // How many numbers a row has.
-const LINE: usize = 4;
+pub const LINE_WIDTH: usize = 4;
 
 pub fn line_at(m: &[u64], i: usize) -> Line
     ensures { λ r. ⌜ r ≡ lineAt (now (m .entry)) i ⌝ }
 {
-    let n = rows::numbers(m, LINE, i);
+    let n = rows::numbers(m, LINE_WIDTH, i);
     Line {
         address: n[0],
         grade: (n[1] % 256) as u8,

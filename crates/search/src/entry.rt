@@ -7,6 +7,7 @@ use crate::SearchCounts;
 use crate::Searched;
 use crate::fill::fill_rows;
 use crate::fill::lacks_room;
+use image::LONGEST_IMAGE;
 use image::Stretch;
 use lent::refusal::Refusal;
 use lent::rows::clear;
@@ -54,7 +55,7 @@ pub fn search(
     ensures { λ r. ⌜ record { answer = r; left = record { stored = stored (now (segments .exit)) (now (references .exit)) (now (symbols .exit)) (now (bytes .exit)) (now (masks .exit)); placed = now (placed .exit); noted = now (noted .exit) } }
         ≡ searched (view (now (image .entry)) s) asked (now (library .entry)) n (record { stored = stored (now (segments .entry)) (now (references .entry)) (now (symbols .entry)) (now (bytes .entry)) (now (masks .entry)); placed = now (placed .entry); noted = now (noted .entry) }) ⌝ }
 {
-    if 65536 < image.len() {
+    if LONGEST_IMAGE < image.len() {
         return Searched::Refused(Refusal::ImageTooLong);
     }
     let f = fill_rows(

@@ -6,11 +6,14 @@ ghost use Rattle.search_rules.specs.SearchRows.{placedLayout};
 ghost use Rattle.search.specs.place.Placing.{PlacesOne, PlacesAll};
 use crate::rows::put_placed;
 use lent::part::Part;
+use search_rules::PLACED_WIDTH;
 use search_rules::Placed;
 use segments::SegmentNumber;
 use segments::Symbol;
 use segments::recalled::lies_within;
+use segments::rows::SYMBOL_WIDTH;
 use segments::rows::symbol_at;
+use tables::by_name::KEYS;
 use tables::by_name::bucket;
 use tables::by_name::find;
 use tables::by_name::head_at;
@@ -22,7 +25,7 @@ use tables::fill::one_more;
 fn append_placed(m: &mut [u64], f: Fill, row: Placed) -> Fill
     ensures { λ r. ⌜ (now (m .exit) ≡ putMore placedLayout f row (now (m .entry))) × (r ≡ oneMore f 8 (length (now (m .entry)))) ⌝ }
 {
-    let next = one_more(f, 8, m.len());
+    let next = one_more(f, PLACED_WIDTH, m.len());
     if next.over {
         return next;
     }
@@ -57,11 +60,11 @@ pub fn place_symbol(
     let key = position as u64;
     let name = y.name;
     let shared = bucket(library, key, name);
-    let alike = head_at(heads, 65536 + shared);
-    if find(library, placed, 8, alike, key, name) != 0 {
+    let alike = head_at(heads, KEYS + shared);
+    if find(library, placed, PLACED_WIDTH, alike, key, name) != 0 {
         return f;
     }
-    let link = head_at(heads, position % 65536);
+    let link = head_at(heads, position % KEYS);
     let more = append_placed(
         placed,
         f,
@@ -100,7 +103,7 @@ pub fn place_symbols(
     let mut f = before;
     let at = part.at;
     let len = part.len;
-    if !lies_within(part, symbols.len() / 3) {
+    if !lies_within(part, symbols.len() / SYMBOL_WIDTH) {
         return f;
     }
     let mut k = 0;

@@ -5,19 +5,16 @@ ghost use Rattle.search_rules.specs.SearchRows.{placedWidth, notedWidth, placed
 ghost use Rattle.search_rules.specs.SearchLayouts.{placedAt, notedAt};
 use lent::part::Part;
 use lent::rows;
+use search_rules::NOTED_WIDTH;
 use search_rules::Noted;
+use search_rules::PLACED_WIDTH;
 use search_rules::Placed;
 use segments::SegmentNumber;
-
-// How many numbers a row has.
-const PLACED: usize = 8;
-
-const NOTED: usize = 6;
 
 pub fn placed_at(m: &[u64], i: usize) -> Placed
     ensures { λ r. ⌜ r ≡ placedAt (now (m .entry)) i ⌝ }
 {
-    let n = rows::numbers(m, PLACED, i);
+    let n = rows::numbers(m, PLACED_WIDTH, i);
     Placed {
         position: n[0] as usize,
         name: Part {
@@ -51,7 +48,7 @@ pub fn put_placed(m: &mut [u64], i: usize, row: Placed)
 pub fn noted_at(m: &[u64], i: usize) -> Noted
     ensures { λ r. ⌜ r ≡ notedAt (now (m .entry)) i ⌝ }
 {
-    let n = rows::numbers(m, NOTED, i);
+    let n = rows::numbers(m, NOTED_WIDTH, i);
     Noted {
         target: n[0],
         name: Part {

@@ -10,6 +10,11 @@ pub struct Asked {
     pub minimum: usize,
 }
 
+// How many numbers a row of a placed symbol has, and a row of a noted name.
+pub const PLACED_WIDTH: usize = 8;
+
+pub const NOTED_WIDTH: usize = 6;
+
 // A symbol placed at a position, by the match of a segment at `base`. Its links are each one more than the number of an
 // earlier row, or 0: `link` leads to the newest of the same position, `alike` to the newest whose position and name share a
 // bucket with these.

@@ -9,13 +9,16 @@ use crate::Symbol;
 use crate::put::put_reference;
 use crate::put::put_segment;
 use crate::put::put_symbol;
+use crate::rows::REFERENCE_WIDTH;
+use crate::rows::SEGMENT_WIDTH;
+use crate::rows::SYMBOL_WIDTH;
 use tables::fill::Fill;
 use tables::fill::one_more;
 
 pub fn append_segment(m: &mut [u64], f: Fill, row: SegmentRow) -> Fill
     ensures { λ r. ⌜ (now (m .exit) ≡ putMore segmentLayout f row (now (m .entry))) × (r ≡ oneMore f 8 (length (now (m .entry)))) ⌝ }
 {
-    let next = one_more(f, 8, m.len());
+    let next = one_more(f, SEGMENT_WIDTH, m.len());
     if next.over {
         return next;
     }
@@ -26,7 +29,7 @@ pub fn append_segment(m: &mut [u64], f: Fill, row: SegmentRow) -> Fill
 pub fn append_reference(m: &mut [u64], f: Fill, row: Reference) -> Fill
     ensures { λ r. ⌜ (now (m .exit) ≡ putMore referenceLayout f row (now (m .entry))) × (r ≡ oneMore f 6 (length (now (m .entry)))) ⌝ }
 {
-    let next = one_more(f, 6, m.len());
+    let next = one_more(f, REFERENCE_WIDTH, m.len());
     if next.over {
         return next;
     }
@@ -37,7 +40,7 @@ pub fn append_reference(m: &mut [u64], f: Fill, row: Reference) -> Fill
 pub fn append_symbol(m: &mut [u64], f: Fill, row: Symbol) -> Fill
     ensures { λ r. ⌜ (now (m .exit) ≡ putMore symbolLayout f row (now (m .entry))) × (r ≡ oneMore f 3 (length (now (m .entry)))) ⌝ }
 {
-    let next = one_more(f, 3, m.len());
+    let next = one_more(f, SYMBOL_WIDTH, m.len());
     if next.over {
         return next;
     }

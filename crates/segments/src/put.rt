@@ -9,17 +9,13 @@ use crate::Reference;
 use crate::SegmentRow;
 use crate::Symbol;
 use crate::rows::Pair;
+use crate::rows::REFERENCE_WIDTH;
+use crate::rows::SEGMENT_WIDTH;
+use crate::rows::SYMBOL_WIDTH;
 use crate::rows::Triple;
 use image::Seat;
 use image::fixup::Kind;
 use lent::rows;
-
-// How many numbers a row has.
-const SEGMENT: usize = 8;
-
-const REFERENCE: usize = 6;
-
-const SYMBOL: usize = 3;
 
 fn seat_pair(seat: Seat) -> Pair
     ensures { λ r. ⌜ r ≡ seatPair seat ⌝ }

@@ -12,11 +12,11 @@ use lent::part::Part;
 use lent::rows;
 
 // How many numbers a row has.
-const SEGMENT: usize = 8;
+pub const SEGMENT_WIDTH: usize = 8;
 
-const REFERENCE: usize = 6;
+pub const REFERENCE_WIDTH: usize = 6;
 
-const SYMBOL: usize = 3;
+pub const SYMBOL_WIDTH: usize = 3;
 
 // A case as numbers: its tag, and what it holds.
 pub struct Pair {
@@ -68,7 +68,7 @@ fn kind_from(n: u64) -> Kind
 pub fn segment_at(m: &[u64], i: usize) -> SegmentRow
     ensures { λ r. ⌜ r ≡ segmentRowAt (now (m .entry)) i ⌝ }
 {
-    let n = rows::numbers(m, SEGMENT, i);
+    let n = rows::numbers(m, SEGMENT_WIDTH, i);
     SegmentRow {
         seat: seat_from(n[0], n[1]),
         pattern: Part {
@@ -89,7 +89,7 @@ pub fn segment_at(m: &[u64], i: usize) -> SegmentRow
 pub fn reference_at(m: &[u64], i: usize) -> Reference
     ensures { λ r. ⌜ r ≡ referenceAt (now (m .entry)) i ⌝ }
 {
-    let n = rows::numbers(m, REFERENCE, i);
+    let n = rows::numbers(m, REFERENCE_WIDTH, i);
     Reference {
         place: n[0] as usize,
         kind: kind_from(n[1]),
@@ -101,7 +101,7 @@ pub fn reference_at(m: &[u64], i: usize) -> Reference
 pub fn symbol_at(m: &[u64], i: usize) -> Symbol
     ensures { λ r. ⌜ r ≡ symbolAt (now (m .entry)) i ⌝ }
 {
-    let n = rows::numbers(m, SYMBOL, i);
+    let n = rows::numbers(m, SYMBOL_WIDTH, i);
     Symbol {
         name: Part {
             at: n[0] as usize,

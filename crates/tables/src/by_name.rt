@@ -12,10 +12,11 @@ use lent::names;
 use lent::part::Part;
 use lent::rows::cell;
 
-// How many buckets there are of keys, and of keys and names together.
-const KEYS: usize = 65536;
+// How many buckets there are of keys; those of keys and names together, as many, stand behind them in a table of heads.
+pub const KEYS: usize = 65536;
 
-const NAMES: u64 = 65536;
+// The same number for keys of 64 bits, and for names.
+pub const BUCKETS: u64 = 65536;
 
 // What is looked at of a row: its key and its name, and where it leads on.
 struct Tag {
@@ -122,10 +123,10 @@ pub fn bucket(library: &[u8], key: u64, name: Part) -> usize
     ensures { λ r. ⌜ r ≡ nameBucket key (bytesOf (now (library .entry)) name) ⌝ }
 {
     let bytes = names::name(library, name);
-    let mut h = key % NAMES;
+    let mut h = key % BUCKETS;
     let mut i = 0;
     while i < bytes.len() {
-        h = (h * 31 + bytes[i] as u64) % NAMES;
+        h = (h * 31 + bytes[i] as u64) % BUCKETS;
         i += 1;
     }
     h as usize

@@ -2,9 +2,7 @@
 ghost use Prim.Native.Nat.{_≤_};
 ghost use Rattle.listing.specs.past_end.Beyond.{Higher, Lower, NonePast, NoneBefore};
 use lent::rows::cell;
-
-// How many numbers a row has.
-const NOTED: usize = 6;
+use search_rules::NOTED_WIDTH;
 
 // With so many rows it takes less time to look at each target of a window than to look for the next one each time.
 const MANY: usize = 128;
@@ -25,7 +23,7 @@ pub fn highest(noted: &[u64], n: usize) -> u64
     let mut top = 0;
     let mut i = 0;
     while i < n {
-        top = higher(top, cell(noted, NOTED, i, 0));
+        top = higher(top, cell(noted, NOTED_WIDTH, i, 0));
         i += 1;
     }
     top
@@ -51,7 +49,7 @@ pub fn lowest(noted: &[u64], n: usize, bound: u64, top: u64) -> u64
     let mut least = top;
     let mut i = 0;
     while i < n {
-        least = lower(bound, least, cell(noted, NOTED, i, 0));
+        least = lower(bound, least, cell(noted, NOTED_WIDTH, i, 0));
         i += 1;
     }
     least
@@ -78,7 +76,7 @@ pub fn span_end(noted: &[u64], n: usize, first: u64) -> u64
     let mut last = first;
     let mut i = 0;
     while i < n {
-        last = further(last, cell(noted, NOTED, i, 0), most);
+        last = further(last, cell(noted, NOTED_WIDTH, i, 0), most);
         i += 1;
     }
     last

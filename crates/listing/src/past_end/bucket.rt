@@ -4,13 +4,11 @@ ghost use Rattle.listing.specs.past_end.Beyond.{notingOf, sought, Onward
 use listing_rules::Line;
 use listing_rules::Skip;
 use listing_rules::is_crowded;
+use listing_rules::rows::LINE_WIDTH;
 use listing_rules::rows::put_line;
 use search::rows::noted_at;
 use search_rules::Noted;
 use tables::fill::Fill;
-
-// How many numbers a line has.
-const LINE: usize = 4;
 
 // A row's link leads to an earlier row; any other one leads nowhere, so that whoever follows them comes to an end.
 fn onward(here: usize, link: usize) -> usize
@@ -102,7 +100,7 @@ pub fn list_bucket(
         return f;
     }
     let valid = count(noted, head, t, false);
-    let room = lines.len() / LINE;
+    let room = lines.len() / LINE_WIDTH;
     if room < f.rows {
         return Fill {
             rows: f.rows,

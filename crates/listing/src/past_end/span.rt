@@ -2,11 +2,9 @@
 ghost use Rattle.listing.specs.past_end.Beyond.{ListsTarget, ListsSpan};
 use crate::past_end::bucket::list_bucket;
 use listing_rules::Skip;
+use tables::by_name::BUCKETS;
 use tables::by_name::head_at;
 use tables::fill::Fill;
-
-// How many buckets of targets there are.
-const BUCKETS: u64 = 65536;
 
 // The lines of one target, at once where its bucket is empty.
 fn list_target(noted: &[u64], goals: &[u64], t: u64, skip: Skip, lines: &mut [u64], f: Fill) -> Fill

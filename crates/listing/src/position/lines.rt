@@ -12,6 +12,7 @@ use image::Stretch;
 use image::fixup::Rules;
 use listing_rules::Skip;
 use listing_rules::is_crowded;
+use listing_rules::rows::LINE_WIDTH;
 use tables::fill::Fill;
 
 // All names were met: with more than the skip amount the position is left out; otherwise those of the best grade are put in order.
@@ -25,7 +26,7 @@ fn finish(library: &[u8], skip: Skip, m: &mut [u64], from: usize, b: Best) -> Fi
             over: false,
         };
     }
-    if m.len() / 4 - from < b.count {
+    if m.len() / LINE_WIDTH - from < b.count {
         return Fill {
             rows: from,
             over: true,
@@ -61,7 +62,7 @@ pub fn list_position(
     if f.over {
         return f;
     }
-    if m.len() / 4 < from {
+    if m.len() / LINE_WIDTH < from {
         return f;
     }
     let heard = walk_noted(noted, goals, at, m, from);

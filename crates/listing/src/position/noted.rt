@@ -7,6 +7,7 @@ use crate::position::Best;
 use crate::position::taking::take_in;
 use listing_rules::Line;
 use search::rows::noted_at;
+use search_rules::NOTED_WIDTH;
 use search_rules::Noted;
 use tables::by_name::head_at;
 
@@ -40,7 +41,7 @@ pub fn walk_noted(noted: &[u64], goals: &[u64], at: usize, m: &mut [u64], from: 
 {
     let mut b = Best { count: 0, grade: 0 };
     let mut here = head_at(goals, at);
-    if noted.len() / 6 < here {
+    if noted.len() / NOTED_WIDTH < here {
         return b;
     }
     while here != 0 {

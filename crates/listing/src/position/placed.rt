@@ -12,6 +12,7 @@ use image::Stretch;
 use image::fixup::Rules;
 use listing_rules::Line;
 use search::rows::placed_at;
+use search_rules::PLACED_WIDTH;
 use search_rules::Placed;
 use tables::by_name::head_at;
 
@@ -93,7 +94,7 @@ pub fn walk_placed(
 {
     let mut b = before;
     let mut here = head_at(positions, at);
-    if placed.len() / 8 < here {
+    if placed.len() / PLACED_WIDTH < here {
         return b;
     }
     while here != 0 {

@@ -9,7 +9,10 @@ ghost use Rattle.search.specs.note.Noting.{validated, NotesOne};
 use crate::rows::noted_at;
 use crate::rows::put_noted;
 use lent::part::Part;
+use search_rules::NOTED_WIDTH;
 use search_rules::Noted;
+use tables::by_name::BUCKETS;
+use tables::by_name::KEYS;
 use tables::by_name::bucket;
 use tables::by_name::find;
 use tables::by_name::head_at;
@@ -21,7 +24,7 @@ use tables::fill::one_more;
 fn append_noted(m: &mut [u64], f: Fill, row: Noted) -> Fill
     ensures { λ r. ⌜ (now (m .exit) ≡ putMore notedLayout f row (now (m .entry))) × (r ≡ oneMore f 6 (length (now (m .entry)))) ⌝ }
 {
-    let next = one_more(f, 6, m.len());
+    let next = one_more(f, NOTED_WIDTH, m.len());
     if next.over {
         return next;
     }
@@ -64,15 +67,15 @@ pub fn note_name(
         return f;
     }
     let shared = bucket(library, target, name);
-    let alike = head_at(heads, 65536 + shared);
-    let there = find(library, noted, 6, alike, target, name);
+    let alike = head_at(heads, KEYS + shared);
+    let there = find(library, noted, NOTED_WIDTH, alike, target, name);
     if there != 0 {
         if valid {
             validate(noted, there - 1);
         }
         return f;
     }
-    let link = head_at(heads, (target % 65536) as usize);
+    let link = head_at(heads, (target % BUCKETS) as usize);
     let more = append_noted(
         noted,
         f,

@@ -13,6 +13,7 @@ use lent::part::Part;
 use segments::Goal;
 use segments::Reference;
 use segments::recalled::lies_within;
+use segments::rows::REFERENCE_WIDTH;
 use segments::rows::reference_at;
 use tables::fill::Fill;
 
@@ -81,7 +82,7 @@ pub fn refer_all(
     let mut f = before;
     let at = part.at;
     let len = part.len;
-    if !lies_within(part, references.len() / 6) {
+    if !lies_within(part, references.len() / REFERENCE_WIDTH) {
         return Referred { holds, fill: f };
     }
     let mut k = 0;

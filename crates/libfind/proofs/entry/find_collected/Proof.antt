@@ -1,78 +1,95 @@
--- `find_collected`: what is found, with the counts of the collection. Assumes nothing.
+-- `find_collected`: the list of what the search found, or the search's refusal. Assumes nothing.
 use borrow.Author.Needs.{needs}
 use Rattle.libfind.proofs.entry.find_collected.Statement.{statement}
 use Rattle.libfind.proofs.entry.find_collected.Tie as tie
-use mathlib.Core.Path.{sym, ap, _∙_}
-use Rattle.image.specs.View.{view}
-use Rattle.search.specs.visit.Visits.{stored}
-use Rattle.listing.specs.Outcome.{FindLists, findOutcome}
-use Rattle.run.specs.Run.{lentLists}
-use Rattle.libfind.specs.Ends.{givenLists, concluded}
+use mathlib.Core.Path.{_∙_}
+use Rattle.run.specs.Run.{Lent, lentLists}
+use Rattle.libfind.specs.FlowLaws.{listed-then, unlisted}
 
-abbrev lent : tie.Start → FindLists
-lent c = let a = c .args in givenLists (lentLists (a .segments .now) (a .references .now) (a .symbols .now) (a .bytes .now) (a .masks .now) (a .placed .now) (a .noted .now) (a .lines .now))
+-- The ladder: places of the code that the answers cite, each as it is seen from a later place.
+abbrev after-asked-of : tie.After-search → tie.After-asked-of
+after-asked-of c = c .before .before .before .before .before .before .before .before
+
+abbrev at-entry : tie.After-search → tie.Start
+at-entry c = after-asked-of c .before .before .before .before .before .before .before .before .before .before .before .before
+
+abbrev after-search : tie.After-slice-known15 → tie.After-search
+after-search c = c .before .before .before .before .before .before .before .before .before .before .before .before .before .before
+
+abbrev after-list : tie.After-conclude → tie.After-list
+after-list c = c .before .before .before .before .before .before .before .before .before .before .before .before .before .before .before .before .before
+
+abbrev after-found : tie.After-list → tie.After-found
+after-found c = c .before .before .before .before .before .before .before .before .before .before
+
+-- the lists as they were lent
+abbrev lent : tie.After-search → Lent
+lent c =
+    let a = at-entry c .args in
+    lentLists (a .segments .now) (a .references .now) (a .symbols .now) (a .bytes .now) (a .masks .now) (a .placed .now) (a .noted .now) (a .lines .now)
 
 same-length : tie.Need-same-length
-same-length c = c .before .before .before .before .before .before .before .before .before .before .before .before .before .before .before .before .before .before .segments .given
+same-length c = c .before .before .before .before .before .before .before .before .before .before .before .before .before .before .before .before .segments2 .given ∙ after-found (after-list c) .before .before .before .before .before .before .before .before .before .before .before .before .before .before .before .segments .given
 
 same-length-2 : tie.Need-same-length-2
-same-length-2 c = c .before .before .before .before .before .before .before .before .before .before .before .before .before .before .before .before .references .given
+same-length-2 c = c .before .before .before .before .before .before .before .before .before .before .before .before .before .before .references2 .given ∙ after-found (after-list c) .before .before .before .before .before .before .before .before .before .before .before .before .before .references .given
 
 same-length-3 : tie.Need-same-length-3
-same-length-3 c = c .before .before .before .before .before .before .before .before .before .before .before .before .before .before .symbols .given
+same-length-3 c = c .before .before .before .before .before .before .before .before .before .before .before .before .symbols2 .given ∙ after-found (after-list c) .before .before .before .before .before .before .before .before .before .before .before .symbols .given
 
 same-length-4 : tie.Need-same-length-4
-same-length-4 c = c .before .before .before .before .before .before .before .before .before .before .before .before .bytes .given
+same-length-4 c = c .before .before .before .before .before .before .before .before .before .before .bytes2 .given ∙ after-found (after-list c) .before .before .before .before .before .before .before .before .before .bytes .given
 
 same-length-5 : tie.Need-same-length-5
-same-length-5 c = c .before .before .before .before .before .before .before .before .before .before .masks .given
+same-length-5 c = c .before .before .before .before .before .before .before .before .masks2 .given ∙ after-found (after-list c) .before .before .before .before .before .before .before .masks .given
 
 same-length-6 : tie.Need-same-length-6
-same-length-6 c = c .before .before .before .before .before .before .before .before .placed .given
+same-length-6 c = c .before .before .before .before .before .before .placed2 .given ∙ after-found (after-list c) .before .before .before .before .before .placed .given
 
 same-length-7 : tie.Need-same-length-7
-same-length-7 c = c .before .before .before .before .before .before .noted .given
+same-length-7 c = c .before .before .before .before .noted2 .given ∙ after-found (after-list c) .before .before .before .noted .given
 
 same-length-8 : tie.Need-same-length-8
-same-length-8 c = c .before .before .before .before .lines .given
+same-length-8 c = c .before .before .lines .given
 
 returns : tie.Need-returns
-returns c = let a = c .before .before .before .before .before .before .before .before .before .before .before .before .before .before .before .before .before .before .before .before .before .before .before .before .before .before .before .before .before .before .before .before .before .before .before .before .before .before .before .args in
-    let q = c .before .before .before .before .before .before .before .before .before .before .before .before .before .before .before .before .before .before .before .find in
-    let left : FindLists = record { searched = record { stored = stored (q .last .1 .1 .1 .1 .1 .1 .0) (q .last .1 .1 .1 .1 .1 .1 .1 .0) (q .last .1 .1 .1 .1 .1 .1 .1 .1 .0) (q .last .1 .1 .1 .1 .1 .1 .1 .1 .1 .0) (q .last .1 .1 .1 .1 .1 .1 .1 .1 .1 .1 .0); placed = q .last .1 .1 .1 .1 .1 .1 .1 .1 .1 .1 .1 .0; noted = q .last .1 .1 .1 .1 .1 .1 .1 .1 .1 .1 .1 .1 .0 }; lines = q .last .1 .1 .1 .1 .1 .1 .1 .1 .1 .1 .1 .1 .1 .0 } in
-    ap (λ r. concluded (a .collected) (record { answer = r; left = left })) (sym (c .before .f .given .1))
-    ∙ ap (concluded (a .collected)) (q .ensures ∙ ap (λ x. findOutcome (view (a .image .now) (a .settings .stretch)) x (a .settings .skip) (a .library .now) (a .collected .segments) (lent (c .before .before .before .before .before .before .before .before .before .before .before .before .before .before .before .before .before .before .before .before .before .before .before .before .before .before .before .before .before .before .before .before .before .before .before .before .before .before .before))) (c .before .before .before .before .before .before .before .before .before .before .before .before .before .before .before .before .before .before .before .before .before .before .before .before .before .before .before .before .asked-of .ensures))
+returns c = λ short.
+    let f = after-found (after-list c) in
+    let s = after-search (f .before .before) in
+    let a = at-entry s .args in
+    let p = f .before .before in
+    listed-then (a .image .now) (a .library .now) (a .settings) (a .collected) (lent s) short (after-asked-of s .asked-of .ensures) (s .search .ensures) (f .found .given .1)
+    (p .before .before .before .placed .given) (p .before .noted .given) (after-list c .list .ensures) (c .conclude .ensures)
 
 same-length-9 : tie.Need-same-length-9
-same-length-9 c = c .before .before .before .before .before .before .before .before .before .before .before .before .before .before .before .before .before .before .segments .given
+same-length-9 c = c .before .before .before .before .before .before .before .before .before .before .before .before .before .before .before .before .before .before .before .before .segments .given
 
 same-length-10 : tie.Need-same-length-10
-same-length-10 c = c .before .before .before .before .before .before .before .before .before .before .before .before .before .before .before .before .references .given
+same-length-10 c = c .before .before .before .before .before .before .before .before .before .before .before .before .before .before .before .before .before .before .references .given
 
 same-length-11 : tie.Need-same-length-11
-same-length-11 c = c .before .before .before .before .before .before .before .before .before .before .before .before .before .before .symbols .given
+same-length-11 c = c .before .before .before .before .before .before .before .before .before .before .before .before .before .before .before .before .symbols .given
 
 same-length-12 : tie.Need-same-length-12
-same-length-12 c = c .before .before .before .before .before .before .before .before .before .before .before .before .bytes .given
+same-length-12 c = c .before .before .before .before .before .before .before .before .before .before .before .before .before .before .bytes .given
 
 same-length-13 : tie.Need-same-length-13
-same-length-13 c = c .before .before .before .before .before .before .before .before .before .before .masks .given
+same-length-13 c = c .before .before .before .before .before .before .before .before .before .before .before .before .masks .given
 
 same-length-14 : tie.Need-same-length-14
-same-length-14 c = c .before .before .before .before .before .before .before .before .placed .given
+same-length-14 c = c .before .before .before .before .before .before .before .before .before .before .placed .given
 
 same-length-15 : tie.Need-same-length-15
-same-length-15 c = c .before .before .before .before .before .before .noted .given
+same-length-15 c = c .before .before .before .before .before .before .before .before .noted .given
 
 same-length-16 : tie.Need-same-length-16
-same-length-16 c = c .before .before .before .before .lines .given
+same-length-16 c = c .before .lines2 .given
 
 returns-2 : tie.Need-returns-2
-returns-2 c = let a = c .before .before .before .before .before .before .before .before .before .before .before .before .before .before .before .before .before .before .before .before .before .before .before .before .before .before .before .before .before .before .before .before .before .before .before .before .before .before .before .args in
-    let q = c .before .before .before .before .before .before .before .before .before .before .before .before .before .before .before .before .before .before .before .find in
-    let left : FindLists = record { searched = record { stored = stored (q .last .1 .1 .1 .1 .1 .1 .0) (q .last .1 .1 .1 .1 .1 .1 .1 .0) (q .last .1 .1 .1 .1 .1 .1 .1 .1 .0) (q .last .1 .1 .1 .1 .1 .1 .1 .1 .1 .0) (q .last .1 .1 .1 .1 .1 .1 .1 .1 .1 .1 .0); placed = q .last .1 .1 .1 .1 .1 .1 .1 .1 .1 .1 .1 .0; noted = q .last .1 .1 .1 .1 .1 .1 .1 .1 .1 .1 .1 .1 .0 }; lines = q .last .1 .1 .1 .1 .1 .1 .1 .1 .1 .1 .1 .1 .1 .0 } in
-    ap (λ r. concluded (a .collected) (record { answer = r; left = left })) (sym (c .before .r .given .1))
-    ∙ ap (concluded (a .collected)) (q .ensures ∙ ap (λ x. findOutcome (view (a .image .now) (a .settings .stretch)) x (a .settings .skip) (a .library .now) (a .collected .segments) (lent (c .before .before .before .before .before .before .before .before .before .before .before .before .before .before .before .before .before .before .before .before .before .before .before .before .before .before .before .before .before .before .before .before .before .before .before .before .before .before .before))) (c .before .before .before .before .before .before .before .before .before .before .before .before .before .before .before .before .before .before .before .before .before .before .before .before .before .before .before .before .asked-of .ensures))
+returns-2 c = λ short.
+    let s = after-search (c .before .before .before .before .before .before .before) in
+    let a = at-entry s .args in
+    unlisted (a .image .now) (a .library .now) (a .settings) (a .collected) (lent s) short (after-asked-of s .asked-of .ensures) (s .search .ensures) (c .before .before .before .before .before .r .given .1) (c .before .before .clear .ensures)
 
 pub find-collected-spec : {M : Type 1} → statement M
 find-collected-spec =
@@ -81,7 +98,10 @@ find-collected-spec =
     (λ c κs. search needs)
     (λ c κs. search needs)
     (λ c. search needs)
+    (λ c κs. search needs)
+    (λ c κs. search needs)
     (λ c. search needs)
+    (λ c κs. search needs)
     same-length
     same-length-2
     same-length-3

@@ -1,7 +1,7 @@
--- `list_found`: too few rows for the lines, or all of them. Assumes nothing.
+-- `list`: too few rows for the lines, or all of them. Assumes nothing.
 use borrow.Author.Needs.{needs}
-use Rattle.listing.proofs.entry.list_found.Statement.{statement}
-use Rattle.listing.proofs.entry.list_found.Tie as tie
+use Rattle.listing.proofs.entry.list.Statement.{statement}
+use Rattle.listing.proofs.entry.list.Tie as tie
 use mathlib.Core.Path.{sym, ap, _∙_}
 use Rattle.lent.specs.declared.refusal.Refusal.the-variants.{TooFewRows}
 use Rattle.lent.specs.Rows.{zeros}
@@ -56,8 +56,8 @@ returns-2 c = let a = c .before .before .before .before .before .before .before 
     done-is cells (a .asked) (a .skip) (a .library .now) (a .n) (record { searched = l; lines = a .lines .now }) short (a .rows) (lent (c .before .before .before .before .before .before .before .before .before .before .before .before .before .before .before .before .before .before .before)) done (f .last .1 .1 .1 .1 .1 .1 .1 .1 .1 .1 .1 .1 .0) (f .result)
     (lines-found cells (a .asked) (a .library .now) (a .n) l short (a .skip) (a .rows) (lent (c .before .before .before .before .before .before .before .before .before .before .before .before .before .before .before .before .before .before .before)) done (a .lines .now) (f .last .1 .1 .1 .1 .1 .1 .1 .1 .1 .1 .1 .1 .0) (f .result) (f .ensures)) (c .if1 .left)
 
-pub list-found-spec : {M : Type 1} → statement M
-list-found-spec =
+pub list-spec : {M : Type 1} → statement M
+list-spec =
     tie.close
     (tie.spec
     (λ c κs. search needs)
