@@ -148,7 +148,7 @@ class Proof:
 
     def __init__(self, text, places):
         self.places = places
-        self.chunks = re.findall(r"^\S.*\n(?:[ \t]+\S.*\n)*|^\s*\n", self.without_ladder(text), re.M)
+        self.chunks = re.findall(r"^[^\s)}].*\n(?:(?:[ \t]+\S|[)}]).*\n)*|^\s*\n", self.without_ladder(text), re.M)
         text = "".join(self.chunks)
         self.kinds = next(iter(re.findall(r"^\S+ : tie\.Need-\S+((?: \S+)*)$", text, re.M)), "")
         self.alias = dict(re.findall(rf"^({NAME}) = tie\.(\S+){re.escape(self.kinds)}$", text, re.M))
