@@ -35,7 +35,7 @@ HEAD = "-- The ladder: places of the code that the answers cite, each as it is s
 START, END = r"(?<![^\s(\[{,;])", r"(?![^\s()\[\]{},;])"
 NAME = r"(?!=\s)[^\s()\[\]{},;.]+"
 RUN = re.compile(rf"({NAME})((?:\s+\.before{END})+)")
-BINDER_OR_RW = re.compile(rf"λ\s*([^.λ]*)\.(?=\s)|\blet\s+({NAME})\s*(?::[^=]*)?=|\brw\s+(?=\()")
+BINDER_OR_RW = re.compile(rf"λ\s*([^.λ]*)\.(?=\s)|\blet\s+({NAME})(?=\s+[:=])|\brw\s+(?=\()")
 ONLY_NAMES = re.compile(rf"\blet\s+({NAME})\s+=\s+({NAME})((?:\s+\.before)+)\s+in\s+")
 OPERATOR = re.compile(r"(?:[=∙→+*<≤≡≢×∷-]|in|\+\+|λ.*\.|.*[(\[{,;]|)$")
 SAYS_LITTLE = re.compile(r".*(known|-told|-arg|keys)\d*$|(Then|Else|Joined)\d+$")
@@ -229,18 +229,19 @@ class Proof:
         return body
 
     def rewrite(self, text, scope, replace):
-        """The text, with each run that begins at a name of the scope replaced; `rw` takes its equations as they are."""
-        done, at, scope = "", 0, dict(scope)
+        """The text, with each run that begins at a name of the scope replaced; `rw` likes its equations plain."""
+        done, at, plain, scope = "", 0, 0, dict(scope)
         while run := RUN.search(text, at):
-            bound, start = BINDER_OR_RW.search(text, at), at
+            bound = BINDER_OR_RW.search(text, at)
             if bound and bound.start() < run.start():
-                at = bound.end() if bound[1] or bound[2] else closed(text, bound.end())
+                done, at = done + text[at:bound.end()], bound.end()
+                plain = plain if bound[1] or bound[2] else closed(text, at)
                 for name in (bound[1] or bound[2] or "").split():
                     scope.pop(name, None)
-                done += text[start:at]
                 continue
             way, steps = self.places.up(scope.get(run[1])), run[2].count(".before")
             cited = run[1] in scope and steps < len(way) and at_head(text[:run.start()])
+            cited = cited and (run.start() >= plain or steps > LONGEST)
             done += text[at:run.start()] + (replace(run[1], way[0], way[steps]) if cited else run[0])
             at = run.end()
         return done + text[at:]
