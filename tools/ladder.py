@@ -16,8 +16,9 @@ the proof shorter. Then `rt fmt` runs, and long lines are broken. A second run c
     tools/ladder.py /tmp/gen NAME        all proofs of crates/NAME; or NAME/proofs/entry: those in that folder
     rt dev NAME                          the check
 
-After a change of the code, a parameter more: generate anew and run the tool again. A rung is kept by its type, and its
-run of `.before` is counted anew; what is left to mend are the runs that stand in the answers themselves.
+After a change of the code, as a parameter more, the same three commands mend the proof: a name is kept by its type, and
+a run of `.before` with a field behind it goes to the nearest place that has this field. What is left to mend by hand are
+new and changed needs, and a run with no field behind it that goes by no name, as in `small (c .before .before)`.
 """
 import pathlib
 import re
@@ -32,9 +33,10 @@ ROOT = pathlib.Path(__file__).resolve().parent.parent
 HEAD = "-- The ladder: places of the code that the answers cite, each as it is seen from a later place.\n"
 START, END = r"(?<![^\s(\[{,;])", r"(?![^\s()\[\]{},;])"
 NAME = r"(?!=\s)[^\s()\[\]{},;.]+"
-RUN = re.compile(rf"({NAME})((?:\s+\.before{END})+)")
+STEPS = rf"(?:\s+\.before{END}|\s+\.▸{NAME})"     # `.▸Start`: the name of a place, while an earlier ladder is taken out
+RUN = re.compile(rf"({NAME})({STEPS}*)(?:\s+\.({NAME}))?")
 BINDER_OR_RW = re.compile(rf"λ\s*([^.λ]*)\.(?=\s)|\blet\s+({NAME})(?=\s+[:=])|\brw\s+(?=\()")
-ONLY_NAMES = re.compile(rf"\blet\s+({NAME})\s+=\s+({NAME})((?:\s+\.before)+)\s+in\s+")
+ONLY_NAMES = re.compile(rf"\blet\s+({NAME})\s+=\s+({NAME})({STEPS}+)\s+in\s+")
 OPERATOR = re.compile(r"(?:[=∙→+*<≤≡≢×∷-]|in|\+\+|λ.*\.|.*[(\[{,;]|)$")
 RESERVED = set("as data do elim in let module open record unfold use using where yes no refl tt".split())
 
@@ -57,10 +59,10 @@ class Proof:
         at, more = start + len(HEAD), r".*\n(?:    .*\n)*"
         rung = re.compile(rf"abbrev ({NAME}) :\s+tie\.(\S+)[^→]*→\s+tie\.(\S+){more}\1 c =\s{more}\n")
         while found := rung.match(text, at):
-            runs[found[1]] = " .before" * self.places.up(found[2]).index(found[3])
+            runs[found[1]] = f" .▸{found[3]}"
             at = found.end()
         text, names = text[:start] + text[at:], "|".join(map(re.escape, runs))
-        used = re.compile(rf"{START}({names})\s+(?:({NAME})|\(({NAME}(?:\s+\.before)*)\)){END}")
+        used = re.compile(rf"{START}({names})\s+(?:({NAME})|\(({NAME}{STEPS}*)\)){END}")
         while used.search(text):
             text = used.sub(lambda m: (m[2] or m[3]) + runs[m[1]], text)
         return text
@@ -129,18 +131,28 @@ class Proof:
         done, at, plain, scope = "", 0, 0, dict(scope)
         while run := RUN.search(text, at):
             bound = BINDER_OR_RW.search(text, at)
-            if bound and bound.start() < run.start():
+            if bound and bound.start() <= run.start():
                 done, at = done + text[at:bound.end()], bound.end()
                 plain = plain if bound[1] or bound[2] else closed(text, at)
                 for name in (bound[1] or bound[2] or "").split():
                     scope.pop(name, None)
                 continue
-            way, steps = self.places.up(scope.get(run[1])), run[2].count(".before")
-            cited = run[1] in scope and steps < len(way) and at_head(text[:run.start()])
-            cited = cited and (run.start() >= plain or steps > LONGEST)
-            done += text[at:run.start()] + (replace(run[1], way[0], way[steps]) if cited else run[0])
-            at = run.end()
+            goal = run[1] in scope and at_head(text[:run.start()]) and self.goal(scope[run[1]], run[2], run[3])
+            goal = goal in self.places.up(scope.get(run[1])) and goal
+            end = run.end(2) if run[2] else run.end(1)
+            new = text[run.start():end]
+            if goal:
+                steps = self.places.up(scope[run[1]]).index(goal)
+                simple = run.start() < plain and steps <= LONGEST or not steps
+                new = run[1] + " .before" * steps if simple else replace(run[1], scope[run[1]], goal)
+            done, at = done + text[at:run.start()] + new, end
         return done + text[at:]
+
+    def goal(self, place, steps, field):
+        """Where steps lead, of which some name the place that they come to."""
+        *named, rest = re.split(rf"\s+\.▸({NAME})", steps)
+        place = named[-1] if named else place
+        return self.places.goal(place, rest.count(".before"), field)
 
 
 def lay(path, places):
@@ -185,6 +197,8 @@ def lay(path, places):
         needed = "|".join(["use ", *(rf"{re.escape(kind)}\s[^=]*=" for kind in proof.kinds.split())])
         last = max(i for i, chunk in enumerate(chunks) if re.match(needed, chunk))
         chunks.insert(last + 2, HEAD + ladder.text(proof.kinds))
+    if "▸" in "".join(chunks):
+        sys.exit(f"{path}: a name of its ladder leads from no place that is known here; put the run there by hand")
     path.write_text("".join(chunks))
 
 

@@ -13,7 +13,9 @@ class Places:
 
     def __init__(self, folder):
         lts, tie = (folder / "Lts.antt").read_text(), (folder / "Tie.antt").read_text()
-        self.before = dict(re.findall(r"pub record (\S+) : Type \d where\n\s+pub before : (\S+)\n", lts))
+        found = re.findall(r"pub record (\S+) : Type \d where\n\s+pub before : (\S+)\n\s+pub (\S+) :", lts)
+        self.before = {place: before for place, before, _ in found}
+        self.fields = {place: [field] for place, _, field in found} | {"Start": ["κs", "args", "good", "fits", "pre"]}
         self.needs = dict(re.findall(r"Need-(\S+) =\s+\(c : (\S+)\) →", lts))
         spec = re.search(r"pub spec :\n(.*?)^  spec =", tie, re.M | re.S)[1]
         self.answers = re.findall(r"^\s+\(\S+ : (?:Need-)?(\S+).*?\) →$", spec, re.M)
@@ -25,6 +27,14 @@ class Places:
         while way[-1] in self.before:
             way.append(self.before[way[-1]])
         return way
+
+    def goal(self, place, steps, field):
+        """The place so many steps back; if it lacks the field, the nearest to it that has it."""
+        way = self.up(place)
+        having = [i for i, early in enumerate(way) if field in self.fields.get(early, ())]
+        if having and steps not in having:
+            steps = min(having, key=lambda i: abs(i - steps))
+        return way[steps] if steps < len(way) else None
 
 
 class Ladder:
