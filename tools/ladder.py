@@ -109,10 +109,11 @@ class Proof:
     def walk_spec(self, chunk, replace):
         """The chunk that hands the answers over: each is a line, and the place of a `λ c.` goes by its number."""
         head, *lines = re.split(r"\n    (?! )", chunk[chunk.index("tie.spec"):])
-        for i, need in enumerate(self.places.answers[:len(lines)]):
-            bound = re.match(r"\(λ c\b[^.]*\.", lines[i])
-            if bound and need in self.places.needs and len(lines) == len(self.places.answers):
-                lines[i] = bound[0] + self.rewrite(lines[i][bound.end():], {"c": self.places.needs[need]}, replace)
+        first = len(self.kinds.split())
+        if len(lines) == first + len(self.places.needs):
+            for i, place in enumerate(self.places.needs.values(), first):
+                if bound := re.match(r"\(λ c\b[^.]*\.", lines[i]):
+                    lines[i] = bound[0] + self.rewrite(lines[i][bound.end():], {"c": place}, replace)
         return chunk[:chunk.index("tie.spec")] + "\n    ".join([head, *lines])
 
     def inline(self, body, scope):

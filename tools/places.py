@@ -12,14 +12,11 @@ class Places:
     """The places of a function: the records of its Lts, each with the place before it."""
 
     def __init__(self, folder):
-        lts, tie = (folder / "Lts.antt").read_text(), (folder / "Tie.antt").read_text()
+        lts = (folder / "Lts.antt").read_text()
         found = re.findall(r"pub record (\S+) : Type \d where\n\s+pub before : (\S+)\n\s+pub (\S+) :", lts)
         self.before = {place: before for place, before, _ in found}
         self.fields = {place: [field] for place, _, field in found} | {"Start": ["κs", "args", "good", "fits", "pre"]}
         self.needs = dict(re.findall(r"Need-(\S+) =\s+\(c : (\S+)\) →", lts))
-        spec = re.search(r"pub spec :\n(.*?)^  spec =", tie, re.M | re.S)[1]
-        self.answers = re.findall(r"^\s+\(\S+ : (?:Need-)?(\S+).*?\) →$", spec, re.M)
-        self.stated = {*self.before, "Start"} & set(re.findall(r"^abbrev pub (\S+) :", tie, re.M))
 
     def up(self, place):
         """The places from this one back to the entry."""
@@ -48,7 +45,7 @@ class Ladder:
         ends = {p for way in spans for i, p in enumerate(way) if i in (0, len(way) - 1) or len(places.up(p)) % 6 == 0}
         ends |= {place for place, n in joins.items() if n > 1}
         self.gap = {(late, early): i for late in ends for i, early in enumerate(places.up(late))}
-        self.choose(sorted(ends & places.stated))
+        self.choose(sorted(ends))
         goals, self.names = Counter(goal for _, goal in self.rungs), {}
         for source, goal in self.rungs:
             name = label(goal) + (f"-from-{short(source)}" if goals[goal] > 1 else "")
