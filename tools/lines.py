@@ -14,12 +14,21 @@ ROOT = pathlib.Path(__file__).resolve().parent.parent
 
 
 def break_lines(paths):
-    for _ in range(2):      # `rt fmt` may indent what follows more than it was here
+    for parts in opened, broken, broken:    # `rt fmt` may indent what follows more than it was here
         for path in paths:
             text = path.read_text()
             names = set(re.findall(r"^abbrev (\S+) : tie\.", text, re.M))
-            path.write_text("\n".join(part for line in text.split("\n") for part in broken(line, names)))
+            path.write_text("\n".join(part for line in text.split("\n") for part in parts(line, names)))
         subprocess.run(["rt", "fmt"], cwd=ROOT, check=True)
+
+
+def opened(line, names):
+    """A long line with a record in it: `rt fmt` gives each field a line once one of them has one."""
+    record = re.search(r"\brecord \{ (?=.* \})", line)
+    if len(line) > WIDEST and record:
+        yield line[:record.end() - 1]
+        line = re.match(r"\s*", line)[0] + "      " + line[record.end():]
+    yield line
 
 
 def broken(line, names):
