@@ -23,11 +23,15 @@ def break_lines(paths):
 
 
 def opened(line, names):
-    """A long line with a record in it: `rt fmt` gives each field a line once one of them has one."""
-    record = re.search(r"\brecord \{ (?=.* \})", line)
-    if len(line) > WIDEST and record:
-        yield line[:record.end() - 1]
-        line = re.match(r"\s*", line)[0] + "      " + line[record.end():]
+    """A long line with a long record in it: `rt fmt` gives each field a line once one of them has one."""
+    for record in re.finditer(r"\brecord \{ ", line):
+        depth = [1]
+        for sign in line[record.end():]:
+            depth.append(depth[-1] + (sign == "{") - (sign == "}"))
+        if len(line) > WIDEST and 0 in depth and depth.index(0) > BROKEN:
+            yield line[:record.end() - 1]
+            line = re.match(r"\s*", line)[0] + "      " + line[record.end():]
+            break
     yield line
 
 

@@ -176,8 +176,7 @@ store-absolute-requires c κs =
           record {
             within = g .data-inside;
             short = g .data-small (λ i. omega (arith, shared-slice-known .shared-slice-known .given i));
-            low =
-                g .offset-small (λ i. omega (arith, shared-slice-known .shared-slice-known .given i));
+            low = g .offset-small (λ i. omega (arith, shared-slice-known .shared-slice-known .given i));
           },
           l .inv .clear,
         ),

@@ -193,8 +193,7 @@ store-module-requires c κs =
       contents = i .contents;
       publics = i .publics;
       masks = omega (arith, p .masks, i .apart-long);
-      few-keys = omega
-          (arith, p .few-keys, loop .loop .inv .0 .keys-long);
+      few-keys = omega (arith, p .few-keys, loop .loop .inv .0 .keys-long);
       few = omega (arith, i .few, i .long .segments, entry .good .1 .1 .1 .1 .1 .1 .1 .1 .1 .1 .1 .1 .0, entry .good .0);
     }
 
@@ -298,11 +297,9 @@ loop-again c =
         places-long = first .before .before .places .given ∙ l .inv .0 .places-long;
         first-long = first .first .given ∙ l .inv .0 .first-long;
         next-long = entries .before .before .before .before .next .given ∙ l .inv .0 .next-long;
-        keys-long = entries .before .before .keys .given ∙
-            l .inv .0 .keys-long;
+        keys-long = entries .before .before .keys .given ∙ l .inv .0 .keys-long;
         entries-long = entries .entries .given ∙ l .inv .0 .entries-long;
-        heads-long =
-            after-heads slice-known30 .heads .given ∙ l .inv .0 .heads-long;
+        heads-long = after-heads slice-known30 .heads .given ∙ l .inv .0 .heads-long;
         onward-long = after-references slice-known30 .before .before .before .before .onward .given ∙ l .inv .0 .onward-long;
       },
       record {

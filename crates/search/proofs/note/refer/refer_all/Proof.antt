@@ -71,9 +71,8 @@ loop-holds c =
       within = omega arith;
       long = refl;
       heads-long = refl;
-      refers = referring-starts (view (a .image .now) (a .s)) (a .rules) (a .position)
-          (a .valid) (a .library .now) (a .segments .now) (a .n) (a .bytes .now) (a .masks .now)
-          (rowsFrom referenceLayout (a .references .now) (a .part) 0) (a .noted .now) (a .heads .now) (a .before);
+      refers = referring-starts (view (a .image .now) (a .s)) (a .rules) (a .position) (a .valid) (a .library .now) (a .segments .now) (a .n)
+          (a .bytes .now) (a .masks .now) (rowsFrom referenceLayout (a .references .now) (a .part) 0) (a .noted .now) (a .heads .now) (a .before);
     }
 
 add-reference-at : tie.Need-add-reference-at Inv-loop μ-loop
