@@ -41,14 +41,14 @@ def broken(line, names):
     comment = line.lstrip().startswith("--")
     while len(line) > WIDEST and not line.startswith("use "):
         depth, found = 0, []
-        for i, sign in enumerate(line[:BROKEN]):
+        for i, sign in enumerate(line[:WIDEST]):
             depth += (sign in "([{") - (sign in ")]}")
-            if sign == " " and i > BROKEN // 3 and not re.match(r" (\.|[:=]|in\b)", line[i:]):
+            if sign == " " and i > len(indent) + 8 and not re.match(r" (\.|[:=]|in\b)", line[i:]):
                 if re.split(r"[\s(]", line[:i])[-1] not in names:
-                    found.append((0 if comment else depth, i < BROKEN * 2 // 3, -i))
+                    found.append((not BROKEN // 3 < i < BROKEN, 0 if comment else depth, i < BROKEN * 2 // 3, -i))
         if not found:
             break
-        at = -min(found)[2]
+        at = -min(found)[3]
         yield line[:at]
         line = indent + ("-- " if comment else "    ") + line[at + 1:]
     yield line
