@@ -237,7 +237,7 @@ def main(gen, *names):
         crate = ROOT / "crates" / name.split("/")[0]
         found = sorted((ROOT / "crates" / name if "/" in name else crate / "proofs").rglob("Proof.antt"))
         for path in found:
-            lay(path, Places(pathlib.Path(gen, f"Rattle.{crate.name}.proofs", path.parent.relative_to(crate))))
+            lay(path, Places(pathlib.Path(gen, f"Rattle.{crate.name}.proofs", path.parent.relative_to(crate), "Lts.antt")))
         paths += found
     subprocess.run(["rt", "fmt"], cwd=ROOT, check=True)
     break_lines(paths)

@@ -11,8 +11,8 @@ SAYS_LITTLE = re.compile(r".*(known|-told|-arg|keys)\d*$|(Then|Else|Joined)\d+$"
 class Places:
     """The places of a function: the records of its Lts, each with the place before it."""
 
-    def __init__(self, folder):
-        lts = (folder / "Lts.antt").read_text()
+    def __init__(self, path):
+        lts = path.read_text()
         found = re.findall(r"pub record (\S+) : Type \d where\n\s+pub before : (\S+)\n\s+pub (\S+) :", lts)
         self.before = {place: before for place, before, _ in found}
         self.fields = {place: [field] for place, _, field in found} | {"Start": ["κs", "args", "good", "fits", "pre"]}
