@@ -1,4 +1,4 @@
-// What one record comes to.
+// What reading one record comes to: a record; that none stands there; or a refusal.
 use crate::Frame;
 use lent::refusal::Refusal;
 
