@@ -15,7 +15,10 @@ use library::items::NextContent;
 use library::items::contents::next_content;
 use tables::links::number_at;
 
-// `number` is that of the module's first segment; `own` says whether a symbol stands at its own address, so that its offset counts from the content's start.
+// Stores all absolute contents of a module behind what `before` counts; `number` is that of the module's first segment.
+// They are the contents of id 0, met along `first` and `next` at `places`; the public definitions of id 0 are indexed
+// by offset in `keys` (of which n count), `entries`, `heads` and `onward`. `own` is explained at `is_own`, `flags` at
+// `name_inside`.
 pub fn store_absolutes(
     library: &[u8],
     own: bool,

@@ -89,7 +89,7 @@ pub fn many_entries() -> [u32; 209716]
     [0u32; 209716]
 }
 
-// The first place of each byte value in the image, as a link.
+// For each byte value the first place in the image that has it, as a link, and then how often the image has it.
 pub fn byte_heads() -> [u32; 512]
     ensures { λ r. ⌜ r ≡ zeroList 512 ⌝ }
 {

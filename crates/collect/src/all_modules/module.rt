@@ -1,4 +1,4 @@
-// One module: its tables are made, its segments are stored, and the tables are blank again.
+// One module: its tables are filled, its segments are stored, and the tables are made blank again.
 ghost use Rattle.collect.specs.stored.Segments.{lists};
 ghost use Rattle.collect.specs.all_modules.Modules.{Workable, StoresModule};
 use crate::one_module::both::both_parts;
@@ -11,6 +11,10 @@ use module_index::forget;
 use module_index::index_sections;
 use tables::zeros::block_flags;
 
+// Stores the segments of one module, whose parts stand at the places `at`, behind what `c` counts. The tables of the
+// module are lent blank and are blank again afterwards, so that the next module can use them: `table` by id; `ids`,
+// `places`, `first`, `next` of contents; `keys`, `entries`, `heads`, `onward` of public definitions. The five lists of
+// the collection and `apart` (masks of one content) are handed on; `own` is explained at `is_own`.
 pub fn store_module(
     library: &[u8],
     own: bool,

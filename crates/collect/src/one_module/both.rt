@@ -1,4 +1,4 @@
-// All segments of a module: the kept ones first, then the absolute contents.
+// All segments of a module: its kept segments first, then its absolute contents.
 ghost use Prim.Native.Nat.{_≤_};
 ghost use lib.ListN.{length};
 ghost use Rattle.segment_parts.specs.Referring.{Placeable};
@@ -10,6 +10,10 @@ use crate::one_module::part::second_part;
 use crate::stored::CollectCounts;
 use crate::stored::Stored;
 
+// Stores all segments of a module, whose definitions start at `from`, behind what `c` counts. Filled are what its ids
+// lead to (`table`) and its contents by id (`first`, `next`, `places`); blank before and after are the tables of public
+// definitions (`keys`, `entries`, `heads`, `onward`), which each part fills in its own way. Then the five lists of the
+// collection, room for the masks of one content (`apart`) and for flags of public definitions (`flags`).
 pub fn both_parts(
     library: &[u8],
     own: bool,
