@@ -1,4 +1,4 @@
-// All segments, in their order.
+// All segments, by their numbers.
 ghost use Rattle.image.specs.View.{view};
 ghost use Rattle.search.specs.byte_index.Index.{Indexed};
 ghost use Rattle.search.specs.visit.Visits.{stored, VisitsAll};
@@ -7,6 +7,10 @@ use crate::visit::segment::search_segment;
 use image::Stretch;
 use search_rules::Asked;
 
+// Searches the image for each of the first n segments. Read are the image with its stretch `s`, what is asked, the
+// library, the five lists of the collection (`segments`, `references`, `symbols`, `bytes`, `masks`), and the byte index
+// of the image (`first`, `next`). Written are the two lists of the search, `placed` and `noted`, each with the heads of
+// its buckets, `positions` and `goals`; `before` says how far the two are filled.
 pub fn search_all(
     image: &[u8],
     s: Stretch,
