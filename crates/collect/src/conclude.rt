@@ -34,9 +34,8 @@ pub fn clear_all(
     clear_bytes(masks);
 }
 
-// What the collection of the modules from the place `from` on comes to, given what was stored in its five lists.
-// Refusals 10 to 13 come after 9, so that they are looked for once all is stored. `table` is the table of ids, lent
-// clear.
+// What the collection of the modules from the place `from` on comes to, given what was stored in its five lists. Refusals
+// 10 to 13 come after 9, so that they are looked for once all is stored. `table` is the table of ids, lent clear.
 pub fn conclude(
     library: &[u8],
     from: usize,

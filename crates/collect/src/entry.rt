@@ -33,8 +33,8 @@ use tables::zeros::many_places;
 // A library up to this length is collected with small tables.
 const SHORT_LIBRARY: usize = 65536;
 
-// Stores the segments of a library of at most 64 KiB, for which small tables do: tables are filled with zeros in each
-// run, which costs time.
+// Stores the segments of a library of at most 64 KiB, for which small tables do: tables are filled
+// with zeros in each run, which costs time.
 fn store_short(
     library: &[u8],
     rules: Rules,
@@ -130,8 +130,7 @@ fn store_long(
     )
 }
 
-// Stores the segments of all modules from the place `from` on, with tables of the size that the library's length asks
-// for.
+// Stores the segments of all modules from the place `from` on, with tables of the size that the library's length asks for.
 fn store(
     library: &[u8],
     rules: Rules,

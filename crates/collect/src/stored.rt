@@ -10,8 +10,7 @@ pub struct CollectCounts {
     pub pattern: usize,
 }
 
-// Whether all that was asked for is stored; if there was no room, nobody looks at what the memory holds, and it is
-// cleared.
+// Whether all that was asked for is stored; if there was no room, nobody looks at what the memory holds, and it is cleared.
 pub enum Stored {
     Rows(CollectCounts),
     NoRoom,

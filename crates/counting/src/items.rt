@@ -1,5 +1,4 @@
-// The sum of what one item of a library says, with each of its numbers, so that a compiler can leave none of them
-// unread.
+// The sum of what one item of a library says, with each of its numbers, so that a compiler can leave none of them unread.
 use lent::part::Part;
 use omf51::Content;
 use omf51::Definition;

@@ -1,5 +1,4 @@
-// Each module of a library is gone over: once over its definitions, and once over its contents, each content with its
-// fixups.
+// Each module of a library is gone over: once over its definitions, and once over its contents, each content with its fixups.
 use crate::items::of_content;
 use crate::items::of_definition;
 use crate::items::of_fixup;
@@ -79,8 +78,7 @@ fn over_module(library: &[u8], places: Places) -> usize {
     )
 }
 
-// The sum of `count` modules in a row. Each module was whole when the library was read, so that none ends the loop
-// early.
+// The sum of `count` modules in a row. Each module was whole when the library was read, so that none ends the loop early.
 pub fn over_modules(library: &[u8], first: usize, count: usize) -> usize {
     let mut sum = 0;
     let mut at = first;

@@ -1,5 +1,5 @@
-// Descriptions of names, found as at51's `parse_description` does: in each list the first word that fits is taken, and
-// never reconsidered.
+// Descriptions of names, found as at51's `parse_description` does: in each list the first word that
+// fits is taken, and never reconsidered.
 ghost use mathlib.Core.Path.{_≡_};
 ghost use Prim.Native.Nat.{_+_, _≤_};
 ghost use lib.ListN.{length, drop};
@@ -25,8 +25,8 @@ fn perhaps(word: Taken, at: usize) -> Piece
     }
 }
 
-// The description of a load or a store, whose words start at `at`: a move, a memory, and perhaps 0. The sign and the
-// type come before them.
+// The description of a load or a store, whose words start at `at`: a move, a memory, and perhaps 0.
+// The sign and the type come before them.
 fn parse_moving(name: &[u8], at: usize, sign: Saying, kind: Saying) -> Parsed
     ensures { λ r. ⌜ sentenceIn r ≡ saidIn (more (say sign) (more (say kind) (moving (drop at (now (name .entry)))))) ⌝ }
 {

@@ -27,8 +27,8 @@ pub enum Described {
     Nothing,
 }
 
-// What a word says that may be missing, and where the name goes on. A missing word says nothing, and the name goes on
-// at the same place.
+// What a word says that may be missing, and where the name goes on. A missing word says nothing,
+// and the name goes on at the same place.
 pub struct Piece {
     pub says: Saying,
     pub next: usize,

@@ -15,8 +15,7 @@ use Rattle.image.specs.View.{cellAt, isByte}
 abbrev pub agrees : ℕ → ℕ → ℕ → Bool
 agrees cell byte mask = isByte cell && eqb (bitAnd (bitXor cell byte) mask) 0
 
--- all of the pattern fits at the place `at`, and each of its bytes agrees with the cell under it; a missing mask counts
--- as 0
+-- all of the pattern fits at the place `at`, and each of its bytes agrees with the cell under it; a missing mask counts as 0
 unfoldable pub matchesAt : List ℕ → List ℕ → List ℕ → ℕ → Bool
 matchesAt cells bytes masks at =
     leb (at + length bytes) (length cells)

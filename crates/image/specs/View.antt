@@ -1,5 +1,5 @@
--- The view of an image: its bytes as cells, with 256 for each byte that is withheld. All later rules take the view,
--- never the image.
+-- The view of an image: its bytes as cells, with 256 for each byte that is withheld. All later
+-- rules take the view, never the image.
 use Prim.Native.Nat.{ℕ, _+_}
 use mathlib.Core.Bool.{Bool, _&&_}
 use mathlib.Core.List.{List, map}

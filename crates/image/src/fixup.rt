@@ -60,8 +60,7 @@ fn addr16(a: u8, b: u8) -> u64
     256 * wide(a) + wide(b)
 }
 
-// The three bits of the first byte of an AJMP or ACALL that belong to the address; under rule set 0, as found, they
-// count as 0.
+// The three bits of the first byte of an AJMP or ACALL that belong to the address; under rule set 0, as found, they count as 0.
 fn top_bits(rules: Rules, a: u8) -> u64
     ensures { λ r. ⌜ r ≡ topBits rules a ⌝ }
 {
@@ -104,8 +103,8 @@ fn byte_at(image: &[u8], at: usize) -> u8
     0
 }
 
-// The address to which the bytes a and b at `pos` lead. The sum pos + 2 of an Inblock does not wrap, since its bytes
-// lie in an image.
+// The address to which the bytes a and b at `pos` lead. The sum pos + 2 of an Inblock does not
+// wrap, since its bytes lie in an image.
 fn leads_to(rules: Rules, pos: u64, kind: Kind, a: u8, b: u8) -> u64
     requires { ⌜ pos + reads kind < 2 ^ 64 ⌝ }
     ensures { λ r. ⌜ r ≡ leadsTo rules pos kind a b ⌝ }

@@ -104,9 +104,9 @@ fn parts_agreeing(image: &[u8], bytes: &[u8], masks: &[u8], at: usize, n: usize)
     i
 }
 
-// Whether a pattern matches the image at a place, with nothing withheld: all of it fits, and each byte agrees on all
-// bits of its mask; a missing mask counts as 0. Most places differ within the first bytes, so that the first four are
-// compared one by one.
+// Whether a pattern matches the image at a place, with nothing withheld: all of it fits, and each byte
+// agrees on all bits of its mask; a missing mask counts as 0. Most places differ within the first bytes, so
+// that the first four are compared one by one.
 pub fn stands_at(image: &[u8], bytes: &[u8], masks: &[u8], at: usize) -> bool
     ensures { λ r. ⌜ r ≡ matchesAt (now (image .entry)) (now (bytes .entry)) (now (masks .entry)) at ⌝ }
 {

@@ -1,5 +1,5 @@
--- The first thing in a list of things that may be missing, said in words: all before it are missing, and it is not.
--- Assumes nothing.
+-- The first thing in a list of things that may be missing, said in words: all before it are
+-- missing, and it is not. Assumes nothing.
 use Prim.Native.Nat.{ℕ}
 use mathlib.Core.Path.{_≡_, refl}
 use mathlib.Core.Logic.{_↔_}

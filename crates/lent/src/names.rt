@@ -1,5 +1,4 @@
-// Names are parts of the library: what their bytes are, whether two names are the same, and which comes first in byte
-// order.
+// Names are parts of the library: what their bytes are, whether two names are the same, and which comes first in byte order.
 ghost use Prim.Native.Nat.{_+_, _≤_, min};
 ghost use mathlib.Core.Path.{_≡_};
 ghost use lib.ListN.{length};
@@ -29,8 +28,8 @@ fn shorter(a: usize, b: usize) -> usize
     if a < b { a } else { b }
 }
 
-// Whether the 8 bytes of two strings from i on are alike. No test stands between the 8 bytes, so that the compiler can
-// compare them at once.
+// Whether the 8 bytes of two strings from i on are alike. No test stands between the 8 bytes, so that
+// the compiler can compare them at once.
 fn part_alike(a: &[u8], b: &[u8], i: usize) -> bool
     requires { ⌜ (i + 8 ≤ length (now a)) × (i + 8 ≤ length (now b)) ⌝ }
     ensures { λ r. ⌜ r ≡ partAlike (now (a .entry)) (now (b .entry)) i 8 ⌝ }
@@ -44,9 +43,9 @@ fn part_alike(a: &[u8], b: &[u8], i: usize) -> bool
     differ == 0
 }
 
-// How many of the first n bytes are alike, found by parts of 8: all n, or the bytes before the first part that differs.
-// The last part overlaps the one before it where 8 does not divide n. With n below 8 nothing is looked at, and the
-// answer is 0.
+// How many of the first n bytes are known to be alike, by parts of 8: all n, or the bytes that were gone over before a
+// part that differs. The last part overlaps the one before it where 8 does not divide n. With n below 8 nothing is
+// looked at, and the answer is 0.
 fn parts_alike(a: &[u8], b: &[u8], n: usize) -> usize
     requires { ⌜ (n ≤ length (now a)) × (n ≤ length (now b)) ⌝ }
     ensures { λ r. ⌜ AlikeUpTo (now (a .entry)) (now (b .entry)) n r ⌝ }

@@ -2,6 +2,7 @@
 ghost use mathlib.Core.Path.{_≡_};
 ghost use Rattle.lent.specs.Refusals.{refusalNumber};
 
+// The thirteen refusals.
 pub enum Refusal {
     RuleSet,
     ImageTooLong,

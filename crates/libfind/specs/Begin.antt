@@ -1,5 +1,4 @@
--- The beginning of a run, before anything is written: the first of refusals 1 to 8, and where the library's modules
--- start.
+-- The beginning of a run, before anything is written: the first of refusals 1 to 8, and where the library's modules start.
 use Prim.Native.Nat.{ℕ, _+_}
 use mathlib.Core.Path.{_≡_}
 use mathlib.Core.List.{List, [], _∷_}

@@ -20,10 +20,9 @@ use search::Searched;
 use search::entry::search;
 use search_rules::Asked;
 
-// Lists at which addresses of an image the names of a library stand. Lent are the five lists of the collection (rows of
-// segments, references and symbols, pattern bytes, masks), the two of the search (placed symbols, noted names), and the
-// lines. The answer, and all that is left in the lent lists, are those of `run` (run/specs/Run.antt): counts and rows,
-// or the first refusal that applies.
+// Lists at which addresses of an image the names of a library stand. Lent are the five lists of the collection, the two
+// of the search (`placed`, `noted`), and the lines. The answer, and what is left in the lent lists, are those of `run`
+// (run/specs/Run.antt): counts and rows, or the first refusal that applies.
 pub fn find_names(
     image: &[u8],
     library: &[u8],

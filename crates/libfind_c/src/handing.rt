@@ -107,8 +107,7 @@ pub fn size_of(printed: Printed) -> usize
     }
 }
 
-// The length of a description that was written: 0 if the name has none, the largest number of 64 bits if it did not
-// fit.
+// The length of a description that was written: 0 if the name has none, the largest number of 64 bits if it did not fit.
 pub fn length_of(described: Described) -> usize
     ensures { λ r. ⌜ r ≡ lengthOf described ⌝ }
 {

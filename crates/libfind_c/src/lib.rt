@@ -23,7 +23,7 @@ use segments::rows::SEGMENT_WIDTH;
 use segments::rows::SYMBOL_WIDTH;
 
 // The whole run, with its settings as plain numbers. Gives 0 or the number of a refusal, and leaves the seven counts in
-// `counts`; the eight lists behind it are lent for the rows of the stages.
+// `counts`; the eight lists behind it are lent to the stages.
 #[no_mangle]
 pub extern "C" fn sillmarble_find(
     image: &[u8],

@@ -1,5 +1,5 @@
-// Going over a whole module again, without storing what was read: its next definition, its next content, a content's
-// next fixup.
+// Going over a whole module again, without storing what was read: its next definition, its
+// next content, a content's next fixup.
 use omf51::Content;
 use omf51::Definition;
 use omf51::Fixup;

@@ -29,8 +29,8 @@ pub enum Counted {
     Refused(Refusal),
 }
 
-// What reading a file comes to: where its first module stands, and how many modules stand there one after another; or a
-// refusal.
+// What reading a file comes to: where its first module stands, and how many modules stand
+// there one after another; or a refusal.
 pub enum Reading {
     Modules { first: usize, count: usize },
     Refused(Refusal),

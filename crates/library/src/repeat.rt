@@ -1,5 +1,4 @@
-// Going over records without keeping what they say: where each record of entries, each content and each repetition
-// ends.
+// Going over records without keeping what they say: where each record of entries, each content and each repetition ends.
 ghost use mathlib.Core.Path.{_≡_};
 ghost use Rattle.omf51.specs.Module.{sectionAt, sectionsAt};
 ghost use Rattle.omf51.specs.Ends.{endOf};
@@ -48,8 +47,8 @@ fn own_end(next: usize, first: End) -> End
     }
 }
 
-// Where the record at a place ends: a record of such entries, the first of which is whole, or a record that is skipped
-// among them.
+// Where the record at a place ends: a record of such entries, the first of which is whole,
+// or a record that is skipped among them.
 pub fn record_end(library: &[u8], what: Entries, at: usize) -> End
     ensures { λ r. ⌜ r ≡ recordEnd what (now (library .entry)) at ⌝ }
 {
@@ -86,8 +85,7 @@ pub fn skip(library: &[u8], what: Entries, from: usize) -> End
     }
 }
 
-// Where the content at a place and the fixups that follow it at once end; the content's body has an id and an offset at
-// least.
+// Where the content at a place and the fixups that follow it at once end; the content's body has an id and an offset at least.
 fn content_end(library: &[u8], at: usize) -> End
     ensures { λ r. ⌜ r ≡ endOf (sectionAt (now (library .entry)) at) ⌝ }
 {

@@ -44,8 +44,7 @@ yields cells a skip library gs =
     let q = noted library cells a gs in
     record { placed = p; noted = q; lines = listing library cells a skip gs p q }
 
--- the refusals in their order, of which the first that applies counts: a long image, 9 for the search, and then 9 for
--- the list
+-- the refusals in their order, of which the first that applies counts: a long image, 9 for the search, and then 9 for the list
 unfoldable pub refusalOf : List ℕ → FindLists → Yield → Option Refusal
 refusalOf cells l y =
     leading

@@ -54,10 +54,9 @@ fn list_any(
     )
 }
 
-// Lists the names at all positions of the image, behind the lines in `m` that `before` counts. Read are the image with
-// its stretch `s`, the rule set, the skip amount, the library, the first n segments with their references, and the rows
-// of the search, `placed` and `noted`, with the heads of their buckets, `positions` and `goals`: together these tell
-// which names stand at a position, and their grades.
+// Lists the names at all positions of the image, behind the lines in `m` that `before` counts. The names stand in the
+// rows of the search, `placed` and `noted`, with the heads of their buckets, `positions` and `goals`; the image with
+// its stretch `s` and the first n segments with their references give the grades.
 pub fn list_inside(
     image: &[u8],
     s: Stretch,

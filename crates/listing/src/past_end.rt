@@ -1,5 +1,4 @@
-// The lines of the names noted at or past the image's end: targets ascending, the names of a target as they were first
-// noted.
+// The lines of the names noted at or past the image's end: targets ascending, the names of a target as they were first noted.
 ghost use Rattle.listing.specs.past_end.Beyond.{ListsBeyond};
 
 mod bounds;

@@ -32,8 +32,8 @@ moreDigits (suc most) n = if eqb n 0 then 0 else 1 + moreDigits most (n / 16)
 abbrev pub hex : ℕ → List ℕ
 hex n = digits (4 + moreDigits 12 (n / 0x10000)) n
 
--- a name between its signs: ( ) for a name that is only noted (grade 0), [ ] for a symbol that is not borne out (grade
--- 1), else blanks
+-- a name between its signs: ( ) for a name that is only noted (grade 0), [ ] for a symbol that
+-- is not borne out (grade 1), else blanks
 abbrev pub bracketed : ℕ → List ℕ → List ℕ
 bracketed grade name =
     if eqb grade 0 then text "(" ++ name ++ text ")"

@@ -42,8 +42,7 @@ fn fixups_fault(library: &[u8], table: &[u64], from: Cursor) -> Verdict
     }
 }
 
-// The first refusal of one content: its fixups are tested first, and then whether the content passes its segment's
-// size.
+// The first refusal of one content: its fixups are tested first, and then whether the content passes its segment's size.
 fn section_fault(library: &[u8], table: &[u64], content: Content, fixups: Cursor) -> Verdict
     ensures { λ r. ⌜ Says (λ ds. sectionFault ds (sectionWith content (fixupsLeft (now (library .entry)) fixups))) (now (table .entry)) r ⌝ }
 {
@@ -79,8 +78,7 @@ fn sections_fault(library: &[u8], table: &[u64], from: usize) -> Verdict
     }
 }
 
-// The first refusal among all modules from the place `first` on. The table of ids is lent clear, and is clear again
-// afterwards.
+// The first refusal among all modules from the place `first` on. The table of ids is lent clear, and is clear again afterwards.
 pub fn scan(library: &[u8], first: usize, table: &mut [u64]) -> Verdict
     requires { ⌜ Tells [] (now table) ⌝ }
     ensures { λ r. ⌜ Scanned (itemsAt (now (library .entry)) (moduleAt (now (library .entry))) first) (now (table .exit)) r ⌝ }

@@ -181,7 +181,7 @@ pub fn fill(library: &[u8], at: usize, table: &mut [u64]) -> usize
     }
 }
 
-// Clears the rows of all ids that the definitions from a place on have: far fewer than the rows of the table.
+// Clears the rows of all ids that the definitions from a place on have, which are mostly far fewer than the table has.
 pub fn clear(library: &[u8], at: usize, table: &mut [u64])
     requires { ⌜ Tells (itemsAt (now library) (definitionsAt (now library)) at) (now table) ⌝ }
     ensures { λ _. ⌜ Tells [] (now (table .exit)) ⌝ }

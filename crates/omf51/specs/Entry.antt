@@ -1,5 +1,5 @@
--- The entries of bodies. The fields of an entry stand one after another, so an entry is whole if its last field ends
--- within the body.
+-- The entries of bodies. The fields of an entry stand one after another, so an entry is whole
+-- if its last field ends within the body.
 use Prim.Native.Nat.{ℕ, _+_, _%_}
 use mathlib.Core.Bool.{Bool, _||_}
 use mathlib.Core.List.{List}
@@ -53,8 +53,7 @@ isPublic f = eqb (f .kind) 0x16 || eqb (f .kind) 0x17
 abbrev pub nameOffset : Frame → ℕ
 nameOffset f = idSize f + (if isSegment f then 7 else if isPublic f then 4 else 3)
 
--- the definition that the entry at `at` says; a segment's base, a public name's info and an external's block are not
--- looked at
+-- the definition that the entry at `at` says; a segment's base, a public name's info and an external's block are not looked at
 unfoldable pub definitionOf : List ℕ → Frame → ℕ → Part → Definition
 definitionOf library f at name =
     let w = at + idSize f in

@@ -56,8 +56,7 @@ fn is_in(types: &[u8], kind: u8) -> bool
     false
 }
 
-// Whether a type is one of the known types; a record of an unknown type is skipped among definitions and among
-// contents.
+// Whether a type is one of the known types; a record of an unknown type is skipped among definitions and among contents.
 fn is_known(kind: u8) -> bool
     ensures { λ r. ⌜ r ≡ isKnown kind ⌝ }
 {

@@ -49,8 +49,7 @@ pub enum Definition {
     },
 }
 
-// A content: data for the segment of an id, from an offset on. A content of id 0 is absolute, and its offset is its
-// address.
+// A content: data for the segment of an id, from an offset on. A content of id 0 is absolute, and its offset is its address.
 pub struct Content {
     pub id: ModuleId,
     pub offset: usize,

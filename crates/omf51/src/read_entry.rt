@@ -1,5 +1,5 @@
-// The entries of bodies (definitions, fixups, the names of headers and ends): where an entry ends, if all of it stands
-// within its body.
+// The entries of bodies (definitions, fixups, the names of headers and ends): where an entry
+// ends, if all of it stands within its body.
 ghost use mathlib.Core.Path.{_≡_};
 ghost use Prim.Native.Nat.{_≤_};
 ghost use Rattle.omf51.specs.Record.{recordOf};
@@ -31,8 +31,7 @@ pub fn is_segment(f: Frame) -> bool
     f.kind == 0x0e || f.kind == 0x0f
 }
 
-// Whether a definition record holds public names; a definition record that holds neither segments nor these holds
-// externals.
+// Whether a definition record holds public names; a definition record that holds neither segments nor these holds externals.
 pub fn is_public(f: Frame) -> bool
     ensures { λ r. ⌜ r ≡ isPublic f ⌝ }
 {

@@ -38,8 +38,7 @@ fn wide(x: u8) -> u16
     x as u16
 }
 
-// The record at a place, whatever its type: a type byte, two bytes of length, a body, a checksum byte, which is not
-// examined.
+// The record at a place, whatever its type: a type byte, two bytes of length, a body, a checksum byte, which is not examined.
 fn frame_at(library: &[u8], at: usize) -> Framed
     ensures { λ r. ⌜ frameRead r ≡ frameAt (now (library .entry)) at ⌝ }
 {
@@ -67,8 +66,8 @@ fn frame_at(library: &[u8], at: usize) -> Framed
     })
 }
 
-// The record at a place, if its type is allowed there. The type comes first, so that a record of another type never
-// gives a refusal.
+// The record at a place, if its type is allowed there. The type comes first, so that a record
+// of another type never gives a refusal.
 pub fn record_at(library: &[u8], what: Allowed, at: usize) -> Framed
     ensures { λ r. ⌜ frameRead r ≡ expected (now (library .entry)) (allowedTypes what) at ⌝ }
 {

@@ -1,5 +1,5 @@
-// The pieces of a printed line, put one after another into a buffer that has room for them. Each function answers where
-// its piece ends.
+// The pieces of a printed line, put one after another into a buffer that has room for them. Each
+// function answers where its piece ends.
 ghost use mathlib.Core.Path.{_≡_};
 ghost use Prim.Native.Nat.{_+_, _≤_, _<_};
 ghost use lib.ListN.{length, replicate};
@@ -83,8 +83,8 @@ fn put_address(out: &mut [u8], at: usize, address: u64) -> usize
     put_blanks(out, end, sizes::blanks(7, n + 2))
 }
 
-// The sign before a name: ( for a name that is only noted (grade 0), [ for a symbol that is not borne out (grade 1),
-// else a blank.
+// The sign before a name: ( for a name that is only noted (grade 0), [ for a symbol that is
+// not borne out (grade 1), else a blank.
 fn opening(grade: u8) -> u8
     ensures { λ r. ⌜ r ≡ openingOf grade ⌝ }
 {

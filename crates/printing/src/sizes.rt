@@ -9,7 +9,7 @@ use describe::Described;
 use lent::names;
 use listing_rules::Line;
 
-// The length of the longest description.
+// No description has more bytes than this.
 pub const LONGEST: usize = 88;
 
 // How many blanks fill a text of a length up to a width; a longer text is not cut.

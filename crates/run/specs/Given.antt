@@ -1,5 +1,4 @@
--- Document 01's table of refusals, as conditions on what goes into a run. This file states them; Refused.antt proves
--- them.
+-- Document 01's table of refusals, as conditions on what goes into a run. This file states them; Refused.antt proves them.
 use Prim.Native.Nat.{ℕ, _+_, _*_, _≤_, _<_}
 use mathlib.Core.Path.{_≡_}
 use mathlib.Core.Logic.{_⊎_}

@@ -80,8 +80,7 @@ counted y = record {
   lines = length (y .lines);
 }
 
--- refusal 9 for the collection: it gives more rows or pattern bytes than were lent; each pattern byte takes a byte and
--- a mask
+-- refusal 9 for the collection: it gives more rows or pattern bytes than were lent; each pattern byte takes a byte and a mask
 abbrev pub collectOver : Lent → Counts → Bool
 collectOver lent c =
     tooMany segmentWidth (lent .segments) (c .segments)

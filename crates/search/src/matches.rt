@@ -37,8 +37,7 @@ fn most_places(image: usize, pattern: usize) -> usize {
     image / 2 + 1
 }
 
-// The cursor before the first match of a pattern. `first` has the first place of each byte in the image, and the bytes'
-// counts.
+// The cursor before the first match of a pattern. `first` has the first place of each byte in the image, and the bytes' counts.
 pub fn start(image: &[u8], seat: Seat, bytes: &[u8], masks: &[u8], first: &[u32]) -> MatchCursor
     requires { ⌜ Heads (now image) (now first) ⌝ }
     ensures { λ r. ⌜ Started (now (image .entry)) seat (now (bytes .entry)) (now (masks .entry)) r ⌝ }

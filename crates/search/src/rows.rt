@@ -1,5 +1,4 @@
-// The rows of the search in lent memory, read and written by number: placed symbols and noted names. Any numbers make a
-// row.
+// The rows of the search in lent memory, read and written by number: placed symbols and noted names. Any numbers make a row.
 ghost use mathlib.Core.Path.{_≡_};
 ghost use Rattle.lent.specs.Rows.{putRow};
 ghost use Rattle.search_rules.specs.SearchRows.{placedWidth, notedWidth, placedCells, notedCells};

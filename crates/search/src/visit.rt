@@ -1,5 +1,4 @@
-// The matches of all stored segments, one after another: the references of each match note names, and its symbols are
-// placed.
+// The matches of all stored segments, one after another: the references of each match note names, and its symbols are placed.
 pub mod all;
 pub mod matched;
 pub mod segment;

@@ -94,8 +94,7 @@ notesIt library at name n = eqb (n .target) at && sameName library (n .name) nam
 abbrev pub isNoted : List ℕ → List Noting → ℕ → Part → Bool
 isNoted library rows at name = any (notesIt library at name) rows
 
--- the row r after one more noting: it becomes valid if it notes the same name at the same target and the new noting is
--- valid
+-- the row r after one more noting: it becomes valid if it notes the same name at the same target and the new noting is valid
 abbrev pub alsoNoted : List ℕ → Noting → Noting → Noting
 alsoNoted library new r =
     record { target = r .target; name = r .name; valid = r .valid || (notesIt library (new .target) (new .name) r && new .valid) }

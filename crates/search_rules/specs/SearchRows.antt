@@ -1,5 +1,5 @@
--- The numbers that the lent lists of the search hold. Each row has two links, by which rows are found without looking
--- at all of them.
+-- The numbers that the lent lists of the search hold. Each row has two links, by which rows are
+-- found without looking at all of them.
 use Prim.Native.Nat.{ℕ}
 use mathlib.Core.List.{List, [], _∷_}
 use lib.Dec.{eqb}
@@ -18,8 +18,8 @@ placedWidth = 8
 abbrev pub notedWidth : ℕ
 notedWidth = 6
 
--- the row of a placed symbol: position, place and length of its name, whether it is valid, its match's segment and
--- position, two links
+-- the row of a placed symbol: position, place and length of its name, whether it is valid, its
+-- match's segment and position, two links
 abbrev pub placedCells : Placed → List ℕ
 placedCells r =
     r .position ∷ r .name .at ∷ r .name .len ∷ flag (r .valid) ∷ r .segment .0 ∷ r .base ∷ r .link ∷ r .alike ∷ []

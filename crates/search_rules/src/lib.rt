@@ -3,8 +3,7 @@ use image::fixup::Rules;
 use lent::part::Part;
 use segments::SegmentNumber;
 
-// What is asked of a search: the rule set, whether references are checked, and how many masks other than 0 make a match
-// valid.
+// What is asked of a search: the rule set, whether references are checked, and how many masks other than 0 make a match valid.
 pub struct Asked {
     pub rules: Rules,
     pub check: bool,
@@ -17,9 +16,8 @@ pub const PLACED_WIDTH: usize = 8;
 // How many numbers the row of a noted name has.
 pub const NOTED_WIDTH: usize = 6;
 
-// A symbol placed at a position, by the match of a segment at `base`. A link is one more than the number of an earlier
-// row, or 0: `link` leads to the newest row with the same position, `alike` to the newest row in the same bucket of
-// position and name.
+// A symbol placed at a position, by the match of a segment at `base`. A link is one more than the number of an earlier row, or
+// 0: `link` leads to the newest row with the same position, `alike` to the newest row in the same bucket of position and name.
 pub struct Placed {
     pub position: usize,
     pub name: Part,

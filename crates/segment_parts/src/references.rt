@@ -28,9 +28,8 @@ fn append_left(leaves: Leaves, m: &mut [u64], f: Fill) -> Fill
     }
 }
 
-// Puts the references that the fixups from a cursor on leave, behind the rows of `m` that are filled before. `table`
-// tells what the module's ids lead to; `number` is that of the module's first segment; `base` is added to the fixups'
-// locations.
+// Puts the references that the fixups from a cursor on leave, behind the rows of `m` that are filled before. `table` tells
+// what the module's ids lead to; `number` is that of the module's first segment; `base` is added to the fixups' locations.
 pub fn refer(
     library: &[u8],
     table: &[u64],

@@ -53,8 +53,8 @@ abbrev pub isNone : {A : Type 0} → Option A → Bool
 isNone none = true
 isNone (some a) = false
 
--- what a fixup leaves: a reference if the fixup is not refused, names code, and is of one of three kinds; `base` is
--- added to its location
+-- what a fixup leaves: a reference if the fixup is not refused, names code, and is of one of three
+-- kinds; `base` is added to its location
 abbrev pub leaves : Module → ℕ → ℕ → Fixup → List Reference
 leaves m number base f =
     left (isNone (fixupRefusal m f) && isCode (named m f)) (kindOf (f .kind)) (base + f .location) (f .offset) (goalOf m number f)
@@ -63,8 +63,8 @@ leaves m number base f =
 unfoldable pub referencesOf : Module → ℕ → ℕ → Section → List Reference
 referencesOf m number base s = joined (leaves m number base) (s .fixups)
 
--- the symbol of a public definition, if it has this id and its offset passes the test `inside`; `base` is subtracted
--- from the offset
+-- the symbol of a public definition, if it has this id and its offset passes the test
+-- `inside`; `base` is subtracted from the offset
 abbrev pub symbolOf : ModuleId → (ℕ → Bool) → ℕ → Definition → List Symbol
 symbolOf id inside base (Segment own info relocation size name) = []
 symbolOf id inside base (Public own offset name) =
@@ -108,9 +108,9 @@ absoluteId = record { 0 = 0 }
 abbrev pub insideOf : Content → ℕ → Bool
 insideOf c offset = leb (c .offset) offset && ltb offset (c .offset + c .part .len)
 
--- what is subtracted from the offset of a symbol of an absolute content: under rule set 0, as found, nothing, so that
--- the symbol is placed at content start + offset; under 1, as documented, the content's start, so that it is placed at
--- its own offset
+-- what is subtracted from the offset of a symbol of an absolute content: under rule set 0, as found,
+-- nothing, so that the symbol is placed at content start + offset; under 1, as documented, the content's
+-- start, so that it is placed at its own offset
 abbrev pub symbolBase : Rules → Content → ℕ
 symbolBase AsFound c = 0
 symbolBase Documented c = c .offset

@@ -22,8 +22,8 @@ sameId a b = eqb (a .0) (b .0)
 abbrev pub codeInfo : ℕ → Bool
 codeInfo info = eqb (bitAnd info 7) 0
 
--- a definition is a kept segment: its id is not 0, it is code, and its relocation byte is not 0 (a value without a
--- meaning counts too)
+-- a definition is a kept segment: its id is not 0, it is code, and its relocation byte is not 0
+-- (a value without a meaning counts too)
 abbrev pub isKept : Definition → Bool
 isKept (Segment id info relocation size name) = not (eqb (id .0) 0) && codeInfo info && not (eqb relocation 0)
 isKept (Public id offset name) = false
@@ -57,8 +57,8 @@ firstKept m id = first (segmentOf id) (kept m)
 abbrev pub keptPlace : Module → ModuleId → ℕ
 keptPlace m id = placeOf (segmentOf id) (kept m)
 
--- the definition that a fixup names: the first of its id, of a segment for block 1, of an external for block 2; other
--- blocks name nothing
+-- the definition that a fixup names: the first of its id, of a segment for block 1, of an external
+-- for block 2; other blocks name nothing
 unfoldable pub named : Module → Fixup → Option Definition
 named m f =
     if eqb (f .block) 1 then first (segmentOf (f .id)) (m .definitions)

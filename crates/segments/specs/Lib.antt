@@ -1,5 +1,4 @@
--- Collecting, in reading order: what a module's ids mean, refusals 10 to 13, masks and merging, the segments, and their
--- rows.
+-- Collecting, in reading order: what a module's ids mean, refusals 10 to 13, masks and merging, the segments, and their rows.
 pub mod Ids
 pub mod Refuse
 pub mod RefuseLaws

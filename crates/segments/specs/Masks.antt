@@ -35,7 +35,6 @@ ored (x ∷ old) (y ∷ new) = bitOr x y ∷ ored old new
 unfoldable pub merged : List ℕ → ℕ → List ℕ → List ℕ
 merged pattern offset new = take offset pattern ++ ored (drop offset pattern) new
 
--- the pattern bytes, or the masks, of a segment: what `of` gives for each content, merged into zeros at the content's
--- offset
+-- the pattern bytes, or the masks, of a segment: what `of` gives for each content, merged into zeros at the content's offset
 unfoldable pub filled : ℕ → (Section → List ℕ) → List Section → List ℕ
 filled size of sections = fold (λ pattern s. merged pattern (s .content .offset) (of s)) (zeros size) sections

@@ -1,5 +1,5 @@
--- Refusals 10 to 13, in file order: module after module, content after content, each fixup of a content and then the
--- content itself (12).
+-- Refusals 10 to 13, in file order: module after module, content after content, each fixup of a
+-- content and then the content itself (12).
 use Prim.Native.Nat.{_+_}
 use mathlib.Core.Bool.{Bool, false, not, _&&_}
 use mathlib.Core.List.{List, _++_, map}

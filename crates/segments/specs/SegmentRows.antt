@@ -31,8 +31,7 @@ abbrev pub seatCells : Seat → List ℕ → List ℕ
 seatCells Anywhere rest = 0 ∷ 0 ∷ rest
 seatCells (Only address) rest = 1 ∷ address ∷ rest
 
--- the rest of a segment's row: place and length of its pattern, and first row and number of its references and of its
--- symbols
+-- the rest of a segment's row: place and length of its pattern, and first row and number of its references and of its symbols
 abbrev pub partCells : SegmentRow → List ℕ
 partCells r = r .pattern .at ∷ r .pattern .len ∷ r .references .at ∷ r .references .len ∷ r .symbols .at ∷ r .symbols .len ∷ []
 

@@ -18,8 +18,8 @@ pub enum Goal {
     Name(Part),
 }
 
-// A reference out of a pattern: its place in the pattern, its kind, the fixup's offset, which is added to the goal's
-// address, and the goal.
+// A reference out of a pattern: its place in the pattern, its kind, the fixup's offset, which is
+// added to the goal's address, and the goal.
 pub struct Reference {
     pub place: usize,
     pub kind: Kind,
@@ -33,8 +33,8 @@ pub struct Symbol {
     pub offset: usize,
 }
 
-// A segment in lent memory: where it may stand, and which parts of the pattern memory, of the references and of the
-// symbols are its own.
+// A segment in lent memory: where it may stand, and which parts of the pattern memory, of the
+// references and of the symbols are its own.
 pub struct SegmentRow {
     pub seat: Seat,
     pub pattern: Part,

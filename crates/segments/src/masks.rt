@@ -23,8 +23,8 @@ fn clear_after(masks: &mut [u8], at: usize)
     }
 }
 
-// Changes a content's masks by one fixup: a Word (kind 4) clears two bytes, an Inblock (kind 5) leaves the low five
-// bits of its first byte and clears the second, any other kind clears one byte; a fixup of block 3 changes nothing.
+// Changes a content's masks by one fixup, which writes over what stood there: a Word (kind 4) 0 and 0, an Inblock (kind
+// 5) 1Fh and 0, any other kind a single 0, a fixup of block 3 nothing.
 pub fn mask(masks: &mut [u8], f: Fixup)
     ensures { λ _. ⌜ now (masks .exit) ≡ masked (now (masks .entry)) f ⌝ }
 {

@@ -1,5 +1,4 @@
-// The rows of the collection in lent memory are read by number: segments, references and symbols. Any numbers make a
-// row.
+// The rows of the collection in lent memory are read by number: segments, references and symbols. Any numbers make a row.
 ghost use mathlib.Core.Path.{_≡_};
 ghost use Rattle.segments.specs.SegmentLayouts.{seatFrom, kindFrom, goalFrom, segmentRowAt, referenceAt, symbolAt};
 use crate::Goal;

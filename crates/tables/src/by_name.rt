@@ -1,6 +1,5 @@
-// Rows that have a key and a name, found by links. A row's first three numbers are its key and its name's place and
-// length; its last number is the link to an earlier row in the same bucket of key and name. A link is one more than a
-// row's number, or 0.
+// Rows that have a key and a name, found by links. A row's first three numbers are its key and its name's place and length; its
+// last number is the link to an earlier row in the same bucket of key and name. A link is one more than a row's number, or 0.
 ghost use mathlib.Core.Path.{_≡_};
 ghost use mathlib.Core.Bool.{_&&_};
 ghost use Prim.Native.Nat.{_+_};

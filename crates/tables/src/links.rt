@@ -19,8 +19,8 @@ pub fn link(keys: &[u16], first: &mut [u32], next: &mut [u32])
     }
 }
 
-// Sets the first place of each key in the list to 0 again, so that the table can serve the next module without being
-// cleared as a whole.
+// Sets the first place of each key in the list to 0 again, so that the table can serve the next
+// module without being cleared as a whole.
 pub fn unlink(keys: &[u16], first: &mut [u32])
     requires { ⌜ 65536 ≤ length (now first) ⌝ }
     ensures { λ _. ⌜ Cleared (now (keys .entry)) (now (first .entry)) (now (first .exit)) ⌝ }

@@ -24,15 +24,14 @@ pub fn content_room() -> [u8; 65536]
     [0u8; 65536]
 }
 
-// A flag for each 256 public definitions of one module.
+// A flag for each 256 public definitions of one module; enough for a library of 1 MiB.
 pub fn block_flags() -> [u8; 820]
     ensures { λ r. ⌜ r ≡ zeroList 820 ⌝ }
 {
     [0u8; 820]
 }
 
-// The ids of a module's contents, in a library of at most 64 KiB. A content takes 7 bytes at least, so that there are
-// at most 9,363.
+// The ids of a module's contents, in a library of at most 64 KiB. A content takes 7 bytes at least, so that 9,363 are enough.
 pub fn few_ids() -> [u16; 9363]
     ensures { λ r. ⌜ r ≡ zeroList 9363 ⌝ }
 {
@@ -47,7 +46,7 @@ pub fn few_places() -> [u32; 9363]
 }
 
 // The keys (ids or offsets) of a module's public definitions, in a library of at most 64 KiB. A definition takes 5
-// bytes at least, so that there are at most 13,108.
+// bytes at least, so that 13,108 are enough.
 pub fn few_keys() -> [u16; 13108]
     ensures { λ r. ⌜ r ≡ zeroList 13108 ⌝ }
 {
@@ -103,8 +102,8 @@ pub fn place_links() -> [u32; 65536]
     [0u32; 65536]
 }
 
-// The heads of the buckets by which rows of placed symbols or noted names are found: 65,536 buckets of keys, then as
-// many of key and name.
+// The heads of the buckets by which rows of placed symbols or noted names are found: 65,536 buckets
+// of keys, then as many of key and name.
 pub fn bucket_heads() -> [u64; 131072]
     ensures { λ r. ⌜ r ≡ zeroList 131072 ⌝ }
 {

@@ -19,8 +19,8 @@ use segment_parts::references::refer;
 use segment_parts::symbols_by_offset::names::name_inside;
 
 // Stores one absolute content, with its fixups, behind what `c` counts. The public definitions of id 0 with an offset
-// inside the content are its symbols; `keys` (of which n count), `entries`, `heads` and `onward` index them by offset.
-// `table` tells what the ids lead to, `number` is that of the module's first segment; `own` is explained at `is_own`.
+// inside it are its symbols, found by `keys` (of which n count), `entries`, `heads` and `onward`. `table` tells what
+// the ids lead to, `number` is that of the module's first segment; `own` is explained at `is_own`.
 pub fn store_absolute(
     library: &[u8],
     table: &[u64],

@@ -27,10 +27,9 @@ fn none_yet() -> CollectCounts
     }
 }
 
-// Stores the segments of all modules from the place `from` on. Lent, and blank, are the tables of a module: what its
-// ids lead to (`table`), its contents by id (`ids`, `places`, `first`, `next`), its public definitions by id or offset
-// (`keys`, `entries`, `heads`, `onward`); they are made once for all modules, since they are large. The rows go into
-// the five lists of the collection; `apart` is room for the masks of one content.
+// Stores the segments of all modules from `from` on in the five lists of the collection. The tables of a module are
+// lent blank, once for all modules, since they are large: by id `table`; of contents `ids`, `places`, `first`, `next`;
+// of public definitions `keys`, `entries`, `heads`, `onward`. `apart` is room for the masks of one content.
 pub fn store_all(
     library: &[u8],
     rules: Rules,

@@ -11,10 +11,9 @@ use module_index::forget;
 use module_index::index_sections;
 use tables::zeros::block_flags;
 
-// Stores the segments of one module, whose parts stand at the places `at`, behind what `c` counts. The tables of the
-// module are lent blank and are blank again afterwards, so that the next module can use them: `table` by id; `ids`,
-// `places`, `first`, `next` of contents; `keys`, `entries`, `heads`, `onward` of public definitions. The five lists of
-// the collection and `apart` (masks of one content) are handed on; `own` is explained at `is_own`.
+// Stores the segments of one module, whose parts stand at `at`, in the five lists of the collection, behind what `c`
+// counts. The tables of the module, as in `store_all`, are lent blank, filled here, and left blank for the next module.
+// `own` is explained at `is_own`.
 pub fn store_module(
     library: &[u8],
     own: bool,

@@ -14,10 +14,9 @@ use segment_parts::patterns::merge_along;
 use segment_parts::references::refer_along;
 use segment_parts::symbols::name_along;
 
-// Stores one kept segment of `size` bytes behind what `c` counts. The contents that are met from `link` on (along
-// `next`, at `places`) are merged into its pattern and leave its references; the public definitions that are met from
-// `publics` on (along `onward`, at `entries`) are its symbols. `table` tells what the ids lead to, `number` is that of
-// the module's first segment.
+// Stores one kept segment of `size` bytes in the five lists of the collection, behind what `c` counts. The contents
+// from `link` on (along `next`, at `places`) make its pattern and references, the public definitions from `publics` on
+// (along `onward`, at `entries`) its symbols. `table` tells of ids, `number` is that of the module's first segment.
 pub fn store_kept(
     library: &[u8],
     table: &[u64],

@@ -10,10 +10,9 @@ use crate::one_module::part::second_part;
 use crate::stored::CollectCounts;
 use crate::stored::Stored;
 
-// Stores all segments of a module, whose definitions start at `from`, behind what `c` counts. Filled are what its ids
-// lead to (`table`) and its contents by id (`first`, `next`, `places`); blank before and after are the tables of public
-// definitions (`keys`, `entries`, `heads`, `onward`), which each part fills in its own way. Then the five lists of the
-// collection, room for the masks of one content (`apart`) and for flags of public definitions (`flags`).
+// Stores all segments of a module, whose definitions start at `from`, in the five lists of the collection. The tables
+// of ids (`table`) and contents (`first`, `next`, `places`) are filled; those of public definitions (`keys`, `entries`,
+// `heads`, `onward`) are blank: each part fills them in its own way. `apart` has room for masks, `flags` for flags.
 pub fn both_parts(
     library: &[u8],
     own: bool,

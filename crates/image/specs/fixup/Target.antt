@@ -1,5 +1,4 @@
--- The target of a reference: the address that its bytes in the view give, less the fixup's offset. Sums wrap at 64
--- bits.
+-- The target of a reference: the address that its bytes in the view give, less the fixup's offset. Sums wrap at 64 bits.
 use Prim.Native.Nat.{ℕ, _+_, _-_, _*_, _/_, _%_, _^_}
 use mathlib.Core.Bool.{Bool, _&&_}
 use mathlib.Core.List.{List}
@@ -60,8 +59,7 @@ abbrev pub topBits : Rules → ℕ → ℕ
 topBits AsFound a = 0
 topBits Documented a = a / 32
 
--- pos + 2 with its low 11 bits cleared, plus 256 times the top bits of the first byte, plus the second byte, kept to 16
--- bits
+-- pos + 2 with its low 11 bits cleared, plus 256 times the top bits of the first byte, plus the second byte, kept to 16 bits
 abbrev pub addr11 : Rules → ℕ → ℕ → ℕ → ℕ
 addr11 rules pos a b = ((pos + 2) / 2048 * 2048 + 256 * topBits rules a + b) % 65536
 

@@ -4,8 +4,8 @@ ghost use Rattle.listing.specs.past_end.Beyond.{Higher, Lower, NonePast,
 use lent::rows::cell;
 use search_rules::NOTED_WIDTH;
 
-// With so many rows or more it takes less time to look at each target of a span than to search all rows for the next
-// target each time.
+// With so many rows or more it takes less time to look at each target of a span than to search
+// all rows for the next target each time.
 const MANY: usize = 128;
 
 // The higher of two targets.
@@ -67,9 +67,9 @@ fn further(last: u64, t: u64, most: u64) -> u64
     higher(last, t)
 }
 
-// The end of the span of targets that are tried one by one from `first` on. With few rows the span is `first` alone;
-// with many it ends at the highest target that differs from `first` in the low 16 bits only, so that no bucket serves
-// two targets of a span.
+// The end of the span of targets that are tried one by one from `first` on. With few rows the span is `first`
+// alone; with many it ends at the highest target that differs from `first` in the low 16 bits only, so that
+// no bucket serves two targets of a span.
 pub fn span_end(noted: &[u64], n: usize, first: u64) -> u64
     ensures { λ r. ⌜ first ≤ r ⌝ }
 {

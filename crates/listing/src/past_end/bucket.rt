@@ -10,8 +10,8 @@ use search::rows::noted_at;
 use search_rules::Noted;
 use tables::fill::Fill;
 
-// The link to follow after `here`: a link that does not lead to an earlier row leads nowhere, so that the way ends on
-// any numbers.
+// The link to follow after `here`: a link that does not lead to an earlier row leads
+// nowhere, so that the way ends on any numbers.
 fn onward(here: usize, link: usize) -> usize
     ensures { λ r. ⌜ Onward here link r ⌝ }
 {
@@ -50,8 +50,7 @@ fn count(noted: &[u64], head: usize, t: u64, all: bool) -> usize
     n
 }
 
-// Writes the line of a row in front of line k, if the row is valid and has this target; answers where the first line is
-// now.
+// Writes the line of a row in front of line k, if the row is valid and has this target; answers where the first line is now.
 fn write_name(row: Noted, t: u64, lines: &mut [u64], k: usize) -> usize
     ensures { λ r. ⌜ WritesOne row t (now (lines .entry)) k (now (lines .exit)) r ⌝ }
 {
@@ -74,8 +73,8 @@ fn write_name(row: Noted, t: u64, lines: &mut [u64], k: usize) -> usize
     k
 }
 
-// Writes the lines of a target's valid names in front of line `end`. The newest row is met first, so that lines are
-// written from the back.
+// Writes the lines of a target's valid names in front of line `end`. The newest row is met first, so
+// that lines are written from the back.
 fn write_names(noted: &[u64], head: usize, t: u64, end: usize, lines: &mut [u64])
     ensures { λ _. ⌜ WritesAll (now (noted .entry)) head t end (now (lines .entry)) (now (lines .exit)) ⌝ }
 {

@@ -6,8 +6,8 @@ use crate::position::Best;
 use listing_rules::Line;
 use listing_rules::rows::put_line;
 
-// Takes in one line more: lines of a lower grade give way to it, or it gives way to lines of a higher grade; among its
-// equals it is put last.
+// Takes in one line more: lines of a lower grade give way to it, or it gives way to lines of a higher
+// grade; among its equals it is put last.
 pub fn take_in(m: &mut [u64], from: usize, b: Best, line: Line) -> Best
     requires { ⌜ from + b .count < 18446744073709551615 ⌝ }
     ensures { λ r. ⌜ Meets from (one line) (now (m .entry)) b (now (m .exit)) r ⌝ }

@@ -7,10 +7,9 @@ use crate::visit::segment::search_segment;
 use image::Stretch;
 use search_rules::Asked;
 
-// Searches the image for each of the first n segments. Read are the image with its stretch `s`, what is asked, the
-// library, the five lists of the collection (`segments`, `references`, `symbols`, `bytes`, `masks`), and the byte index
-// of the image (`first`, `next`). Written are the two lists of the search, `placed` and `noted`, each with the heads of
-// its buckets, `positions` and `goals`; `before` says how far the two are filled.
+// Searches the image, with its stretch `s`, for each of the first n segments in the five lists of the collection.
+// `first` and `next` are the byte index of the image. The two lists of the search, `placed` and `noted`, are filled
+// from `before` on; their rows are found by the heads in `positions` and `goals`. Names are parts of `library`.
 pub fn search_all(
     image: &[u8],
     s: Stretch,

@@ -1,5 +1,4 @@
-// Merging into one segment's part of pattern memory. Bytes and masks are merged alike, so that one function serves
-// both.
+// Merging into one segment's part of pattern memory. Bytes and masks are merged alike, so that one function serves both.
 ghost use mathlib.Core.Path.{_≡_};
 ghost use Rattle.segments.specs.Masks.{ored, merged};
 ghost use Rattle.segment_parts.specs.merge.MergedAt.{mergedAt};
@@ -28,9 +27,9 @@ pub fn merge(pattern: &mut [u8], offset: usize, new: &[u8])
     }
 }
 
-// Merges new bytes into one segment's pattern, the `size` bytes from `start` on in the memory of all segments, from an
-// offset on. A pattern that passes the memory's end is not touched; no sum is taken before the pattern is known to fit,
-// so that none can wrap.
+// Merges new bytes into one segment's pattern, the `size` bytes from `start` on in the memory of all segments,
+// from an offset on. A pattern that passes the memory's end is not touched; no sum is taken before the pattern
+// is known to fit, so that none can wrap.
 pub fn merge_at(memory: &mut [u8], start: usize, size: usize, offset: usize, new: &[u8])
     ensures { λ _. ⌜ now (memory .exit) ≡ mergedAt (now (memory .entry)) start size offset (now (new .entry)) ⌝ }
 {

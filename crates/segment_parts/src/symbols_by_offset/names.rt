@@ -57,9 +57,9 @@ fn name_place(
     f
 }
 
-// Puts the symbols of the public definitions inside the content, going over the flagged blocks; a block without a flag
-// is passed over at once. `keys` and `places` have the offsets of the n public definitions of id 0 and their places in
-// the library.
+// Puts the symbols of the public definitions inside the content, going over the flagged blocks; a block
+// without a flag is passed over at once. `keys` and `places` have the offsets of the n public definitions of
+// id 0 and their places in the library.
 fn name_blocks(
     library: &[u8],
     at: usize,
@@ -93,10 +93,9 @@ fn name_blocks(
     f
 }
 
-// Puts the symbols of an absolute content of `len` bytes at `at`, in file order, behind the rows of `m` that are filled
-// before. The public definitions of id 0 are given by their offsets and places (`keys`, of which n count, `places`) and
-// linked by offset (`first`, `next`). Links meet them out of file order, so they only flag blocks, which are then gone
-// over. `flags` is lent and given back clear.
+// Puts the symbols of an absolute content of `len` bytes at `at` behind the filled rows of `m`. The public definitions
+// of id 0 are given by offset and place (`keys`, of which n count, `places`), linked by offset (`first`, `next`). Links
+// meet them out of file order, so that they only flag blocks, which are then gone over; `flags` is lent and left clear.
 pub fn name_inside(
     library: &[u8],
     at: usize,

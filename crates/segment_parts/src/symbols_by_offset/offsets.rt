@@ -1,5 +1,4 @@
-// The public definitions of id 0 in a module: the offset of each, and the place in the library at which it is read
-// again.
+// The public definitions of id 0 in a module: the offset of each, and the place in the library at which it is read again.
 ghost use Rattle.omf51.specs.Module.{definitionsAt};
 ghost use Rattle.library.specs.Gathered.{itemsAt};
 ghost use Rattle.module_index.specs.gather.Places.{PublicIs, noDefinition};

@@ -1,5 +1,4 @@
--- The newest thing that passes a test, among things that came one after another, as a link: one more than its number,
--- or 0.
+-- The newest thing that passes a test, among things that came one after another, as a link: one more than its number, or 0.
 use Prim.Native.Nat.{ℕ, _+_}
 use mathlib.Core.Bool.{Bool}
 use mathlib.Core.List.{List, [], _∷_}

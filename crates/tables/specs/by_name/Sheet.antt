@@ -1,6 +1,6 @@
--- Tables of named things: each thing has a key and a name, and is kept as a row, in the order in which things came. A
--- row has two links: to the newest earlier row in its key's bucket, and to the newest earlier row in the bucket of its
--- key and name together.
+-- Tables of named things: each thing has a key and a name, and is kept as a row, in the order in which things
+-- came. A row has two links: to the newest earlier row in its key's bucket, and to the newest earlier row in
+-- the bucket of its key and name together.
 use Prim.Native.Nat.{ℕ, _+_, _*_, _%_}
 use mathlib.Core.Bool.{Bool, _&&_}
 use mathlib.Core.List.{List, [], _∷_, _++_}

@@ -20,9 +20,8 @@ abbrev pub rowIs : List ℕ → ℕ → List ℕ → ℕ → Part → ℕ → Bo
 rowIs library width m key name j =
     let n = cellOf width m j in eqb (n 0) key && sameName library (record { at = n 1; len = n 2 }) name
 
--- the link to the first row with this key and name that is met when the links are followed from `link` on, or 0. The
--- last number of a row is the link onwards; a link that does not lead to an earlier row ends the way, so that n steps
--- are enough
+-- the link to the first row with this key and name that is met when the links are followed from `link` on, or 0. The last
+-- number of a row is the link onwards; a link that does not lead to an earlier row ends the way, so that n steps are enough
 unfoldable pub followedFor : List ℕ → ℕ → List ℕ → ℕ → Part → ℕ → ℕ → ℕ
 followedFor library width m key name zero link = 0
 followedFor library width m key name (suc n) link =

@@ -1,5 +1,4 @@
--- Lent memory that is filled with rows: what it holds while there is room, and that there are too many rows once there
--- is none.
+-- Lent memory that is filled with rows: what it holds while there is room, and that there are too many rows once there is none.
 use Prim.Native.Nat.{ℕ, _+_, _*_, _≤_, _<_}
 use mathlib.Core.Path.{_≡_}
 use mathlib.Core.Bool.{true, false}
@@ -36,8 +35,7 @@ pub record Filling {R : Type 0} (l : Layout R) (rows : List R) (m : List ℕ) (f
   pub fits : f .over ≡ false → Holds l rows m f
   pub over : f .over ≡ true → length m < length rows * l .width
 
--- if the memory held some rows, or was too small for them, then it holds the new rows behind them, or is too small for
--- all
+-- if the memory held some rows, or was too small for them, then it holds the new rows behind them, or is too small for all
 abbrev pub Adds : {R : Type 0} → Layout R → List R → List ℕ → Fill → List ℕ → Fill → Type 0
 Adds {R} l new m f n g = (rows : List R) → Filling l rows m f → Filling l (rows ++ new) n g
 

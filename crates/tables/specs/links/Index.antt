@@ -1,5 +1,4 @@
--- The index of a list of keys: the first place of each key, and for each place the next place of the same key, as
--- links.
+-- The index of a list of keys: the first place of each key, and for each place the next place of the same key, as links.
 use Prim.Native.Nat.{ℕ, _+_, _<_, _≤_}
 use mathlib.Core.Path.{_≡_}
 use mathlib.Core.List.{List}

@@ -1,5 +1,4 @@
--- Laws of the index: one place more is linked; the heads of all keys are 0 again after they were cleared. Assumes
--- nothing.
+-- Laws of the index: one place more is linked; the heads of all keys are 0 again after they were cleared. Assumes nothing.
 use Prim.Native.Nat.{ℕ, zero, suc, _+_, _<_, _≤_}
 use mathlib.Core.Path.{_≡_, refl, sym, ap, subst, _∙_}
 use mathlib.Core.Bool.{Bool, true, false}
