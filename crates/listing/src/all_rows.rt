@@ -31,7 +31,7 @@ fn clear_behind(m: &mut [u64], count: usize)
 }
 
 // Clears the memory behind the lines, where lines may stand that were not listed in the end. If there are too many
-// lines nothing is cleared here, since all lists are cleared then.
+// lines nothing is cleared here: `list` clears all lists then.
 fn leave(m: &mut [u64], f: Fill)
     ensures { λ _. ⌜ Leaves (now (m .entry)) f (now (m .exit)) ⌝ }
 {

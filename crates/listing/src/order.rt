@@ -77,8 +77,8 @@ fn next_gap(gap: usize) -> usize
     1
 }
 
-// Puts the n lines from row `from` on in order. With one line, or none, there is nothing to do; rows
-// past the memory's end are left alone.
+// Puts the n lines from row `from` on in order. With one line, or none, there is nothing to do; a region that is longer
+// than the memory is left alone.
 pub fn order(library: &[u8], m: &mut [u64], from: usize, n: usize)
     ensures { λ _. ⌜ Orders (now (library .entry)) (now (m .entry)) from n (now (m .exit)) ⌝ }
 {

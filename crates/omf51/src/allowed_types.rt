@@ -5,7 +5,7 @@ ghost use Rattle.omf51.specs.Module.{isKnown, defines as definesType, fi
 ghost use Rattle.omf51.specs.Expected.{allows as allowedTypes};
 use crate::types::Allowed;
 
-// The types that at51 knows, in at51's own table, in which 08h stands twice.
+// The types that at51 knows, as its own table has them: 08h stands there twice.
 const KNOWN_TYPES: [u8; 21] = [
     0x02,
     0x04,

@@ -31,7 +31,7 @@ fn put_flag(flags: &mut [u8], b: usize, flag: u8)
     }
 }
 
-// The lower bound of the flagged blocks after block b.
+// The lower bound once block b is flagged too.
 fn lower(low: usize, b: usize) -> usize
     ensures { λ r. ⌜ (r ≤ low) × (r ≤ b) ⌝ }
 {
@@ -41,7 +41,7 @@ fn lower(low: usize, b: usize) -> usize
     low
 }
 
-// The upper bound of the flagged blocks after block b.
+// The upper bound once block b is flagged too.
 fn higher(high: usize, b: usize) -> usize
     requires { ⌜ b < 2 ^ 32 ⌝ }
     ensures { λ r. ⌜ (high ≤ r) × ((b < r) × (high ≤ 2 ^ 32 → r ≤ 2 ^ 32)) ⌝ }
