@@ -1,4 +1,4 @@
-// Descriptions of names: what the words of a compiler helper's name say, and the types of the code that finds it.
+// Descriptions of names: what the words in the name of a compiler's helper say, and the code that finds it.
 pub mod entry;
 pub mod vocabulary;
 pub mod words;

@@ -32,7 +32,7 @@ abbrev pub crowded : Skip → ℕ → Bool
 crowded Never n = false
 crowded (Above amount) n = ltb amount n
 
--- the segment that a number means which no segment has
+-- the empty segment, for a number that no segment has
 abbrev pub noSegment : Collected
 noSegment = record { seat = Anywhere; bytes = []; masks = []; references = []; symbols = [] }
 
