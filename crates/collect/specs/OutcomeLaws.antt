@@ -1,4 +1,4 @@
--- What was stored, or could not be, comes to the definition's outcome. Assumes nothing.
+-- Segments that were stored, or for which there was no room, come to the definition's outcome. Assumes nothing.
 use Prim.Native.Nat.{ℕ, _*_, _≤_}
 use mathlib.Core.Path.{_≡_, refl, sym, _∙_}
 use mathlib.Core.Bool.{Bool, true, false, _||_, false≢true}

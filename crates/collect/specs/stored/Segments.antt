@@ -1,4 +1,4 @@
--- The two kinds of segments, by what is met along links.
+-- The two kinds of segments, kept and absolute, put together from what is met along links.
 use Prim.Native.Nat.{ℕ, _+_, _≤_, _<_}
 use mathlib.Core.Path.{_≡_}
 use mathlib.Core.Bool.{Bool, true, false}
