@@ -157,7 +157,7 @@ def soup(rng):
 
 
 # How many times each is called for a file.
-MAKERS = ((valid, 260), (graded, 230), (fitted, 170), (damaged, 560), (faulty, 240), (overrun, 140), (unclosed, 150), (soup, 100))
+MAKERS = ((valid, 260), (graded, 230), (fitted, 170), (damaged, 460), (faulty, 220), (overrun, 140), (unclosed, 150), (soup, 90))
 
 
 def made(rng, share=1.0):
