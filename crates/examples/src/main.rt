@@ -4,6 +4,7 @@ mod show;
 
 use crate::show::answer;
 use crate::show::both_rules;
+use crate::show::byte;
 use crate::show::matches;
 use crate::show::number;
 use crate::show::say;
@@ -59,12 +60,15 @@ fn manual() {
     both_rules(b"LJMP", 0x0124, Kind::Word, 0x12, 0x34);
 }
 
-// P11 and P12.
-fn sizes_and_masks() {
+fn sizes() {
     say(b"P11");
     number(omf51::segment_size(0x80, 5));
     number(omf51::segment_size(0, 0));
     number(omf51::segment_size(0, 0xffff));
+    say(b"\n");
+}
+
+fn masks() {
     let word = Fixup {
         location: 2,
         kind: 4,
@@ -72,12 +76,12 @@ fn sizes_and_masks() {
         id: ModuleId(1),
         offset: 0,
     };
-    let mut masks = [255u8; 3];
-    segments::masks::mask(&mut masks, word);
-    say(b"\nP12");
-    number(masks[0] as usize);
-    number(masks[1] as usize);
-    number(masks[2] as usize);
+    let mut m = [255u8; 3];
+    segments::masks::mask(&mut m, word);
+    say(b"P12");
+    byte(m[0]);
+    byte(m[1]);
+    byte(m[2]);
     say(b"\n");
 }
 
@@ -100,7 +104,8 @@ fn description(name: &[u8]) {
 fn main() {
     patterns();
     targets();
-    sizes_and_masks();
+    sizes();
+    masks();
     say(b"P13 ");
     description(b"?C?CLDIDATA");
     say(b"; ");

@@ -15,6 +15,10 @@ pub fn number(n: usize) {
     io::print_decimal(STDOUT_FILENO, n as u64);
 }
 
+pub fn byte(x: u8) {
+    number(x as usize);
+}
+
 pub fn answer(yes: bool) {
     if yes {
         say(b" yes");
@@ -23,9 +27,8 @@ pub fn answer(yes: bool) {
     }
 }
 
-// All matches, ascending; there are fewer than 16.
-pub fn matches(text: &[u8], image: &[u8], s: Stretch, bytes: &[u8], masks: &[u8]) {
-    say(text);
+// All matches, ascending; more than 16 are not shown.
+fn each_match(image: &[u8], s: Stretch, bytes: &[u8], masks: &[u8]) {
     let mut at: usize = 0;
     let mut turns: usize = 0;
     while turns < 16 {
@@ -41,6 +44,12 @@ pub fn matches(text: &[u8], image: &[u8], s: Stretch, bytes: &[u8], masks: &[u8]
             }
         }
     }
+    say(b" and more\n");
+}
+
+pub fn matches(text: &[u8], image: &[u8], s: Stretch, bytes: &[u8], masks: &[u8]) {
+    say(text);
+    each_match(image, s, bytes, masks);
 }
 
 // Where a reference with no offset leads, nothing being withheld.
@@ -57,6 +66,12 @@ pub fn target(image: &[u8], rules: Rules, pos: usize, kind: Kind) {
     }
 }
 
+fn by_both_rules(image: &[u8; 2048], pos: usize, kind: Kind) {
+    target(image, Rules::AsFound, pos, kind);
+    target(image, Rules::Documented, pos, kind);
+    say(b"\n");
+}
+
 // Two bytes at a place of an image that is zero elsewhere, read by both rule sets.
 pub fn both_rules(text: &[u8], pos: usize, kind: Kind, a: u8, b: u8) {
     let mut image = [0u8; 2048];
@@ -65,7 +80,5 @@ pub fn both_rules(text: &[u8], pos: usize, kind: Kind, a: u8, b: u8) {
         image[pos + 1] = b;
     }
     say(text);
-    target(&image, Rules::AsFound, pos, kind);
-    target(&image, Rules::Documented, pos, kind);
-    say(b"\n");
+    by_both_rules(&image, pos, kind);
 }

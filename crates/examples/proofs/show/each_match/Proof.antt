@@ -1,8 +1,8 @@
--- `matches` ends after sixteen turns. Assumes nothing.
+-- `each_match` ends after sixteen turns. Assumes nothing.
 use Prim.Native.Nat.{_-_, _≤_}
 use borrow.Author.Needs.{needs}
-use Rattle.examples.proofs.show.matches.Statement.{statement}
-use Rattle.examples.proofs.show.matches.Tie as tie
+use Rattle.examples.proofs.show.each_match.Statement.{statement}
+use Rattle.examples.proofs.show.each_match.Tie as tie
 
 abbrev Inv-loop : tie.InvT-loop
 Inv-loop image s bytes masks at₀ turns₀ t8 t9 at turns = turns ≤ 16
@@ -10,8 +10,8 @@ Inv-loop image s bytes masks at₀ turns₀ t8 t9 at turns = turns ≤ 16
 abbrev μ-loop : tie.MeasureT-loop
 μ-loop image s bytes masks at₀ turns₀ t8 t9 at turns = 16 - turns
 
-pub matches-spec : {M : Type 1} → statement M
-matches-spec =
+pub each-match-spec : {M : Type 1} → statement M
+each-match-spec =
     tie.close
     (tie.spec
     Inv-loop

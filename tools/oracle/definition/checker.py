@@ -5,7 +5,7 @@ import shutil
 import subprocess
 from pathlib import Path
 
-import template
+from definition import template
 
 # The checker's words where the two sides of a theorem differ; it then shows what they compute to,
 # unless that is too long.
@@ -20,8 +20,11 @@ class Unclear(Exception):
 def scratch(definition, folder):
     """A copy of the definition's crates, with what was proved of them, since they are not changed."""
     source, folder = Path(definition), Path(folder)
-    shutil.copytree(source / "crates", folder / "crates")
-    shutil.copy(source / "crates.txt", folder / "crates.txt")
+    for crate in template.CRATES:
+        shutil.copytree(source / "crates" / crate, folder / "crates" / crate)
+    lines = (source / "crates.txt").read_text(encoding="utf-8").splitlines()
+    own = [line for line in lines if line.split(":")[0] in template.CRATES]
+    (folder / "crates.txt").write_text("\n".join(own) + "\n", encoding="utf-8")
     for part in ("rlib", "stamp"):
         if (source / "target" / part).is_dir():
             shutil.copytree(source / "target" / part, folder / "target" / part)
@@ -65,7 +68,7 @@ def differing(log):
 
 
 def check(folder, batches, jobs, lent):
-    """The cases that differ. A batch is tried again without them, so that every other case was in a
+    """The cases that differ; a batch has (number, statement). It is tried again without them, so that every other case was in a
     crate that was proved."""
     waiting = {f"cases_{i}": batch for i, batch in batches}
     found = {}
