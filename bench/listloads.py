@@ -18,7 +18,7 @@ searchloads.py."""
 import argparse
 
 from searchloads import FULL, firmware, one_module, packed, small, written
-from records import TO_NAME, WORD, Content, External, Fixup, Public, Segment, content
+from cases.records import TO_NAME, WORD, Content, External, Fixup, Public, Segment, content
 
 ROWS = {"100": 100, "10k": 10000, "60k": 60000}
 # A name that is noted takes more of a library than one that is placed.

@@ -12,7 +12,7 @@ import sys
 from pathlib import Path
 
 sys.path.insert(0, str(Path(__file__).resolve().parent.parent / "tools" / "oracle"))
-from records import (INBLOCK, RELATIVE, TO_NAME, TO_SEGMENT, WORD, Content, External, Fixup, Module, Public, Segment,  # noqa: E402
+from cases.records import (INBLOCK, RELATIVE, TO_NAME, TO_SEGMENT, WORD, Content, External, Fixup, Module, Public, Segment,  # noqa: E402
                      content, end, entries, header, plain)
 
 SIZES = {"16k": 1 << 14, "64k": 1 << 16, "256k": 1 << 18, "1m": 1 << 20}

@@ -35,10 +35,10 @@ from pathlib import Path
 
 from loads import modules
 from worst import library
-from records import (CODE, INBLOCK, RELATIVE, TO_NAME, TO_SEGMENT, WORD, Content, External, Fixup, Module, Public, Segment, content, entries,
+from cases.records import (CODE, INBLOCK, RELATIVE, TO_NAME, TO_SEGMENT, WORD, Content, External, Fixup, Module, Public, Segment, content, entries,
                      plain)
-import collection
-import reader
+from model import collection
+from model import reader
 
 FULL = 1 << 16
 EMPTY = CODE | 0x80  # the info of a segment without bytes

@@ -8,8 +8,8 @@ from collections import Counter
 from pathlib import Path
 
 sys.path.insert(0, str(Path(__file__).resolve().parent.parent / "tools" / "oracle"))
-from collection import INBLOCK, RELATIVE, WORD, code  # noqa: E402
-from reader import read  # noqa: E402
+from model.collection import INBLOCK, RELATIVE, WORD, code  # noqa: E402
+from model.reader import read  # noqa: E402
 
 
 def first_of(definitions):

@@ -27,7 +27,7 @@ import argparse
 import listloads
 import searchloads
 import worst
-from records import TO_NAME, WORD, Content, External, Fixup, Module, Public, Segment, as_library, content, plain
+from cases.records import TO_NAME, WORD, Content, External, Fixup, Module, Public, Segment, as_library, content, plain
 from searchloads import EMPTY, FULL, code_image, colliding, linked, names, one_module, packed, routine, symbols, written
 
 SEARCHED = ("long-patterns", "empty", "empty-named", "unfilled-named", "unfilled-self", "zeros", "zeros-reference", "zeros-referring", "names-colliding",

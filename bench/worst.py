@@ -21,7 +21,7 @@ import random
 from pathlib import Path
 
 from loads import modules, records
-from records import (INBLOCK, RELATIVE, TO_NAME, TO_SEGMENT, WORD, Content, External, Fixup, Module, Public, Segment, content, end, entries,
+from cases.records import (INBLOCK, RELATIVE, TO_NAME, TO_SEGMENT, WORD, Content, External, Fixup, Module, Public, Segment, content, end, entries,
                      entry, header, plain)
 
 SIZES = {"128k": 1 << 17, "512k": 1 << 19, "1m": 1 << 20}

@@ -10,10 +10,9 @@ import tempfile
 import time
 from collections import Counter
 
-import checker
 import rust
-import template
-from generate import generate
+from cases.small import generate
+from definition import checker, template
 
 BATCH = 20
 
@@ -32,7 +31,7 @@ def told(cases, answers):
     """The cases whose answer is known, numbered, and how many are not; a case that was damaged for a
     number must have got it."""
     known = [(n, c, e) for n, (c, e) in enumerate(zip(cases, answers)) if e is not None]
-    wrong = [n for n, (c, e) in enumerate(zip(cases, answers)) if c.must is not None and (e is None or e.number != c.must)]
+    wrong = [n for n, (c, e) in enumerate(zip(cases, answers)) if c.must is not None and (e is None or e.number not in c.must)]
     return known, len(cases) - len(known), wrong
 
 
@@ -47,7 +46,8 @@ def differing(folder, batches, jobs):
 
 def compared(given, known):
     """The cases that differ, with what the checker computed, batch by batch."""
-    batches = [(i // BATCH, known[i:i + BATCH]) for i in range(0, len(known), BATCH)]
+    stated = [(n, template.said_by_rust(n, case, expected)) for n, case, expected in known]
+    batches = [(i // BATCH, stated[i:i + BATCH]) for i in range(0, len(stated), BATCH)]
     found = {}
     with tempfile.TemporaryDirectory() as place:
         folder = checker.scratch(given.definition, f"{place}/scratch")

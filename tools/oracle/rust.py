@@ -5,6 +5,8 @@ import subprocess
 from dataclasses import dataclass
 
 GRADES = {"RefOnly": 0, "SymWithoutRef": 1, "GoodSym": 2, "ReferencedGoodSym": 3}
+# What the driver is asked for: the printed table too, the segments alone, or the two lists of the search alone.
+PRINTED, SEGMENTS, SEARCHED = 4, 8, 16
 CONVERT_ERRORS = {
     "Error: unknown reference type": 10,
     "Error: Unknown id_blk": 11,
@@ -22,43 +24,25 @@ class Expected:
     text: bytes = b""
 
 
-def asking(flags, minimum, skip, image, library):
+def asking(flags, run, library):
     """A case as the driver reads it."""
-    sized = [struct.pack("<I", len(b)) + b for b in (image, library)]
-    return struct.pack("<BQQ", flags, minimum, skip) + b"".join(sized)
-
-
-def packed(case, library):
-    """The whole run: checking, skip amount, and the printed table too."""
-    flags = case.check | (case.skip is not None) << 1 | 4
-    return asking(flags, case.minimum, case.skip or 0, case.image, library)
-
-
-def packed_to_read(library):
-    """The reading alone."""
-    return asking(8, 0, 0, b"", library)
-
-
-def packed_to_collect(library):
-    """Reading, and the segments."""
-    return asking(16, 0, 0, b"", library)
-
-
-def packed_to_search(image, library, check, minimum):
-    """Reading, collecting, and the two lists that the search leaves."""
-    return asking(32 | check, minimum, 0, image, library)
+    flags |= run.check | (run.skip is not None) << 1
+    sized = [struct.pack("<I", len(b)) + b for b in (run.image, library)]
+    return struct.pack("<BQQ", flags, run.minimum, run.skip or 0) + b"".join(sized)
 
 
 def answers(program, asked):
     """One answer a case, the printed table beside it under "printed"."""
     said = subprocess.run([program], input=b"".join(asked), stdout=subprocess.PIPE, check=True).stdout
-    found = []
-    while said:
-        line, said = said.split(b"\n", 1)
-        answer = json.loads(line)
+    found, at = [], 0
+    while at < len(said):
+        line = said.index(b"\n", at)
+        answer = json.loads(said[at:line])
         begin, end = (b"\x1e%s %d\n" % (word, len(found)) for word in (b"BEGIN", b"END"))
-        if said.startswith(begin):
-            answer["printed"], said = said[len(begin):].split(end, 1)
+        at = line + 1
+        if said.startswith(begin, at):
+            last = said.index(end, at)
+            answer["printed"], at = said[at + len(begin):last], last + len(end)
         found.append(answer)
     return found
 
@@ -115,10 +99,15 @@ def programs(folder):
     return [f"{folder}/target/{profile}/libfind-oracle" for profile in ("release", "checked")]
 
 
-def ask(folder, cases):
-    """The expectation of each case."""
+def ask(folder, runs):
+    """The expectation of each run: the list and the printed table, or a number."""
     release, checked = programs(folder)
-    asked = [packed(c, c.library) for c in cases]
-    instead = [packed(c, c.library if c.asked is None else c.asked) for c in cases]
-    found = zip(cases, answers(release, asked), answers(checked, asked), answers(release, instead))
+    asked = [asking(PRINTED, run, run.library) for run in runs]
+    instead = [asking(PRINTED, run, run.library if run.asked is None else run.asked) for run in runs]
+    found = zip(runs, answers(release, asked), answers(checked, asked), answers(release, instead))
     return [expected(*each) for each in found]
+
+
+def shown(folder, runs, stage):
+    """What a stage of each run leaves, as driver/shown.rs shows it."""
+    return answers(programs(folder)[0], [asking(stage, run, run.library) for run in runs])

@@ -1,4 +1,4 @@
--- What is left once all modules are stored, or could not be.
+-- What the collection comes to once all modules are stored, or there was no room for them.
 use Prim.Native.Nat.{ℕ}
 use mathlib.Core.Path.{_≡_}
 use mathlib.Core.List.{List}

@@ -1,4 +1,4 @@
--- What the collection comes to.
+-- The collection: what it comes to, and the laws of its parts.
 pub mod Outcome
 pub mod Concluded
 pub mod OutcomeLaws

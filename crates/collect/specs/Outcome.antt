@@ -1,4 +1,4 @@
--- What the collection comes to: the answer, and what is left in the memory that was lent to it.
+-- What the collection comes to: the answer, and what is left in the lists that were lent to it.
 use Prim.Native.Nat.{ℕ}
 use mathlib.Core.Bool.{Bool, _||_}
 use mathlib.Core.List.{List, [], _∷_}
@@ -21,11 +21,12 @@ use Rattle.collect.specs.stored.Stores.{CollectLists}
 use Rattle.collect.specs.declared.Collection.{Collection}
 use Rattle.collect.specs.declared.Collection.the-variants.{Done, Refused}
 
+-- the answer, and the lent lists afterwards
 pub record CollectOutcome : Type 0 where
   pub answer : Collection
   pub left : CollectLists
 
--- the rows and pattern bytes that segments take
+-- how many rows and pattern bytes segments take
 unfoldable pub countedIn : List Collected → CollectCounts
 countedIn gs = record {
   segments = length gs;
@@ -34,19 +35,19 @@ countedIn gs = record {
   pattern = total (λ g. length (g .bytes)) gs;
 }
 
--- refusal 9: more than were lent; a pattern byte takes a byte and a mask
+-- refusal 9: segments take more than was lent; each pattern byte takes a byte and a mask
 abbrev pub tooFew : CollectLists → CollectCounts → Bool
 tooFew l c =
     tooMany segmentWidth (l .segments) (c .segments)
     || (tooMany referenceWidth (l .references) (c .references)
     || (tooMany symbolWidth (l .symbols) (c .symbols) || (tooMany 1 (l .bytes) (c .pattern) || tooMany 1 (l .masks) (c .pattern))))
 
--- the refusals in their order, of which the first counts
+-- the refusals of the collection in their order, of which the first that applies counts
 unfoldable pub refusalOf : List ℕ → List Module → CollectLists → CollectCounts → Option Refusal
 refusalOf library modules l c =
     leading (when (ltb 1048576 (length library)) LibraryTooLong ∷ when (tooFew l c) TooFewRows ∷ collectRefusal modules ∷ [])
 
--- lent memory set to zero; and filled with segments, the rest zero
+-- the lent lists set to zero
 unfoldable pub collectZeroed : CollectLists → CollectLists
 collectZeroed l = record {
   segments = zeros (length (l .segments));
@@ -56,6 +57,7 @@ collectZeroed l = record {
   masks = zeros (length (l .masks));
 }
 
+-- the lent lists filled with segments, and zeros behind
 unfoldable pub collectFilled : List Collected → CollectLists → CollectLists
 collectFilled gs l = record {
   segments = padded (length (l .segments)) (segmentNumbers gs);
@@ -65,11 +67,12 @@ collectFilled gs l = record {
   masks = padded (length (l .masks)) (patternMasks gs);
 }
 
--- a refusal up to 8 writes nothing, 9 to 13 set all that was lent to zero
+-- the outcome with a refusal or without: refusals up to 8 write nothing, 9 to 13 set all lent lists to zero
 abbrev pub collectOutcomeOf : Option Refusal → List Collected → CollectLists → CollectOutcome
 collectOutcomeOf none gs l = record { answer = Done (countedIn gs); left = collectFilled gs l }
 collectOutcomeOf (some r) gs l = record { answer = Refused r; left = if leb (refusalNumber r) 8 then l else collectZeroed l }
 
+-- the collection of the segments of all modules
 unfoldable pub collection : Rules → List ℕ → List Module → CollectLists → CollectOutcome
 collection rules library modules l =
     let gs = collect rules library modules in

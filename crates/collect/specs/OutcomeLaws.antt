@@ -1,4 +1,4 @@
--- What was stored, or could not be, comes to the definition's outcome. Assumes nothing.
+-- Segments that were stored, or for which there was no room, come to the definition's outcome. Assumes nothing.
 use Prim.Native.Nat.{ℕ, _*_, _≤_}
 use mathlib.Core.Path.{_≡_, refl, sym, _∙_}
 use mathlib.Core.Bool.{Bool, true, false, _||_, false≢true}
@@ -76,7 +76,10 @@ module _ (gs : List Collected) where
       go : (t : Bool) → tooFew l (countedIn gs) ≡ t → t ≡ true
       go true e = refl
       go false e =
-          let p : (ltb (length (l .segments)) (length gs * 8) ≡ false) × ((ltb (length (l .references)) (total (λ g. length (g .references)) gs * 6) ≡ false) × ((ltb (length (l .symbols)) (total (λ g. length (g .symbols)) gs * 3) ≡ false) × ((ltb (length (l .bytes)) (total (λ g. length (g .bytes)) gs * 1) ≡ false) × (ltb (length (l .masks)) (total (λ g. length (g .bytes)) gs * 1) ≡ false)))) = parts e in
+          let p : (ltb (length (l .segments)) (length gs * 8) ≡ false) ×
+          ((ltb (length (l .references)) (total (λ g. length (g .references)) gs * 6) ≡ false) ×
+          ((ltb (length (l .symbols)) (total (λ g. length (g .symbols)) gs * 3) ≡ false) ×
+          ((ltb (length (l .bytes)) (total (λ g. length (g .bytes)) gs * 1) ≡ false) × (ltb (length (l .masks)) (total (λ g. length (g .bytes)) gs * 1) ≡ false)))) = parts e in
           absurd (lacks (record {
             segments = ltb-false (length (l .segments)) (length gs * 8) (p .0);
             references = omega (arith, ltb-false (length (l .references)) (total (λ g. length (g .references)) gs * 6) (p .1 .0), joined-length (λ (g : Collected). g .references) gs);

@@ -1,3 +1,3 @@
--- The segments of one module.
+-- The segments of one module: its kept segments, and then its absolute contents.
 pub mod Parts
 pub mod PartLaws

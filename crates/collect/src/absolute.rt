@@ -15,7 +15,9 @@ use library::items::NextContent;
 use library::items::contents::next_content;
 use tables::links::number_at;
 
-// `number` is that of the module's first segment; `own` says whether a symbol stands at its own address, so that its offset counts from the content's start.
+// Stores all absolute contents of a module (`number` is that of its first segment): the contents of id 0, along `first`
+// and `next` at `places`. The public definitions of id 0 are indexed by offset in `keys` (of which n count), `entries`,
+// `heads`, `onward`. `own` is explained at `is_own`, `flags` at `name_inside`; the rest is as in `store_kept`.
 pub fn store_absolutes(
     library: &[u8],
     own: bool,

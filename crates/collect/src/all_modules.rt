@@ -1,3 +1,3 @@
-// The segments of all modules of a library, stored in tables that are lent.
+// The segments of all modules of a library are stored, one module after another, in tables that are lent.
 pub mod all;
 pub mod module;

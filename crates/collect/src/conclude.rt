@@ -1,4 +1,4 @@
-// What is left once all modules are stored, or could not be: rows, or zeros and a refusal.
+// The end of the collection, once all modules are stored or there was no room: rows, or zeros and a refusal.
 ghost use mathlib.Core.Path.{_≡_};
 ghost use mathlib.Core.List.{[]};
 ghost use Prim.Native.Nat.{_≤_};
@@ -17,7 +17,7 @@ use lent::rows::clear_bytes;
 use module_ids::fault::Verdict;
 use module_ids::scan::scan;
 
-// All that is lent is set to zero: before anything is stored, and again where the collection is refused.
+// Sets the five lists of the collection to zero: before anything is stored, and again where the collection is refused.
 pub fn clear_all(
     segments: &mut [u64],
     references: &mut [u64],
@@ -34,7 +34,8 @@ pub fn clear_all(
     clear_bytes(masks);
 }
 
-// Refusals 10 to 13 come after 9, so they are looked for once all is stored.
+// What the collection of the modules from the place `from` on comes to, given what was stored in its five lists. Refusals
+// 10 to 13 come after 9, so that they are looked for once all is stored. `table` is the table of ids, lent clear.
 pub fn conclude(
     library: &[u8],
     from: usize,

@@ -1,4 +1,4 @@
-// The entry point, which lends the tables.
+// The entry point of the collection, which makes the tables for a module and lends them to all that follows.
 ghost use mathlib.Core.Path.{_≡_};
 ghost use mathlib.Core.List.{[]};
 ghost use Prim.Native.Nat.{_≤_};
@@ -33,7 +33,8 @@ use tables::zeros::many_places;
 // A library up to this length is collected with small tables.
 const SHORT_LIBRARY: usize = 65536;
 
-// A library of at most 64 KiB, for which small tables do.
+// Stores the segments of a library of at most 64 KiB, for which small tables do: tables are filled
+// with zeros in each run, which costs time.
 fn store_short(
     library: &[u8],
     rules: Rules,
@@ -81,7 +82,7 @@ fn store_short(
     )
 }
 
-// A library of at most 1 MiB.
+// Stores the segments of a library of at most 1 MiB.
 fn store_long(
     library: &[u8],
     rules: Rules,
@@ -129,7 +130,7 @@ fn store_long(
     )
 }
 
-// The tables that the library's length asks for.
+// Stores the segments of all modules from the place `from` on, with tables of the size that the library's length asks for.
 fn store(
     library: &[u8],
     rules: Rules,
@@ -172,7 +173,9 @@ fn store(
     )
 }
 
-// Collects the segments of all modules from a place on. A longer library is refused, and nothing is written.
+// Collects the segments of all modules from the place `from` on into the five lists of the collection: rows of
+// segments, of references and of symbols, pattern bytes, masks. A library above 1 MiB is refused, and nothing is
+// written; any other refusal leaves zeros.
 pub fn collect(
     library: &[u8],
     rules: Rules,

@@ -23,6 +23,7 @@ use module_index::owner::head_of;
 use module_index::owner::link_at;
 use omf51::Definition;
 
+// The size of a segment; other definitions have none.
 fn size_of(d: Definition) -> usize
     ensures { λ r. ⌜ r ≡ sizeOf d ⌝ }
 {
@@ -39,7 +40,8 @@ fn size_of(d: Definition) -> usize
     }
 }
 
-// One kept segment, `number` being that of its module's first.
+// Stores one kept segment by its definition `d`; `number` is that of its module's first segment. The tables tell which
+// contents (`table`, `first`) and which public definitions (`heads`) go to it; the rest is handed on to `store_kept`.
 fn store_definition(
     library: &[u8],
     d: Definition,
@@ -91,7 +93,9 @@ fn store_definition(
     )
 }
 
-// All of them, from the module's first definition on.
+// Stores all kept segments of a module, whose definitions start at `from`, behind what `before` counts. The module's
+// tables are filled: what its ids lead to (`table`), its contents by id (`first`, `next`, `places`), its public
+// definitions by id (`heads`, `onward`, `entries`). The rows go into the five lists of the collection.
 pub fn store_keeps(
     library: &[u8],
     from: usize,

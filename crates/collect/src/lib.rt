@@ -1,4 +1,4 @@
-// The segments of all modules, collected into lent memory.
+// The collection: the segments of all modules are put into lent memory.
 pub mod absolute;
 pub mod all_modules;
 pub mod conclude;
@@ -10,7 +10,7 @@ pub mod stored;
 use crate::stored::CollectCounts;
 use lent::refusal::Refusal;
 
-// How many rows and pattern bytes were written, or why there are none.
+// What the collection comes to: how many rows and pattern bytes were written, or why there are none.
 pub enum Collection {
     Done(CollectCounts),
     Refused(Refusal),

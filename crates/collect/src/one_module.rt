@@ -1,3 +1,3 @@
-// The segments of one module: the kept ones, and then the absolute contents.
+// The segments of one module: its kept segments, and then its absolute contents.
 pub mod both;
 pub mod part;

@@ -1,8 +1,8 @@
-// Segments stored in lent memory, one behind another, until there is no room.
+// Segments are stored in lent memory, one behind another, until there is no room.
 pub mod row;
 pub mod rules;
 
-// What is stored so far: rows of each kind, and bytes of pattern memory.
+// How much is stored so far: rows of segments, references and symbols, and bytes of pattern memory.
 pub struct CollectCounts {
     pub segments: usize,
     pub references: usize,
@@ -10,7 +10,7 @@ pub struct CollectCounts {
     pub pattern: usize,
 }
 
-// All of it is stored, or there is no room; then the memory is not looked at again.
+// Whether all that was asked for is stored; if there was no room, nobody looks at what the memory holds, and it is cleared.
 pub enum Stored {
     Rows(CollectCounts),
     NoRoom,

@@ -1,5 +1,5 @@
-// What bench/ counts the instructions of: a library read and gone over once, a library read only, its segments collected, an image searched
-// for them, and what was found listed and printed.
+// The functions of which bench/ counts the instructions: a library is read and gone over once, or read only; its
+// segments are collected; an image is searched for them; the names that were found are listed, and the list is printed.
 mod items;
 mod passes;
 
@@ -20,7 +20,7 @@ use search::Searched;
 use search::entry::search;
 use search_rules::Asked;
 
-// A sum over all that the library says; 0 with a refusal.
+// Reads a library and goes over it once; gives a sum over all that it says, or 0 for a refusal.
 #[no_mangle]
 pub extern "C" fn count_reading(library: &[u8]) -> usize {
     match read(library) {
@@ -29,7 +29,7 @@ pub extern "C" fn count_reading(library: &[u8]) -> usize {
     }
 }
 
-// The number of modules; 0 with a refusal.
+// Reads a library, and gives the number of its modules, or 0 for a refusal.
 #[no_mangle]
 pub extern "C" fn count_places(library: &[u8]) -> usize {
     match read(library) {
@@ -38,7 +38,8 @@ pub extern "C" fn count_places(library: &[u8]) -> usize {
     }
 }
 
-// The number that collecting the segments comes to, as found; 0 leaves how many segments, references, symbols and pattern bytes there are in `counts`.
+// Reads a library and collects its segments, under rule set 0; gives 0 or the number of a refusal. With 0 the numbers
+// of segments, references, symbols and pattern bytes are left in `counts`.
 #[no_mangle]
 pub extern "C" fn count_collecting(
     library: &[u8],
@@ -76,8 +77,8 @@ pub extern "C" fn count_collecting(
     }
 }
 
-// The number that searching an image for the first n of the segments that were collected comes to, as found and with nothing withheld; 0 leaves
-// how many symbols are placed and names noted in `counts`.
+// Searches an image for the first n segments that were collected, under rule set 0 and with nothing withheld; gives 0
+// or the number of a refusal. With 0 the numbers of placed symbols and noted names are left in `counts`.
 #[no_mangle]
 pub extern "C" fn count_searching(
     image: &[u8],
@@ -122,6 +123,7 @@ pub extern "C" fn count_searching(
     }
 }
 
+// The skip amount, if there is one.
 fn skip_of(skips: bool, amount: usize) -> Skip {
     if skips {
         return Skip::Above(amount);
@@ -129,8 +131,8 @@ fn skip_of(skips: bool, amount: usize) -> Skip {
     Skip::Never
 }
 
-// The number that listing the rows of a search comes to, as found and with nothing withheld: so many symbols placed and names noted. 0 leaves how many
-// lines there are in `counts`, 9 says that they are more than were lent.
+// Lists the names of the rows that a search left (`symbols` rows of placed symbols, `names` of noted names), under rule
+// set 0 and with nothing withheld. Gives 0 and leaves the number of lines in `counts`, or 9 if the lines do not fit.
 #[no_mangle]
 pub extern "C" fn count_listing(
     image: &[u8],
@@ -171,7 +173,7 @@ pub extern "C" fn count_listing(
     0
 }
 
-// How many bytes the printed form of n lines has; 0 without room for it.
+// Prints n lines, and gives the length of the text; 0 if it does not fit.
 #[no_mangle]
 pub extern "C" fn count_printing(library: &[u8], lines: &[u64], n: usize, out: &mut [u8]) -> usize {
     match print(library, lines, n, out) {

@@ -1,4 +1,4 @@
-// One pass over the definitions and one over the contents of each module, each content with its fixups.
+// Each module of a library is gone over: once over its definitions, and once over its contents, each content with its fixups.
 use crate::items::of_content;
 use crate::items::of_definition;
 use crate::items::of_fixup;
@@ -15,6 +15,7 @@ use library::items::decoded::next_fixup;
 use library::items::entries::start;
 use library::module::module_at;
 
+// The sum of all definitions of a module.
 fn over_definitions(library: &[u8], definitions: usize) -> usize {
     let mut sum = 0;
     let mut c = start(definitions);
@@ -31,6 +32,7 @@ fn over_definitions(library: &[u8], definitions: usize) -> usize {
     }
 }
 
+// The sum of the fixups of a content, from a cursor on.
 fn over_fixups(library: &[u8], from: Cursor) -> usize {
     let mut sum = 0;
     let mut c = from;
@@ -47,6 +49,7 @@ fn over_fixups(library: &[u8], from: Cursor) -> usize {
     }
 }
 
+// The sum of all contents of a module, with their fixups.
 fn over_contents(library: &[u8], contents: usize) -> usize {
     let mut sum = 0;
     let mut at = contents;
@@ -67,6 +70,7 @@ fn over_contents(library: &[u8], contents: usize) -> usize {
     }
 }
 
+// The sum of a module.
 fn over_module(library: &[u8], places: Places) -> usize {
     plus(
         over_definitions(library, places.definitions),
@@ -74,7 +78,7 @@ fn over_module(library: &[u8], places: Places) -> usize {
     )
 }
 
-// As many modules as were read, one after another. Each was whole when it was counted, so none ends this early.
+// The sum of `count` modules in a row. Each module was whole when the library was read, so that none ends the loop early.
 pub fn over_modules(library: &[u8], first: usize, count: usize) -> usize {
     let mut sum = 0;
     let mut at = first;

@@ -1,4 +1,5 @@
-// Descriptions of names: parse_description of at51's libfind, first alternative taken and never reconsidered.
+// Descriptions of names, found as at51's `parse_description` does: in each list the first word that
+// fits is taken, and never reconsidered.
 ghost use mathlib.Core.Path.{_≡_};
 ghost use Prim.Native.Nat.{_+_, _≤_};
 ghost use lib.ListN.{length, drop};
@@ -11,6 +12,7 @@ use crate::Sentence;
 use crate::words::Saying;
 use crate::words::Taken;
 
+// A word that may be missing at the place `at`.
 fn perhaps(word: Taken, at: usize) -> Piece
     ensures { λ r. ⌜ r ≡ taken word at ⌝ }
 {
@@ -23,7 +25,8 @@ fn perhaps(word: Taken, at: usize) -> Piece
     }
 }
 
-// A load or a store.
+// The description of a load or a store, whose words start at `at`: a move, a memory, and perhaps 0.
+// The sign and the type come before them.
 fn parse_moving(name: &[u8], at: usize, sign: Saying, kind: Saying) -> Parsed
     ensures { λ r. ⌜ sentenceIn r ≡ saidIn (more (say sign) (more (say kind) (moving (drop at (now (name .entry)))))) ⌝ }
 {
@@ -45,6 +48,7 @@ fn parse_moving(name: &[u8], at: usize, sign: Saying, kind: Saying) -> Parsed
     })
 }
 
+// What the words of a name say: `?C?`, perhaps a sign, a type, and then an operation, or else a load or a store.
 fn parse(name: &[u8]) -> Parsed
     ensures { λ r. ⌜ sentenceIn r ≡ definition (now (name .entry)) ⌝ }
 {
@@ -76,6 +80,7 @@ fn parse(name: &[u8]) -> Parsed
     })
 }
 
+// How many bytes a sentence takes.
 fn size(s: Sentence) -> usize
     ensures { λ r. ⌜ r ≡ length (sentence s) ⌝ }
 {
@@ -91,6 +96,7 @@ fn size(s: Sentence) -> usize
         + into.len as usize
 }
 
+// Writes what one word says at a place of the buffer, and answers where it ends.
 fn put(out: &mut [u8], at: usize, s: Saying) -> usize
     requires { ⌜ at + length (say s) ≤ length (now out) ⌝ }
     ensures { λ r. ⌜ Put (now (out .entry)) at (say s) (now (out .exit)) r ⌝ }
@@ -105,6 +111,7 @@ fn put(out: &mut [u8], at: usize, s: Saying) -> usize
     at + n
 }
 
+// Writes a sentence into the buffer, and answers how many bytes it takes.
 fn write(out: &mut [u8], s: Sentence) -> usize
     requires { ⌜ length (sentence s) ≤ length (now out) ⌝ }
     ensures { λ r. ⌜ Put (now (out .entry)) 0 (sentence s) (now (out .exit)) r ⌝ }
@@ -121,7 +128,7 @@ fn write(out: &mut [u8], s: Sentence) -> usize
     put(out, d, into)
 }
 
-// Writes what a name says, if it says anything and that fits; otherwise `out` is as it was.
+// Writes the description of a name into `out`, if the name has one and it fits; otherwise `out` stays as it was.
 pub fn describe(name: &[u8], out: &mut [u8]) -> Described
     ensures { λ r. ⌜ (r, now (out .exit)) ≡ described (now (name .entry)) (now (out .entry)) ⌝ }
 {

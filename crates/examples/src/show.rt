@@ -4,7 +4,6 @@ use image::Stretch;
 use image::fixup::Kind;
 use image::fixup::Rules;
 use image::fixup::Target;
-use lent::part::Part;
 use libc::STDOUT_FILENO;
 
 pub fn say(text: &[u8]) {
@@ -29,7 +28,7 @@ pub fn answer(yes: bool) {
 }
 
 // All matches, ascending; more than 16 are not shown.
-pub fn matches(image: &[u8], s: Stretch, bytes: &[u8], masks: &[u8]) {
+fn each_match(image: &[u8], s: Stretch, bytes: &[u8], masks: &[u8]) {
     let mut at: usize = 0;
     let mut turns: usize = 0;
     while turns < 16 {
@@ -48,8 +47,15 @@ pub fn matches(image: &[u8], s: Stretch, bytes: &[u8], masks: &[u8]) {
     say(b" and more\n");
 }
 
-pub fn target(image: &[u8], s: Stretch, rules: Rules, pos: usize, kind: Kind, offset: u64) {
-    match image::fixup::find_target(image, s, rules, pos, kind, offset) {
+pub fn matches(text: &[u8], image: &[u8], s: Stretch, bytes: &[u8], masks: &[u8]) {
+    say(text);
+    each_match(image, s, bytes, masks);
+}
+
+// Where a reference with no offset leads, nothing being withheld.
+pub fn target(image: &[u8], rules: Rules, pos: usize, kind: Kind) {
+    let nothing = Stretch { start: 0, len: 0 };
+    match image::fixup::find_target(image, nothing, rules, pos, kind, 0) {
         Target::At(t) => {
             say(b" 0x");
             io::print_hex(STDOUT_FILENO, t, 4);
@@ -60,10 +66,19 @@ pub fn target(image: &[u8], s: Stretch, rules: Rules, pos: usize, kind: Kind, of
     }
 }
 
-pub fn plain() -> Stretch {
-    Stretch { start: 0, len: 0 }
+fn by_both_rules(image: &[u8; 2048], pos: usize, kind: Kind) {
+    target(image, Rules::AsFound, pos, kind);
+    target(image, Rules::Documented, pos, kind);
+    say(b"\n");
 }
 
-pub fn part(at: usize, len: usize) -> Part {
-    Part { at, len }
+// Two bytes at a place of an image that is zero elsewhere, read by both rule sets.
+pub fn both_rules(text: &[u8], pos: usize, kind: Kind, a: u8, b: u8) {
+    let mut image = [0u8; 2048];
+    if pos < 2047 {
+        image[pos] = a;
+        image[pos + 1] = b;
+    }
+    say(text);
+    by_both_rules(&image, pos, kind);
 }

@@ -1,4 +1,4 @@
--- What may be seen of an image, and where a masked pattern matches it; each file of laws stands behind its definitions.
+-- The view of an image, and where a masked pattern matches it; each file of laws stands behind its definitions.
 pub mod View
 pub mod ViewLaws
 pub mod Match

@@ -1,4 +1,4 @@
--- The three kinds of reference and where they lead.
+-- The three kinds of reference and the targets to which they lead.
 pub mod Target
 pub mod TargetLaws
 pub mod AddressLaws

@@ -1,4 +1,4 @@
-// References out of a pattern: their kinds, and where they lead.
+// References out of a pattern: their kinds, and the targets to which the bytes of the image lead.
 ghost use mathlib.Core.Path.{_≡_};
 ghost use Prim.Native.Nat.{_+_, _<_, _^_};
 ghost use Rattle.image.specs.View.{view, cellAt};
@@ -6,31 +6,33 @@ ghost use Rattle.image.specs.fixup.Target.{signed as signedOf, topBits, 
 ghost use Rattle.image.specs.fixup.AddressLaws.{page11};
 use crate::Stretch;
 
-// The rule sets: 0, as found, and 1, as documented.
+// The two rule sets: 0, as found, and 1, as documented.
 pub enum Rules {
     AsFound,
     Documented,
 }
 
-// The kinds of fixup that leave a reference.
+// The three kinds of fixup that leave a reference.
 pub enum Kind {
     Relative,
     Word,
     Inblock,
 }
 
-// Where a reference leads.
+// The target of a reference: an address, or none where its bytes can't be read.
 pub enum Target {
     At(u64),
     Nowhere,
 }
 
+// A byte as a number of 64 bits.
 fn wide(x: u8) -> u64
     ensures { λ r. ⌜ (r ≡ x) × (r < 256) ⌝ }
 {
     x as u64
 }
 
+// How many bytes a reference of a kind reads.
 fn width(kind: Kind) -> usize
     ensures { λ r. ⌜ r ≡ reads kind ⌝ }
 {
@@ -51,14 +53,14 @@ fn signed(a: u8) -> u64
     wide(a) + 0xffff_ffff_ffff_ff00
 }
 
-// High byte first.
+// The address of two bytes, high byte first.
 fn addr16(a: u8, b: u8) -> u64
     ensures { λ r. ⌜ r ≡ addr16Of a b ⌝ }
 {
     256 * wide(a) + wide(b)
 }
 
-// The three bits of an AJMP or ACALL opcode that belong to the address; as found they count as 0.
+// The three bits of the first byte of an AJMP or ACALL that belong to the address; under rule set 0, as found, they count as 0.
 fn top_bits(rules: Rules, a: u8) -> u64
     ensures { λ r. ⌜ r ≡ topBits rules a ⌝ }
 {
@@ -68,7 +70,8 @@ fn top_bits(rules: Rules, a: u8) -> u64
     }
 }
 
-// The address of an AJMP or ACALL, put together by shifts and masks: five bits of the place after it, the three bits of its opcode, its second byte.
+// The address of an AJMP or ACALL, put together by shifts and masks: five bits of the place after it, three bits of its
+// first byte, its second byte.
 fn addr11(rules: Rules, next: u64, a: u8, b: u8) -> u64
     ensures { λ r. ⌜ r ≡ page11 next (topBits rules a) b ⌝ }
 {
@@ -77,7 +80,7 @@ fn addr11(rules: Rules, next: u64, a: u8, b: u8) -> u64
     (page << 11) | low
 }
 
-// Whether n bytes at `pos` lie within the image and share none with the stretch.
+// Whether n bytes at `pos` lie within the image and share no byte with the stretch.
 fn readable(image: &[u8], s: Stretch, pos: usize, n: usize) -> bool
     ensures { λ r. ⌜ r ≡ readableIn (view (now (image .entry)) s) pos n ⌝ }
 {
@@ -90,7 +93,7 @@ fn readable(image: &[u8], s: Stretch, pos: usize, n: usize) -> bool
     crate::is_apart(s, pos, n)
 }
 
-// The byte at a place, 0 past the end.
+// The byte of the image at a place, 0 past the end.
 fn byte_at(image: &[u8], at: usize) -> u8
     ensures { λ r. ⌜ r ≡ cellAt (now (image .entry)) at ⌝ }
 {
@@ -100,7 +103,8 @@ fn byte_at(image: &[u8], at: usize) -> u8
     0
 }
 
-// Where the bytes a and b at `pos` lead. The place after an Inblock is a number of 64 bits, since its bytes lie in an image.
+// The address to which the bytes a and b at `pos` lead. The sum pos + 2 of an Inblock does not
+// wrap, since its bytes lie in an image.
 fn leads_to(rules: Rules, pos: u64, kind: Kind, a: u8, b: u8) -> u64
     requires { ⌜ pos + reads kind < 2 ^ 64 ⌝ }
     ensures { λ r. ⌜ r ≡ leadsTo rules pos kind a b ⌝ }
@@ -115,7 +119,8 @@ fn leads_to(rules: Rules, pos: u64, kind: Kind, a: u8, b: u8) -> u64
     }
 }
 
-// The target of a reference that reads at `pos`: no target if its bytes pass the image's end or touch the stretch. The fixup's offset is subtracted, and sums wrap.
+// The target of a reference that reads at `pos`: none if its bytes pass the image's end or touch the stretch, else the
+// address that the bytes give, less the fixup's offset, where the difference wraps at 64 bits.
 pub fn find_target(
     image: &[u8],
     s: Stretch,

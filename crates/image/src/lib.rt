@@ -1,5 +1,5 @@
-// Masked patterns, and what may be seen of an image. The code never builds a view: it compares a window with the stretch once,
-// and then reads plain bytes.
+// Where a masked pattern matches an image of which a stretch is withheld. The code never builds a view: it compares a
+// window, the bytes under a pattern, with the stretch once, and then reads plain bytes.
 ghost use mathlib.Core.Path.{_≡_};
 ghost use Prim.Native.Nat.{_+_, _≤_, min};
 ghost use Rattle.image.specs.View.{view};
@@ -9,34 +9,35 @@ ghost use Rattle.image.specs.Next.{nextMatch};
 
 pub mod fixup;
 
-// An image is at most this long.
+// The length of the longest image that a run takes.
 pub const LONGEST_IMAGE: usize = 65536;
 
-// A stretch of the image that is withheld: `len` bytes from `start` on.
+// The stretch of the image that is withheld: `len` bytes from `start` on.
 pub struct Stretch {
     pub start: usize,
     pub len: usize,
 }
 
-// Where a pattern may stand: a relocatable one anywhere, an absolute one only at its address.
+// Where a pattern may stand: that of a kept segment anywhere, that of an absolute content only at its address.
 pub enum Seat {
     Anywhere,
     Only(usize),
 }
 
-// Where a match was found.
+// The first place at which a pattern matches, if there is one.
 pub enum FirstPlace {
     At(usize),
     Nothing,
 }
 
+// The lesser of two lengths.
 fn shorter(a: usize, b: usize) -> usize
     ensures { λ r. ⌜ r ≡ min a b ⌝ }
 {
     if a < b { a } else { b }
 }
 
-// Whether n bytes from `at` on share none with the stretch; no sum is taken, so none can wrap.
+// Whether the n bytes of the image from `at` on share no byte with the stretch. No sum is taken, so that none can wrap.
 pub fn is_apart(s: Stretch, at: usize, n: usize) -> bool
     ensures { λ r. ⌜ r ≡ isApart s at n ⌝ }
 {
@@ -54,7 +55,8 @@ pub fn is_apart(s: Stretch, at: usize, n: usize) -> bool
     len <= at - start
 }
 
-// Whether the first n bytes of a pattern agree at a place, of which the first `from` are known to: the rest one by one.
+// Whether the first n bytes of a pattern agree with the image at a place, where the first `from` bytes are known to
+// agree: the other bytes are compared one by one.
 fn rest_agrees(image: &[u8], bytes: &[u8], masks: &[u8], at: usize, from: usize, n: usize) -> bool
     requires { ⌜ Agreeing (now image) (now bytes) (now masks) at n from × Reaches (now image) (now bytes) (now masks) at n ⌝ }
     ensures { λ r. ⌜ r ≡ partAgrees (now (image .entry)) (now (bytes .entry)) (now (masks .entry)) at 0 n ⌝ }
@@ -69,7 +71,8 @@ fn rest_agrees(image: &[u8], bytes: &[u8], masks: &[u8], at: usize, from: usize,
     true
 }
 
-// Whether the 32 bytes of a pattern from i on agree: with no test between them they are compared many at once.
+// Whether the 32 bytes of a pattern from byte i on agree with the image. No test stands between the 32 bytes, so that
+// the compiler can compare many at once.
 fn part_agrees(image: &[u8], bytes: &[u8], masks: &[u8], at: usize, i: usize) -> bool
     requires { ⌜ Reaches (now image) (now bytes) (now masks) at (i + 32) ⌝ }
     ensures { λ r. ⌜ r ≡ partAgrees (now (image .entry)) (now (bytes .entry)) (now (masks .entry)) at i 32 ⌝ }
@@ -83,8 +86,8 @@ fn part_agrees(image: &[u8], bytes: &[u8], masks: &[u8], at: usize, i: usize) ->
     differ == 0
 }
 
-// How many of the first n bytes agree, by parts of 32: all of them, or those before a part that does not agree. The last part begins
-// in the one before it where 32 does not divide n.
+// How many of the first n bytes of a pattern agree with the image, found by parts of 32: all n, or the bytes before the
+// first part that does not agree. The last part overlaps the one before it where 32 does not divide n.
 fn parts_agreeing(image: &[u8], bytes: &[u8], masks: &[u8], at: usize, n: usize) -> usize
     requires { ⌜ (32 ≤ n) × Reaches (now image) (now bytes) (now masks) at n ⌝ }
     ensures { λ r. ⌜ Agreeing (now (image .entry)) (now (bytes .entry)) (now (masks .entry)) at n r ⌝ }
@@ -101,8 +104,9 @@ fn parts_agreeing(image: &[u8], bytes: &[u8], masks: &[u8], at: usize, n: usize)
     i
 }
 
-// Whether all of a pattern fits at a place of the image and each byte agrees on all mask bits; a missing mask counts as 0.
-// Most places differ within the first bytes, so that these are asked one by one.
+// Whether a pattern matches the image at a place, with nothing withheld: all of it fits, and each byte
+// agrees on all bits of its mask; a missing mask counts as 0. Most places differ within the first bytes, so
+// that the first four are compared one by one.
 pub fn stands_at(image: &[u8], bytes: &[u8], masks: &[u8], at: usize) -> bool
     ensures { λ r. ⌜ r ≡ matchesAt (now (image .entry)) (now (bytes .entry)) (now (masks .entry)) at ⌝ }
 {
@@ -123,7 +127,8 @@ pub fn stands_at(image: &[u8], bytes: &[u8], masks: &[u8], at: usize) -> bool
     rest_agrees(image, bytes, masks, at, agreeing, n)
 }
 
-// The same with a stretch withheld: a window that shares a byte with it does not match.
+// Whether a pattern matches at a place of the image with a stretch withheld: a window that shares a byte with the
+// stretch does not match.
 pub fn match_at(image: &[u8], s: Stretch, bytes: &[u8], masks: &[u8], at: usize) -> bool
     ensures { λ r. ⌜ r ≡ matchesAt (view (now (image .entry)) s) (now (bytes .entry)) (now (masks .entry)) at ⌝ }
 {
@@ -133,7 +138,7 @@ pub fn match_at(image: &[u8], s: Stretch, bytes: &[u8], masks: &[u8], at: usize)
     false
 }
 
-// The first match at or after a place.
+// The first match of a pattern at or after the place `from`.
 pub fn next_match(image: &[u8], s: Stretch, bytes: &[u8], masks: &[u8], from: usize) -> FirstPlace
     ensures { λ r. ⌜ r ≡ nextMatch (view (now (image .entry)) s) (now (bytes .entry)) (now (masks .entry)) from ⌝ }
 {

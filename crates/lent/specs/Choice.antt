@@ -1,4 +1,4 @@
--- Choosing by a test, and the first of several things that there is.
+-- Choosing by a test, and the first thing in a list of things that may be missing.
 use mathlib.Core.Bool.{Bool, true, false}
 use mathlib.Core.List.{List, [], _∷_}
 use mathlib.Core.Option.{Option, none, some}
@@ -8,17 +8,17 @@ abbrev pub if_then_else_ : {A : Type 0} → Bool → A → A → A
 if true then a else b = a
 if false then a else b = b
 
--- something, if a test passes
+-- a thing if the test passes, else nothing
 abbrev pub when : {A : Type 0} → Bool → A → Option A
 when true a = some a
 when false a = none
 
--- this, or else that
+-- the first thing if there is one, else the second
 abbrev pub orElse : {A : Type 0} → Option A → Option A → Option A
 orElse none b = b
 orElse (some a) b = some a
 
--- the first that there is
+-- the first element of the list that is not missing
 unfoldable pub leading : {A : Type 0} → List (Option A) → Option A
 leading [] = none
 leading (a ∷ rest) = orElse a (leading rest)

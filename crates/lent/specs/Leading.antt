@@ -1,4 +1,5 @@
--- The first of several things that there is, in words: nothing before it, and then it. Assumes nothing.
+-- The first thing in a list of things that may be missing, said in words: all before it are
+-- missing, and it is not. Assumes nothing.
 use Prim.Native.Nat.{ℕ}
 use mathlib.Core.Path.{_≡_, refl}
 use mathlib.Core.Logic.{_↔_}

@@ -1,4 +1,4 @@
--- A refusal's number tells it. Assumes nothing.
+-- A refusal is known by its number. Assumes nothing.
 use Prim.Native.Nat.{_-_, _≤_}
 use mathlib.Core.Path.{_≡_, refl, sym, ap, _∙_}
 use mathlib.Core.List.{List, [], _∷_}

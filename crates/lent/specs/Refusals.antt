@@ -1,4 +1,4 @@
--- The numbers of document 01's table "Numbers returned".
+-- The number of each refusal, as in document 01's table "Numbers returned".
 use Prim.Native.Nat.{ℕ}
 use Rattle.lent.specs.declared.refusal.Refusal.{Refusal}
 use Rattle.lent.specs.declared.refusal.Refusal.the-variants.{RuleSet, ImageTooLong, LibraryTooLong, StretchPastEnd, NoModule, BodyPastEnd, LengthZero, NamesDiffer, TooFewRows, UnknownKind, UnknownBlock, ContentPastSegment, NoKeptSegment}

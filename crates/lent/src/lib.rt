@@ -1,4 +1,4 @@
-// What every stage shares: parts of the library, refusals, and rows of numbers in lent memory.
+// What all stages share: parts of the library, refusals, and rows of numbers in lent memory.
 pub mod names;
 pub mod part;
 pub mod refusal;

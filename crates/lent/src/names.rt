@@ -1,11 +1,11 @@
-// Names are parts of the library: their bytes, whether two are the same, and which comes first in byte order.
+// Names are parts of the library: what their bytes are, whether two names are the same, and which comes first in byte order.
 ghost use Prim.Native.Nat.{_+_, _≤_, min};
 ghost use mathlib.Core.Path.{_≡_};
 ghost use lib.ListN.{length};
 ghost use Rattle.lent.specs.Parts.{bytesOf, same as sameBytes, before as beforeBytes, partAlike, AlikeUpTo, sameName, nameBefore};
 use crate::part::Part;
 
-// That very part of the library; one that does not fit is empty.
+// The bytes of a part of the library, lent and not copied; a part that passes the library's end has none.
 pub fn name<'a>(library: &'a [u8], p: Part) -> &'a [u8]
     ensures { λ r. ⌜ now r ≡ bytesOf (now (library .entry)) p ⌝ }
 {
@@ -21,13 +21,15 @@ pub fn name<'a>(library: &'a [u8], p: Part) -> &'a [u8]
     &library[at..end]
 }
 
+// The lesser of two lengths.
 fn shorter(a: usize, b: usize) -> usize
     ensures { λ r. ⌜ r ≡ min a b ⌝ }
 {
     if a < b { a } else { b }
 }
 
-// Whether the 8 bytes of two strings from i on are alike: with no test between them they are compared at once.
+// Whether the 8 bytes of two strings from i on are alike. No test stands between the 8 bytes, so that
+// the compiler can compare them at once.
 fn part_alike(a: &[u8], b: &[u8], i: usize) -> bool
     requires { ⌜ (i + 8 ≤ length (now a)) × (i + 8 ≤ length (now b)) ⌝ }
     ensures { λ r. ⌜ r ≡ partAlike (now (a .entry)) (now (b .entry)) i 8 ⌝ }
@@ -41,8 +43,9 @@ fn part_alike(a: &[u8], b: &[u8], i: usize) -> bool
     differ == 0
 }
 
-// How many of the first n bytes are alike, by parts of 8: all of them, or those before a part that is not. The last part begins in the
-// one before it where 8 does not divide n. Fewer than 8 are not looked at.
+// How many of the first n bytes are known to be alike, by parts of 8: all n, or the bytes that were gone over before a
+// part that differs. The last part overlaps the one before it where 8 does not divide n. With n below 8 nothing is
+// looked at, and the answer is 0.
 fn parts_alike(a: &[u8], b: &[u8], n: usize) -> usize
     requires { ⌜ (n ≤ length (now a)) × (n ≤ length (now b)) ⌝ }
     ensures { λ r. ⌜ AlikeUpTo (now (a .entry)) (now (b .entry)) n r ⌝ }
@@ -96,12 +99,14 @@ pub fn before(a: &[u8], b: &[u8]) -> bool
     false
 }
 
+// Whether two names have the same bytes, wherever in the library they stand.
 pub fn same_name(library: &[u8], a: Part, b: Part) -> bool
     ensures { λ r. ⌜ r ≡ sameName (now (library .entry)) a b ⌝ }
 {
     same(name(library, a), name(library, b))
 }
 
+// Whether one name comes before another in byte order, wherever in the library they stand.
 pub fn name_before(library: &[u8], a: Part, b: Part) -> bool
     ensures { λ r. ⌜ r ≡ nameBefore (now (library .entry)) a b ⌝ }
 {

@@ -1,7 +1,8 @@
-// Why there is no answer, in the order of document 01's table; specs/Refusals.antt gives each its number.
+// Why a run has no answer, in the order of document 01's table; specs/Refusals.antt gives each refusal its number.
 ghost use mathlib.Core.Path.{_≡_};
 ghost use Rattle.lent.specs.Refusals.{refusalNumber};
 
+// The thirteen refusals.
 pub enum Refusal {
     RuleSet,
     ImageTooLong,
@@ -18,7 +19,7 @@ pub enum Refusal {
     NoKeptSegment,
 }
 
-// The number that the caller is handed for it.
+// The number that the caller gets for a refusal.
 pub fn number(r: Refusal) -> u8
     ensures { λ n. ⌜ n ≡ refusalNumber r ⌝ }
 {

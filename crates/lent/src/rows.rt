@@ -1,9 +1,9 @@
-// Rows of numbers in lent memory: row i of a width has the numbers from i * width on.
+// Rows of numbers in lent memory: row i of a width is the numbers from i * width on.
 ghost use mathlib.Core.Path.{_≡_};
 ghost use lib.ListN.{length};
 ghost use Rattle.lent.specs.Rows.{zeros, flag, cellOf, numbersOf, putRow};
 
-// All zeros.
+// Sets all numbers of a list to 0.
 pub fn clear(rows: &mut [u64])
     ensures { λ _. ⌜ now (rows .exit) ≡ zeros (length (now (rows .entry))) ⌝ }
 {
@@ -14,6 +14,7 @@ pub fn clear(rows: &mut [u64])
     }
 }
 
+// Sets all bytes of a list to 0.
 pub fn clear_bytes(bytes: &mut [u8])
     ensures { λ _. ⌜ now (bytes .exit) ≡ zeros (length (now (bytes .entry))) ⌝ }
 {
@@ -24,7 +25,7 @@ pub fn clear_bytes(bytes: &mut [u8])
     }
 }
 
-// Number j of row i, or 0 where there is none.
+// Number j of row i, or 0 where there is no such row or number.
 pub fn cell(m: &[u64], width: usize, i: usize, j: usize) -> u64
     ensures { λ r. ⌜ r ≡ cellOf width (now (m .entry)) i j ⌝ }
 {
@@ -36,7 +37,7 @@ pub fn cell(m: &[u64], width: usize, i: usize, j: usize) -> u64
     0
 }
 
-// The numbers of row i, of which there are at most eight; those that it does not have are 0.
+// The numbers of row i. No row has more than eight; a number that the row does not have is 0.
 pub fn numbers(m: &[u64], width: usize, i: usize) -> [u64; 8]
     ensures { λ r. ⌜ r ≡ numbersOf width (now (m .entry)) i ⌝ }
 {
@@ -52,7 +53,7 @@ pub fn numbers(m: &[u64], width: usize, i: usize) -> [u64; 8]
     ]
 }
 
-// Puts a row's numbers into row i; where memory ends before it, nothing.
+// Puts the numbers of a row into row i; if the memory ends before that row's end, it stays as it was.
 pub fn put(m: &mut [u64], i: usize, cells: &[u64])
     ensures { λ _. ⌜ now (m .exit) ≡ putRow (length (now (cells .entry))) (now (m .entry)) i (now (cells .entry)) ⌝ }
 {
@@ -70,7 +71,7 @@ pub fn put(m: &mut [u64], i: usize, cells: &[u64])
     }
 }
 
-// Yes and no as numbers in a row.
+// Yes and no as the numbers 1 and 0 in a row.
 pub fn flag(b: bool) -> u64
     ensures { λ r. ⌜ r ≡ flag b ⌝ }
 {

@@ -1,4 +1,4 @@
--- What is looked at before anything is written: the first of 1 to 8, and where the library's modules start.
+-- The beginning of a run, before anything is written: the first of refusals 1 to 8, and where the library's modules start.
 use Prim.Native.Nat.{ℕ, _+_}
 use mathlib.Core.Path.{_≡_}
 use mathlib.Core.List.{List, [], _∷_}
@@ -19,7 +19,7 @@ use Rattle.libfind.specs.declared.begin.Checked.the-variants as Checked
 use Rattle.libfind.specs.declared.begin.Beginning.{Beginning}
 use Rattle.libfind.specs.declared.begin.Beginning.the-variants as Beginning
 
--- the first of 1 to 4, by the lengths of the image and of the library
+-- the first of refusals 1 to 4 that applies, by the lengths of the image and of the library
 unfoldable pub settingsRefusal : ℕ → ℕ → Settings → Option Refusal
 settingsRefusal image library s =
     leading
@@ -29,19 +29,21 @@ settingsRefusal image library s =
     ∷ when (ltb image (s .stretch .start + s .stretch .len)) StretchPastEnd
     ∷ [])
 
+-- the code's answer for such a refusal
 abbrev pub checked : Option Refusal → Checked
 checked none = Checked.Accepted
 checked (some r) = Checked.Refused r
 
--- the first of 1 to 8, or the place of the first module
+-- the code's answer: a refusal, or the place of the first module
 abbrev pub beginsAt : ℕ → Option Refusal → Beginning
 beginsAt first none = Beginning.At first
 beginsAt first (some r) = Beginning.Refused r
 
+-- the first of refusals 1 to 8 that applies, or the place of the first module
 unfoldable pub beginning : List ℕ → List ℕ → Settings → Beginning
 beginning image library s = beginsAt (firstAt library) (orElse (settingsRefusal (length image) (length library) s) (fileRefusal (file library)))
 
--- none of 1 to 8 applies, and the modules start at a place
+-- none of refusals 1 to 8 applies, and the modules start at the place `first`
 pub record Begun (image library : List ℕ) (s : Settings) (first : ℕ) : Type 0 where
   pub accepted : Accepted image library s
   pub is-read : fileRefusal (file library) ≡ none

@@ -1,4 +1,4 @@
--- What the beginning of a run says of it. Assumes nothing.
+-- What the beginning of a run says of the whole run. Assumes nothing.
 use Prim.Native.Nat.{ℕ, _+_, _-_, _<_, _≤_}
 use mathlib.Core.Path.{_≡_, refl, sym, ap, _∙_}
 use mathlib.Core.Bool.{Bool, true, false}

@@ -1,4 +1,4 @@
--- THE STEPS MAKE UP THE RUN: what begins it, what is collected, and what is found then. Assumes nothing.
+-- THE STEPS MAKE UP THE RUN: the beginning, the collection, and then search and list. Assumes nothing.
 use Prim.Native.Nat.{ℕ, _+_, _≤_, _<_}
 use mathlib.Core.Path.{_≡_, refl, sym, ap, _∙_}
 use mathlib.Core.Bool.{Bool, true, false, false≢true}

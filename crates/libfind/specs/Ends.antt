@@ -1,4 +1,4 @@
--- What a run comes to once the library is read: by the collection, and then by what is found.
+-- What a run comes to once the library is read: by the collection, and then by search and list.
 use Prim.Native.Nat.{ℕ, _≤_}
 use mathlib.Core.Path.{_≡_}
 use mathlib.Core.List.{List}
@@ -16,10 +16,11 @@ use Rattle.run.specs.declared.Answer.the-variants.{Done, Refused}
 use Rattle.run.specs.Run.{Lent, Outcome, askedOf, run}
 use Rattle.libfind.specs.Begin.{Begun}
 
--- the lists that are lent to the collection, and what finding is lent once they are filled
+-- the five lists that are lent to the collection
 abbrev pub collectable : Lent → Collectable
 collectable l = record { segments = l .segments; references = l .references; symbols = l .symbols; bytes = l .bytes; masks = l .masks }
 
+-- the lists that are lent to search and list, once those of the collection are filled
 abbrev pub findable : Collectable → Lent → FindLists
 findable filled l = record {
   searched = record {
@@ -30,10 +31,11 @@ findable filled l = record {
   lines = l .lines;
 }
 
+-- the lists that are lent to search and list, all as they are
 abbrev pub givenLists : Lent → FindLists
 givenLists l = findable (collectable l) l
 
--- all lists, by those of finding; the answer, by the counts of the collection and what was found
+-- all lent lists of the run, from those of search and list
 abbrev pub allOf : FindLists → Lent
 allOf l = record {
   segments = l .searched .stored .segments;
@@ -46,6 +48,7 @@ allOf l = record {
   lines = l .lines;
 }
 
+-- the answer of the run, from the counts of the collection and the answer of search and list
 abbrev pub answerBy : Stored → FindAnswer → Answer
 answerBy c (FindAnswer.Done f) =
     Done (record {
@@ -59,15 +62,16 @@ answerBy c (FindAnswer.Done f) =
     })
 answerBy c (FindAnswer.Refused r) = Refused r
 
+-- the outcome of the run, from the counts of the collection and the outcome of search and list
 abbrev pub concluded : Stored → Finding → Outcome
 concluded c o = record { answer = answerBy c (o .answer); left = allOf (o .left) }
 
--- the run, once the segments are collected: the search, and then the list
+-- the run once the segments are collected: the search, and then the list
 abbrev pub FindsCollected : List ℕ → List ℕ → Settings → Stored → Lent → Answer → Lent → Type 0
 FindsCollected image library s c before r after =
     length image ≤ 65536
     → record { answer = r; left = after } ≡ concluded c (findOutcome (view image (s .stretch)) (askedOf s) (s .skip) library (c .segments) (givenLists before))
 
--- the run, from the place of the first module on
+-- the run from the place of the first module on
 abbrev pub FindsFrom : List ℕ → List ℕ → Settings → ℕ → Lent → Answer → Lent → Type 0
 FindsFrom image library s first before r after = Begun image library s first → record { answer = r; left = after } ≡ run image library s before

@@ -1,4 +1,4 @@
--- Once the segments are collected, the search and the list come one after the other. Assumes nothing.
+-- Once the segments are collected, the search and then the list come to what both together come to. Assumes nothing.
 use Prim.Native.Nat.{ℕ, _≤_}
 use mathlib.Core.Path.{_≡_, sym, ap, subst, _∙_}
 use mathlib.Core.List.{List}

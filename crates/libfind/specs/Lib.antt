@@ -1,4 +1,4 @@
--- The entry point: how its steps make up the run, and what its contract says.
+-- The entry point: how its steps make up the run.
 pub mod Begin
 pub mod BeginLaws
 pub mod Ends

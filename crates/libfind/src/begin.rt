@@ -1,4 +1,4 @@
-// What is looked at before anything is written: the settings, the lengths, and whether the library can be read.
+// The beginning of a run, before anything is written: the settings, the lengths, and whether the library can be read.
 ghost use mathlib.Core.Path.{_≡_};
 ghost use Prim.Native.Nat.{_+_};
 ghost use lib.Dec.{ltb};
@@ -11,19 +11,19 @@ use library::Reading;
 use library::file::read;
 use run::Settings;
 
-// Whether the settings and lengths are accepted: the first of 1 to 4, if there is one.
+// Whether the settings and lengths are accepted, or the first of refusals 1 to 4 that applies.
 pub enum Checked {
     Accepted,
     Refused(Refusal),
 }
 
-// Where the library's modules start, or the first of 1 to 8.
+// The place where the library's modules start, or the first of refusals 1 to 8 that applies.
 pub enum Beginning {
     At(usize),
     Refused(Refusal),
 }
 
-// Whether the stretch passes the end of an image, without a sum that could be too large.
+// Whether the stretch passes the end of an image of this length. No sum is taken that could be too large.
 fn passes_end(s: Stretch, len: usize) -> bool
     ensures { λ r. ⌜ r ≡ ltb len (s .start + s .len) ⌝ }
 {
@@ -33,7 +33,7 @@ fn passes_end(s: Stretch, len: usize) -> bool
     len - s.start < s.len
 }
 
-// The settings, and the lengths of the image and of the library.
+// Checks the settings, and the lengths of the image and of the library.
 fn check(image: usize, library: usize, settings: Settings) -> Checked
     ensures { λ r. ⌜ r ≡ checked (settingsRefusal image library settings) ⌝ }
 {
@@ -52,7 +52,7 @@ fn check(image: usize, library: usize, settings: Settings) -> Checked
     Checked::Accepted
 }
 
-// The settings and lengths, and then the reading of the library.
+// Checks the settings and lengths, and then reads the library.
 pub fn begin(image: &[u8], library: &[u8], settings: Settings) -> Beginning
     ensures { λ r. ⌜ r ≡ beginning (now (image .entry)) (now (library .entry)) settings ⌝ }
 {

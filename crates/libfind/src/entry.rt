@@ -1,4 +1,4 @@
-// The entry point, and the flow of a run: the library is read, its segments are collected, the image is searched for them, and the names
+// The flow of a run: the library is read, its segments are collected, the image is searched for them, and the names
 // that were found are listed.
 ghost use mathlib.Core.Path.{_≡_};
 ghost use Rattle.image.specs.fixup.Target.{rulesOf};
@@ -20,8 +20,9 @@ use search::Searched;
 use search::entry::search;
 use search_rules::Asked;
 
-// Lists where the names of a library stand in an image. The answer and all that is left in lent memory are those of the run that is
-// defined: rows and counts, or the number of the first refusal that applies.
+// Lists at which addresses of an image the names of a library stand. Lent are the five lists of the collection, the two
+// of the search (`placed`, `noted`), and the lines. The answer, and what is left in the lent lists, are those of `run`
+// (run/specs/Run.antt): counts and rows, or the first refusal that applies.
 pub fn find_names(
     image: &[u8],
     library: &[u8],
@@ -58,7 +59,8 @@ pub fn find_names(
     }
 }
 
-// The settings are accepted, and the library's modules start at a place.
+// The run once the settings are accepted and the library's modules are known to start at `first`: the segments are
+// collected. If the collection is refused it clears its own five lists, and the other three are cleared here.
 fn find_from(
     image: &[u8],
     library: &[u8],
@@ -111,7 +113,8 @@ fn find_from(
     }
 }
 
-// The segments are collected: the image is searched for them, and the names that were found are listed.
+// The run once the segments are collected: the image is searched for them, and the names that were found are listed. If
+// the search is refused it clears its own seven lists, and the lines are cleared here.
 fn find_collected(
     image: &[u8],
     library: &[u8],
@@ -175,7 +178,7 @@ fn find_collected(
     }
 }
 
-// The answer of the run: the counts of the collection, of the search and of the list, or the refusal of the last two.
+// The answer of the run: the counts of the collection, of the search and of the list, or the refusal of the list.
 fn conclude(collected: CollectCounts, listed: FindAnswer) -> Answer
     ensures { λ r. ⌜ r ≡ answerBy collected listed ⌝ }
 {
@@ -193,7 +196,7 @@ fn conclude(collected: CollectCounts, listed: FindAnswer) -> Answer
     }
 }
 
-// What is asked of the search.
+// What the settings ask of the search.
 fn asked_of(settings: Settings) -> Asked
     ensures { λ r. ⌜ r ≡ askedOf settings ⌝ }
 {

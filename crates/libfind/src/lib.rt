@@ -1,3 +1,3 @@
-// The entry point of the whole run: an image and a library in, the list and its counts out, or a numbered refusal.
+// The entry point of the whole run: an image and a library in, the list and its counts out, or a refusal.
 pub mod begin;
 pub mod entry;

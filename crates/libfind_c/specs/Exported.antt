@@ -1,4 +1,4 @@
--- What the exported functions hand over: numbers in the place of settings, answers and counts.
+-- What the exported functions give their callers: plain numbers instead of settings, answers and counts.
 use Prim.Native.Nat.{ℕ}
 use mathlib.Core.Bool.{Bool}
 use mathlib.Core.List.{List, [], _∷_}
@@ -19,18 +19,21 @@ use Rattle.run.specs.declared.Counts.{Counts}
 use Rattle.run.specs.declared.Answer.{Answer}
 use Rattle.run.specs.Run.{Lent, Outcome, run, numberOf, countsOf}
 
--- the settings: rule set, check, minimum, whether there is a skip amount, and which, what is withheld
+-- the skip amount, if there is one
 abbrev pub skipOf : Bool → ℕ → Skip
 skipOf skips amount = if skips then Above amount else Never
 
+-- the settings: rule set, whether references are checked, minimum, whether there is a skip amount and
+-- which, start and length of the stretch
 abbrev pub settingsOf : ℕ → Bool → ℕ → Bool → ℕ → ℕ → ℕ → Settings
 settingsOf rules check minimum skips amount start len =
     record { rules = rules; check = check; minimum = minimum; skip = skipOf skips amount; stretch = record { start = start; len = len } }
 
--- the seven counts, and where they are left: in the first seven places, if there are as many
+-- the seven counts, in their order
 abbrev pub countNumbers : Counts → List ℕ
 countNumbers c = c .segments ∷ c .references ∷ c .symbols ∷ c .pattern ∷ c .placed ∷ c .noted ∷ c .lines ∷ []
 
+-- the lent counts afterwards: an answer's seven counts in the first seven places, if there are as many
 unfoldable pub countsIn : List ℕ → Answer → List ℕ
 countsIn counts a = putRow 7 counts 0 (countNumbers (countsOf a))
 
@@ -40,31 +43,37 @@ pub record Handed : Type 0 where
   pub counts : List ℕ
   pub left : Lent
 
+-- what the caller gets of a run's outcome
 unfoldable pub handed : List ℕ → Outcome → Handed
 handed counts o = record { number = numberOf (o .answer); counts = countsIn counts (o .answer); left = o .left }
 
+-- what the caller gets of the run on an image and a library
 unfoldable pub handedRun : List ℕ → List ℕ → Settings → List ℕ → Lent → Handed
 handedRun image library s counts lent = handed counts (run image library s lent)
 
--- how long a text is, 0 without room for it; how long a description is, 0 where there is none, and the largest number without room for it
+-- the length of a printed text; 0 if it did not fit
 abbrev pub sizeOf : Printed → ℕ
 sizeOf (Written n) = n
 sizeOf NoRoom = 0
 
+-- that length, and the buffer
 abbrev pub writtenIn : Printed × List ℕ → ℕ × List ℕ
 writtenIn p = (sizeOf (p .0), p .1)
 
+-- the length of a description: 0 if the name has none, the largest number of 64 bits if it did not fit
 abbrev pub lengthOf : Described → ℕ
 lengthOf (Said n) = n
 lengthOf NoRoomToSay = 0xFFFFFFFFFFFFFFFF
 lengthOf Nothing = 0
 
+-- that length, and the buffer
 abbrev pub saidIn : Described × List ℕ → ℕ × List ℕ
 saidIn p = (lengthOf (p .0), p .1)
 
--- how many numbers or bytes a row of each lent list has, in the order in which they are lent; 0 for a list that is not lent
+-- how many numbers or bytes a row of each lent list has, in the order in which the lists are lent
 abbrev pub widths : List ℕ
 widths = segmentWidth ∷ referenceWidth ∷ symbolWidth ∷ 1 ∷ 1 ∷ placedWidth ∷ notedWidth ∷ lineWidth ∷ []
 
+-- the width of a list's rows; 0 for a list that is not lent
 abbrev pub widthOf : ℕ → ℕ
 widthOf list = getD widths list 0

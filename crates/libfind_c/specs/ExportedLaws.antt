@@ -1,4 +1,4 @@
--- What is handed over, of a run's outcome. Assumes nothing.
+-- What a caller gets of a run's outcome. Assumes nothing.
 use Prim.Native.Nat.{ℕ}
 use mathlib.Core.Path.{_≡_, ap, _∙_}
 use mathlib.Core.List.{List}

@@ -1,4 +1,4 @@
--- What the exported functions hand over.
+-- What the exported functions give their callers: plain numbers.
 pub mod Exported
 pub mod ExportedLaws
 pub mod OneOutcome

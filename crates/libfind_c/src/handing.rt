@@ -1,4 +1,4 @@
-// Numbers in the place of settings, answers and counts.
+// Plain numbers, as C callers have them, instead of settings, answers and counts.
 ghost use mathlib.Core.Path.{_≡_};
 ghost use Rattle.run.specs.Run.{numberOf, countsOf};
 ghost use Rattle.libfind_c.specs.Exported.{skipOf, settingsOf, countsIn, sizeOf, lengthOf};
@@ -12,6 +12,7 @@ use run::Answer;
 use run::Counts;
 use run::Settings;
 
+// The skip amount, if there is one.
 fn skip_of(skips: bool, amount: usize) -> Skip
     ensures { λ r. ⌜ r ≡ skipOf skips amount ⌝ }
 {
@@ -21,6 +22,8 @@ fn skip_of(skips: bool, amount: usize) -> Skip
     Skip::Never
 }
 
+// The settings of a run from plain numbers: the rule set, whether references are checked, the minimum, whether there is
+// a skip amount and which, and start and length of the stretch.
 pub fn settings_of(
     rules: u64,
     check: bool,
@@ -41,6 +44,7 @@ pub fn settings_of(
     }
 }
 
+// The number of an answer: 0, or that of the refusal.
 fn number_of(answer: Answer) -> u8
     ensures { λ r. ⌜ r ≡ numberOf answer ⌝ }
 {
@@ -50,6 +54,7 @@ fn number_of(answer: Answer) -> u8
     }
 }
 
+// The counts of an answer; all are zero for a refusal.
 fn counts_of(answer: Answer) -> Counts
     ensures { λ r. ⌜ r ≡ countsOf answer ⌝ }
 {
@@ -67,6 +72,7 @@ fn counts_of(answer: Answer) -> Counts
     }
 }
 
+// Puts the seven counts of an answer at the front of `counts`; a list that is too short stays as it was.
 fn put_counts(answer: Answer, counts: &mut [u64])
     ensures { λ _. ⌜ now (counts .exit) ≡ countsIn (now (counts .entry)) answer ⌝ }
 {
@@ -83,7 +89,7 @@ fn put_counts(answer: Answer, counts: &mut [u64])
     put(counts, 0, &cells);
 }
 
-// The number of an answer; its counts are left where there is room for them.
+// Gives the number of an answer, and puts its counts into `counts` if they fit.
 pub fn hand_over(answer: Answer, counts: &mut [u64]) -> u8
     ensures { λ r. ⌜ (r ≡ numberOf answer) × (now (counts .exit) ≡ countsIn (now (counts .entry)) answer) ⌝ }
 {
@@ -91,6 +97,7 @@ pub fn hand_over(answer: Answer, counts: &mut [u64]) -> u8
     number_of(answer)
 }
 
+// The length of a text that was printed; 0 if it did not fit.
 pub fn size_of(printed: Printed) -> usize
     ensures { λ r. ⌜ r ≡ sizeOf printed ⌝ }
 {
@@ -100,6 +107,7 @@ pub fn size_of(printed: Printed) -> usize
     }
 }
 
+// The length of a description that was written: 0 if the name has none, the largest number of 64 bits if it did not fit.
 pub fn length_of(described: Described) -> usize
     ensures { λ r. ⌜ r ≡ lengthOf described ⌝ }
 {

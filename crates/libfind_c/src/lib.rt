@@ -1,4 +1,4 @@
-// The exported functions of a static library. callers/libfind.h says what each parameter is, for who calls them.
+// The exported functions of a static library. callers/libfind.h says for C callers what each parameter is.
 ghost use mathlib.Core.Path.{_≡_};
 ghost use Rattle.describe.specs.Described.{described};
 ghost use Rattle.listing_rules.specs.LineLayout.{lineAt};
@@ -22,7 +22,8 @@ use segments::rows::REFERENCE_WIDTH;
 use segments::rows::SEGMENT_WIDTH;
 use segments::rows::SYMBOL_WIDTH;
 
-// The whole run.
+// The whole run, with its settings as plain numbers. Gives 0 or the number of a refusal, and leaves the seven counts in
+// `counts`; the eight lists behind it are lent to the stages.
 #[no_mangle]
 pub extern "C" fn sillmarble_find(
     image: &[u8],
@@ -65,7 +66,7 @@ pub extern "C" fn sillmarble_find(
     hand_over(answer, counts)
 }
 
-// The printed form of n lines: how long it is, 0 without room for it.
+// Prints the heading and the first n lines into `out`, and gives the length of the text; 0 if it does not fit.
 #[no_mangle]
 pub extern "C" fn sillmarble_print(library: &[u8], lines: &[u64], n: usize, out: &mut [u8]) -> usize
     ensures { λ r. ⌜ (r, now (out .exit)) ≡ writtenIn (fittedText (printed (now (library .entry)) (storedLines (now (lines .entry)) n)) (now (out .entry))) ⌝ }
@@ -73,7 +74,7 @@ pub extern "C" fn sillmarble_print(library: &[u8], lines: &[u64], n: usize, out:
     size_of(printing::print(library, lines, n, out))
 }
 
-// Its heading alone, and line i alone.
+// Prints the heading alone into `out`, and gives its length; 0 if it does not fit.
 #[no_mangle]
 pub extern "C" fn sillmarble_print_heading(out: &mut [u8]) -> usize
     ensures { λ r. ⌜ (r, now (out .exit)) ≡ writtenIn (fittedText heading (now (out .entry))) ⌝ }
@@ -81,6 +82,7 @@ pub extern "C" fn sillmarble_print_heading(out: &mut [u8]) -> usize
     size_of(printing::print_heading(out))
 }
 
+// Prints line i alone into `out`, and gives its length; 0 if it does not fit.
 #[no_mangle]
 pub extern "C" fn sillmarble_print_line(
     library: &[u8],
@@ -93,7 +95,8 @@ pub extern "C" fn sillmarble_print_line(
     size_of(printing::print_line(library, line_at(lines, i), out))
 }
 
-// The description of a name: how long it is, 0 where there is none, the largest number without room for it.
+// Writes the description of a name into `out`, and gives its length: 0 if the name has none, the largest number of 64
+// bits if it does not fit.
 #[no_mangle]
 pub extern "C" fn sillmarble_describe(name: &[u8], out: &mut [u8]) -> usize
     ensures { λ r. ⌜ (r, now (out .exit)) ≡ saidIn (described (now (name .entry)) (now (out .entry))) ⌝ }
@@ -101,7 +104,8 @@ pub extern "C" fn sillmarble_describe(name: &[u8], out: &mut [u8]) -> usize
     length_of(describe::entry::describe(name, out))
 }
 
-// How many numbers or bytes a row of a lent list has; the lists are numbered from 0 on, in the order in which they are lent.
+// How many numbers or bytes a row of a lent list has; 0 for a list that there is not. The lists are numbered from 0 on,
+// in the order in which `sillmarble_find` takes them.
 #[no_mangle]
 pub extern "C" fn sillmarble_row_width(list: usize) -> usize
     ensures { λ r. ⌜ r ≡ widthOf list ⌝ }

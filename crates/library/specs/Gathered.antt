@@ -1,4 +1,4 @@
--- What a repetition finds from a place on, whatever ends it: for code that goes over a module again.
+-- The items that a repetition reads from a place on, whatever ends it: for code that goes over a module again.
 use Prim.Native.Nat.{ℕ, zero, suc}
 use mathlib.Core.List.{List, [], _++_}
 use lib.ListN.{length}

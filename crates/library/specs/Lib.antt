@@ -1,4 +1,4 @@
--- Repetitions, modules and the file, as the code goes over them.
+-- Where repetitions, modules and the file end, as the code goes over them.
 pub mod Gathered
 pub mod RepeatLaws
 pub mod EndLaws

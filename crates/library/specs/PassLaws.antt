@@ -1,4 +1,4 @@
--- Laws for passing over records: how one ends, by its frame, and the turns of their repetitions. Assumes nothing.
+-- Laws for passing over records: where a record ends, by its frame, and the turns of repetitions of records. Assumes nothing.
 use Prim.Native.Nat.{ℕ, _+_, _≤_, _<_}
 use mathlib.Core.Path.{_≡_, refl, ap, subst, _∙_}
 use mathlib.Core.Bool.{Bool, true, false}

@@ -1,4 +1,5 @@
--- Contents with their fixups, and the records skipped among them: how one ends, and the turn of all. Assumes nothing.
+-- Contents with their fixups, and records that are skipped among contents: where each ends, and the turns of a
+-- repetition of them. Assumes nothing.
 use Prim.Native.Nat.{ℕ, _+_, _≤_, _<_}
 use mathlib.Core.Path.{_≡_, refl, ap, subst, _∙_}
 use mathlib.Core.Bool.{true, false}

@@ -1,4 +1,4 @@
--- Going over a whole module again.
+-- Going over a whole module again: its next definition, its next content, a content's next fixup.
 pub mod Walk
 pub mod WalkLaws
 pub mod Items

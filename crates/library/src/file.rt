@@ -1,4 +1,4 @@
-// The whole file: bare modules, or a 2Ch library.
+// The whole file: bare modules, or a library that begins with a 2Ch record.
 ghost use mathlib.Core.Path.{_≡_};
 ghost use Rattle.omf51.specs.Reader.{many};
 ghost use Rattle.omf51.specs.Module.{moduleAt};
@@ -16,7 +16,7 @@ use omf51::read_record::record_at;
 use omf51::record::Framed;
 use omf51::types::Allowed;
 
-// The modules from a place on, as many as can be read.
+// Counts the modules from a place on, as many as can be read.
 fn count(library: &[u8], from: usize) -> Counted
     ensures { λ r. ⌜ r ≡ countOf (many (now (library .entry)) (moduleAt (now (library .entry))) from) ⌝ }
 {
@@ -38,7 +38,7 @@ fn count(library: &[u8], from: usize) -> Counted
     }
 }
 
-// At least one of them.
+// Counts the modules from a place on, of which there has to be at least one: without one the file is refused (5).
 fn modules_at(library: &[u8], from: usize) -> Counted
     ensures { λ r. ⌜ r ≡ countOf (modulesAt (now (library .entry)) from) ⌝ }
 {
@@ -53,7 +53,7 @@ fn modules_at(library: &[u8], from: usize) -> Counted
     }
 }
 
-// A record of one type, its body not looked at.
+// Where the record of one type at a place ends; its body is not looked at.
 fn type_end(library: &[u8], kind: u8, at: usize) -> End
     ensures { λ r. ⌜ r ≡ typeEnd (now (library .entry)) kind at ⌝ }
 {
@@ -64,7 +64,7 @@ fn type_end(library: &[u8], kind: u8, at: usize) -> End
     }
 }
 
-// The closing records of a library: 28h, 26h and 2Ah, in that order.
+// Where the closing records of a library end: 28h, 26h and 2Ah, in that order.
 fn closing_end(library: &[u8], at: usize) -> End
     ensures { λ r. ⌜ r ≡ closingEnd (now (library .entry)) at ⌝ }
 {
@@ -79,7 +79,7 @@ fn closing_end(library: &[u8], at: usize) -> End
     }
 }
 
-// The modules of a library, from its first record's end on, and then its closing records.
+// The modules of a library, from the place `first` after its 2Ch record on; its closing records have to follow them.
 fn library_from(library: &[u8], first: usize) -> Reading
     ensures { λ r. ⌜ r ≡ libraryReading (now (library .entry)) first ⌝ }
 {
@@ -93,7 +93,7 @@ fn library_from(library: &[u8], first: usize) -> Reading
     }
 }
 
-// Where the modules stand and how many there are, or the first of 5 to 8 that is met.
+// Reads the file: where its modules stand and how many there are, or the first of refusals 5 to 8 that is met.
 pub fn read(library: &[u8]) -> Reading
     ensures { λ r. ⌜ r ≡ reading (now (library .entry)) ⌝ }
 {

@@ -1,4 +1,4 @@
-// One module at a place.
+// The module at a place: where its parts stand, if it is whole.
 ghost use mathlib.Core.Path.{_≡_};
 ghost use Rattle.library.specs.Passes.{placesRead, placesAt, restPlaces, lastPlaces};
 use crate::ModuleAt;
@@ -13,7 +13,7 @@ use omf51::entry::Entries;
 use omf51::entry::Named;
 use omf51::read_entry::named_at;
 
-// The end of a module: it has the header's name again.
+// The end record of a module at a place: it has the header's name again, or the file is refused (8).
 fn last_places(
     library: &[u8],
     name: Part,
@@ -39,7 +39,7 @@ fn last_places(
     }
 }
 
-// What follows the header: definitions, contents, the end.
+// The rest of a module behind its header: definitions, contents, the end record.
 fn rest_places(library: &[u8], name: Part, definitions: usize) -> ModuleAt
     ensures { λ r. ⌜ placesRead r ≡ restPlaces (now (library .entry)) name definitions ⌝ }
 {
@@ -54,7 +54,7 @@ fn rest_places(library: &[u8], name: Part, definitions: usize) -> ModuleAt
     }
 }
 
-// A whole module: where its parts stand, or why there is none.
+// Where the parts of the module at a place stand, or why there is none.
 pub fn module_at(library: &[u8], at: usize) -> ModuleAt
     ensures { λ r. ⌜ placesRead r ≡ placesAt (now (library .entry)) at ⌝ }
 {

@@ -1,4 +1,4 @@
-// Passes over records without keeping what they say: where each repetition ends.
+// Going over records without keeping what they say: where each record of entries, each content and each repetition ends.
 ghost use mathlib.Core.Path.{_≡_};
 ghost use Rattle.omf51.specs.Module.{sectionAt, sectionsAt};
 ghost use Rattle.omf51.specs.Ends.{endOf};
@@ -15,6 +15,7 @@ use omf51::read_record::record_at;
 use omf51::record::Framed;
 use omf51::types::Allowed;
 
+// What may stand among the records that hold such entries.
 fn allowed_for(what: Entries) -> Allowed
     ensures { λ r. ⌜ r ≡ allowedFor what ⌝ }
 {
@@ -24,7 +25,7 @@ fn allowed_for(what: Entries) -> Allowed
     }
 }
 
-// Whether a record of a type holds such entries; one that holds none is skipped.
+// Whether a record of a type holds such entries; a record that holds none is skipped.
 pub fn holds(what: Entries, kind: u8) -> bool
     ensures { λ r. ⌜ r ≡ holdsType what kind ⌝ }
 {
@@ -34,7 +35,8 @@ pub fn holds(what: Entries, kind: u8) -> bool
     }
 }
 
-// A record ends at its own end, if its first entry is whole.
+// The end of a record by how reading its first entry ended: a record with one whole entry ends at its own end `next`,
+// whatever its other entries are.
 fn own_end(next: usize, first: End) -> End
     ensures { λ r. ⌜ r ≡ ownEnd next first ⌝ }
 {
@@ -45,7 +47,8 @@ fn own_end(next: usize, first: End) -> End
     }
 }
 
-// One record of entries, or one that is skipped among them.
+// Where the record at a place ends: a record of such entries, the first of which is whole,
+// or a record that is skipped among them.
 pub fn record_end(library: &[u8], what: Entries, at: usize) -> End
     ensures { λ r. ⌜ r ≡ recordEnd what (now (library .entry)) at ⌝ }
 {
@@ -62,7 +65,7 @@ pub fn record_end(library: &[u8], what: Entries, at: usize) -> End
     }
 }
 
-// All such records, one after another.
+// Where all records of such entries from a place on end, one after another.
 pub fn skip(library: &[u8], what: Entries, from: usize) -> End
     ensures { λ r. ⌜ r ≡ allEnd what (now (library .entry)) from ⌝ }
 {
@@ -82,7 +85,7 @@ pub fn skip(library: &[u8], what: Entries, from: usize) -> End
     }
 }
 
-// A content, whose body has an id and an offset at least, and the fixups that follow it at once.
+// Where the content at a place and the fixups that follow it at once end; the content's body has an id and an offset at least.
 fn content_end(library: &[u8], at: usize) -> End
     ensures { λ r. ⌜ r ≡ endOf (sectionAt (now (library .entry)) at) ⌝ }
 {
@@ -100,7 +103,7 @@ fn content_end(library: &[u8], at: usize) -> End
     }
 }
 
-// One of those, or a record that is skipped among them.
+// Where the content at a place with its fixups ends, or the record that is skipped among contents.
 pub fn section_end(library: &[u8], at: usize) -> End
     ensures { λ r. ⌜ r ≡ endOf (sectionsAt (now (library .entry)) at) ⌝ }
 {
@@ -114,7 +117,7 @@ pub fn section_end(library: &[u8], at: usize) -> End
     }
 }
 
-// All contents of a module, one after another.
+// Where all contents of a module, with their fixups, end, one after another.
 pub fn skip_sections(library: &[u8], from: usize) -> End
     ensures { λ r. ⌜ r ≡ sectionsEnd (now (library .entry)) from ⌝ }
 {

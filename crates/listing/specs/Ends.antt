@@ -1,4 +1,4 @@
--- What listing comes to where the search was done, and left these lists.
+-- What the list comes to if the search was done, and left these lists.
 use Prim.Native.Nat.{ℕ, _≤_}
 use mathlib.Core.Path.{_≡_}
 use mathlib.Core.List.{List}

@@ -1,4 +1,4 @@
--- From position to position. Assumes nothing.
+-- The lines of the image's positions, from position to position. Assumes nothing.
 use Prim.Native.Nat.{ℕ, _+_, _-_, _≤_, _<_}
 use mathlib.Core.Path.{_≡_, refl, sym, ap, subst, _∙_}
 use mathlib.Core.Bool.{Bool, true, false}

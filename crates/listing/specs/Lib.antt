@@ -1,4 +1,4 @@
--- Finding names in an image: all lines in lent memory, the answer, and what is left.
+-- The list of the names that a search found: all lines in lent memory, the answer, and what is left.
 pub mod Inside
 pub mod InsideLaws
 pub mod Listed

@@ -103,4 +103,5 @@ module _ (cells : List ℕ) (rules : Rules) (skip : Skip) (library segments : Li
       }
     where
       front : Front (listOf cells skip r) m₂ f₂
-      front = subst (λ k. Front (joined (linesAt library cells (r .a) (gatheredIn cells skip r) (r .ps) (r .ns) skip) (from 0 (length cells)) ++ leftovers k skip (r .ns)) m₂ f₂) (sym is) (past (joined (linesAt library cells (r .a) (gatheredIn cells skip r) (r .ps) (r .ns) skip) (from 0 (length cells))) (inside [] (no-lines m)))
+      front = subst (λ k. Front (joined (linesAt library cells (r .a) (gatheredIn cells skip r) (r .ps) (r .ns) skip) (from 0 (length cells)) ++ leftovers k skip (r .ns)) m₂ f₂) (sym is)
+          (past (joined (linesAt library cells (r .a) (gatheredIn cells skip r) (r .ps) (r .ns) skip) (from 0 (length cells))) (inside [] (no-lines m)))

@@ -1,4 +1,4 @@
--- Finding has one outcome, by its contract alone: the answer, and each lent list. Assumes nothing.
+-- Search and list have one outcome, by the contract alone: the answer, and each lent list. Assumes nothing.
 use Prim.Native.Nat.{ℕ}
 use mathlib.Core.Path.{_≡_}
 use mathlib.Core.List.{List}

@@ -1,4 +1,4 @@
--- The ends of finding: by what the search came to, and by whether there was room for the lines. Assumes nothing.
+-- The ends of search and list: by what the search came to, and by whether there was room for the lines. Assumes nothing.
 use Prim.Native.Nat.{ℕ, _*_, _<_, _≤_}
 use mathlib.Core.Path.{_≡_, refl, sym, ap, subst, _∙_}
 use mathlib.Core.Bool.{Bool, true, false, _||_, false≢true}

@@ -1,4 +1,4 @@
--- The lines of a position.
+-- The lines of a position: its names of the best grade, in byte order.
 pub mod Bests
 pub mod BestLaws
 pub mod Walking

@@ -1,4 +1,4 @@
-// All lines of rows that a search left.
+// All lines for the rows that a search left.
 ghost use mathlib.Core.Path.{_≡_};
 ghost use mathlib.Core.List.{_++_};
 ghost use Prim.Native.Nat.{_-_};
@@ -19,7 +19,7 @@ use tables::by_name::head_rows;
 use tables::fill::Fill;
 use tables::zeros::bucket_heads;
 
-// Numbers behind the first `count` are set to zero.
+// Sets the numbers behind the first `count` to zero.
 fn clear_behind(m: &mut [u64], count: usize)
     ensures { λ _. ⌜ now (m .exit) ≡ take count (now (m .entry)) ++ zeros (length (now (m .entry)) - count) ⌝ }
 {
@@ -30,7 +30,8 @@ fn clear_behind(m: &mut [u64], count: usize)
     clear(&mut m[count..end]);
 }
 
-// While lines were gone over, memory behind them was used: it is cleared, unless there are too many lines.
+// Clears the memory behind the lines, where lines may stand that were not listed in the end. If there are too many
+// lines nothing is cleared here: `list` clears all lists then.
 fn leave(m: &mut [u64], f: Fill)
     ensures { λ _. ⌜ Leaves (now (m .entry)) f (now (m .exit)) ⌝ }
 {
@@ -43,7 +44,9 @@ fn leave(m: &mut [u64], f: Fill)
     clear_behind(m, f.rows * LINE_WIDTH);
 }
 
-// The heads of the buckets are made from the rows: first the positions of the image, then the targets at or past its end.
+// Lists the names of `symbols` rows of placed symbols and `names` rows of noted names, first at the positions of the
+// image, then past its end. The heads of the buckets, by which rows are found, are made here from the rows. The image
+// with its stretch `s` and the first n segments with their references tell whether a symbol is borne out.
 pub fn list_rows(
     image: &[u8],
     s: Stretch,

@@ -13,8 +13,9 @@ use search::SearchCounts;
 use search::entry::clear_all;
 use search_rules::Asked;
 
-// Lists the names that a search placed and noted. What is said of the list is said of rows that a search left; where there are too few
-// rows for the lines, all that was lent is set to zero.
+// Lists the names that a search left in the `rows` rows of `placed` and `noted`, when it looked in the image, with its
+// stretch `s`, for the first n segments in the five lists of the collection. The contract speaks only of rows that a
+// search left. If the lines do not fit all eight lists are set to zero.
 pub fn list(
     image: &[u8],
     s: Stretch,

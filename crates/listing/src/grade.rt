@@ -1,4 +1,4 @@
-// Grades of placed symbols.
+// The grades of placed symbols.
 ghost use mathlib.Core.Path.{_≡_};
 ghost use mathlib.Core.Bool.{_||_};
 ghost use Rattle.lent.specs.Lists.{all};
@@ -25,7 +25,7 @@ use tables::by_name::bucket;
 use tables::by_name::find;
 use tables::by_name::head_at;
 
-// Whether some row has this key and name.
+// Whether a row with this key and name is found, from the head of their bucket on.
 fn is_found(library: &[u8], width: usize, m: &[u64], heads: &[u64], key: u64, name: Part) -> bool
     ensures { λ r. ⌜ r ≡ isFound (now (library .entry)) width (now (m .entry)) (now (heads .entry)) key name ⌝ }
 {
@@ -34,7 +34,8 @@ fn is_found(library: &[u8], width: usize, m: &[u64], heads: &[u64], key: u64, na
     find(library, m, width, head, key, name) != 0
 }
 
-// Whether a reference of a match at `base`, if it is a public one with a target, names a symbol placed there.
+// Whether a reference of a match at `base` bears out the match: the name that it notes is placed at its target. A
+// reference without a target is not asked, nor is a reference to a segment.
 fn bears_out(
     image: &[u8],
     s: Stretch,
@@ -57,7 +58,7 @@ fn bears_out(
     }
 }
 
-// Whether all of a part of the rows do.
+// Whether all references in a part of the rows bear out the match at `base`.
 fn bear_out(
     image: &[u8],
     s: Stretch,
@@ -87,7 +88,8 @@ fn bear_out(
     true
 }
 
-// Whether every public reference that a match of the segment of a number noted names a symbol placed at its target.
+// Whether a match of segment `number` at `base` is borne out: each name that it noted is placed at the target noted. A
+// number that is not below n has no segment, and so nothing to ask.
 fn is_borne(
     image: &[u8],
     s: Stretch,
@@ -120,14 +122,16 @@ fn is_borne(
     )
 }
 
-// A symbol that is neither valid nor noted where it stands is dropped.
+// Whether a placed symbol is graded at all: it is valid, or its name is noted at its position (`there`).
 fn is_kept(valid: bool, there: bool) -> bool
     ensures { λ r. ⌜ r ≡ (valid || there) ⌝ }
 {
     valid || there
 }
 
-// The grade of a placed symbol; 0 for one that is dropped.
+// The grade of the placed symbol `row`, 1 to 3; 0 for a symbol that is not graded. Rows of placed symbols are found by
+// the heads `positions`, rows of noted names by the heads `goals`; image, stretch, rules, segments and references give
+// the targets of the symbol's match.
 pub fn grade(
     image: &[u8],
     s: Stretch,

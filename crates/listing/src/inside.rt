@@ -1,4 +1,4 @@
-// The positions of the image, ascending.
+// The lines of the positions of the image, ascending.
 ghost use Rattle.image.specs.View.{view};
 ghost use Rattle.listing.specs.position.Finishing.{ListsAt};
 ghost use Rattle.listing.specs.Inside.{ListsInside};
@@ -9,7 +9,8 @@ use listing_rules::Skip;
 use tables::by_name::head_at;
 use tables::fill::Fill;
 
-// Most positions have no row, and are passed over at once.
+// Lists the names of one position `at`. Most positions have no row in their bucket, and are passed over at once. The
+// parameters are those of `list_inside`.
 fn list_any(
     image: &[u8],
     s: Stretch,
@@ -53,6 +54,9 @@ fn list_any(
     )
 }
 
+// Lists the names at all positions of the image, behind the lines in `m` that `before` counts. The names stand in the
+// rows of the search, `placed` and `noted`, with the heads of their buckets, `positions` and `goals`; the image with
+// its stretch `s` and the first n segments with their references give the grades.
 pub fn list_inside(
     image: &[u8],
     s: Stretch,

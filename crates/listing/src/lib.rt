@@ -1,4 +1,4 @@
-// Listing the names that a search placed and noted: at each position of the image, and then past its end.
+// The list of the names that a search placed and noted: those at positions of the image, and then those past its end.
 pub mod all_rows;
 pub mod entry;
 pub mod grade;
@@ -9,14 +9,14 @@ pub mod position;
 
 use lent::refusal::Refusal;
 
-// How many rows the search and the list wrote.
+// How many rows the search wrote, and how many lines the list.
 pub struct FindCounts {
     pub placed: usize,
     pub noted: usize,
     pub lines: usize,
 }
 
-// What the search and the list come to.
+// What search and list come to: how many rows and lines were written, or a refusal.
 pub enum FindAnswer {
     Done(FindCounts),
     Refused(Refusal),

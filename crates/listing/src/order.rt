@@ -1,4 +1,4 @@
-// The lines of a position in byte order of their names, in lent memory: a Shell sort.
+// The lines of a position are put in byte order of their names, in lent memory: a Shell sort.
 ghost use Prim.Native.Nat.{_+_, _≤_, _<_};
 ghost use lib.ListN.{length};
 ghost use Rattle.listing.specs.order.Order.{Orders};
@@ -8,7 +8,7 @@ use lent::names::name;
 use listing_rules::rows::line_at;
 use listing_rules::rows::put_line;
 
-// Line i of the region goes down by steps of `gap`, past the lines that it comes before; those go up.
+// Line i of the region from row `from` on goes down by steps of `gap`, past the lines that it comes before, and those go up.
 fn sink(library: &[u8], m: &mut [u64], from: usize, gap: usize, i: usize)
     requires { ⌜ (0 < gap) × (from + i < length (now m)) ⌝ }
     ensures { λ _. ⌜ Sinks (now (library .entry)) (now (m .entry)) from gap i (now (m .exit)) ⌝ }
@@ -29,7 +29,7 @@ fn sink(library: &[u8], m: &mut [u64], from: usize, gap: usize, i: usize)
     put_line(m, from + j, x);
 }
 
-// Every line that has one `gap` in front of it, from the first such on.
+// One pass of the sort: each of the n lines that has a line `gap` rows in front of it sinks, from the first such line on.
 fn pass(library: &[u8], m: &mut [u64], from: usize, n: usize, gap: usize)
     requires { ⌜ (0 < gap) × (from + n ≤ length (now m)) ⌝ }
     ensures { λ _. ⌜ Passes (now (library .entry)) (now (m .entry)) from n gap (now (m .exit)) ⌝ }
@@ -41,7 +41,8 @@ fn pass(library: &[u8], m: &mut [u64], from: usize, n: usize, gap: usize)
     }
 }
 
-// The gap after a gap: about 4/9 of it, odd so that the gaps have little in common, and at the end the gaps that Ciura found to be quick.
+// The gap after a gap: about 4/9 of it, and odd, so that gaps have little in common; in the end
+// the gaps that Ciura found to be quick.
 fn next_gap(gap: usize) -> usize
     requires { ⌜ 1 < gap ⌝ }
     ensures { λ r. ⌜ (0 < r) × (r < gap) ⌝ }
@@ -76,7 +77,8 @@ fn next_gap(gap: usize) -> usize
     1
 }
 
-// The n lines from row `from` on. With one line, or none, there is nothing to do.
+// Puts the n lines from row `from` on in order. With one line, or none, there is nothing to do; a region that is longer
+// than the memory is left alone.
 pub fn order(library: &[u8], m: &mut [u64], from: usize, n: usize)
     ensures { λ _. ⌜ Orders (now (library .entry)) (now (m .entry)) from n (now (m .exit)) ⌝ }
 {

@@ -1,4 +1,4 @@
-// Names noted at or past the image's end, listed: targets ascending, each target's names along the links of its bucket.
+// The lines of the names noted at or past the image's end: targets ascending, the names of a target as they were first noted.
 ghost use Rattle.listing.specs.past_end.Beyond.{ListsBeyond};
 
 mod bounds;
@@ -12,7 +12,8 @@ use crate::past_end::span::list_span;
 use listing_rules::Skip;
 use tables::fill::Fill;
 
-// The names noted at or past the end, listed behind the lines before: n rows of names, and the heads of their buckets.
+// Lists the names noted at targets from `end`, the image's length, on, behind the lines that `before` counts. `noted`
+// has n rows, and `goals` the heads of their buckets.
 pub fn list_beyond(
     noted: &[u64],
     n: usize,

@@ -1,10 +1,10 @@
-// The lines of a position: names of the best grade, in byte order.
+// The lines of a position: its names of the best grade, in byte order.
 pub mod lines;
 pub mod noted;
 pub mod placed;
 pub mod taking;
 
-// How many lines have the best grade so far, and that grade.
+// How many lines of the position have the best grade so far, and that grade.
 pub struct Best {
     pub count: usize,
     pub grade: u8,

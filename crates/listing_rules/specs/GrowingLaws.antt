@@ -1,4 +1,4 @@
--- Lines one after another in lent memory. Assumes nothing.
+-- Lines are put one after another into lent memory. Assumes nothing.
 use Prim.Native.Nat.{ℕ, _+_, _*_, _≤_, _<_}
 use mathlib.Core.Path.{_≡_, refl, sym, ap, subst, _∙_}
 use mathlib.Core.Bool.{true, false, false≢true}

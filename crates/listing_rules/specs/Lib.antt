@@ -1,4 +1,4 @@
--- Listing: grades and the list, its rows, the printed form; each file of laws stands behind its definitions.
+-- The rules of the list: grades and lines, their rows, the printed form; each file of laws stands behind its definitions.
 pub mod Listing
 pub mod ListingLaws
 pub mod LineLayout

@@ -1,4 +1,4 @@
--- Grades, and the list.
+-- Grades of names, and the list: names by address.
 use Prim.Native.Nat.{ℕ, max}
 use mathlib.Core.Bool.{Bool, false, not, _&&_, _||_}
 use mathlib.Core.List.{List, [], _∷_, _++_, map}
@@ -15,26 +15,30 @@ use Rattle.listing_rules.specs.declared.Skip.{Skip}
 use Rattle.listing_rules.specs.declared.Skip.the-variants.{Never, Above}
 use Rattle.listing_rules.specs.declared.Line.{Line}
 
--- a valid noted name counts 0
+-- the line of a noted name, with grade 0
 abbrev pub notedLine : Noting → Line
 notedLine n = record { address = n .target; grade = 0; name = n .name }
 
--- those of the best grade
+-- the best grade of some lines
 unfoldable pub bestGrade : List Line → ℕ
 bestGrade lines = fold (λ g l. max g (l .grade)) 0 lines
 
+-- the lines that have the best grade
 unfoldable pub best : List Line → List Line
 best lines = keep (λ l. eqb (l .grade) (bestGrade lines)) lines
 
--- there are more names than the skip amount
+-- n names are more than the skip amount
 abbrev pub crowded : Skip → ℕ → Bool
 crowded Never n = false
 crowded (Above amount) n = ltb amount n
 
--- what a placed row's number gives where no segment has it
+-- the empty segment, for a number that no segment has
 abbrev pub noSegment : Collected
 noSegment = record { seat = Anywhere; bytes = []; masks = []; references = []; symbols = [] }
 
+-- for a library, the cells of a view, what is asked, the segments, and what the search placed and noted: a placed
+-- symbol is borne out if each name that its match noted is placed at the target noted; its grade is 1 if it is not
+-- borne out, else 3 if its name is noted at its position, and 2 if not
 module _ (library cells : List ℕ) (a : Asked) (segments : List Collected) (placed : List Placing) (noted : List Noting) where
   -- every public reference that the symbol's match noted names a symbol placed at the target
   abbrev pub borneOut : Placing → Bool
@@ -63,24 +67,29 @@ module _ (library cells : List ℕ) (a : Asked) (segments : List Collected) (pla
       let lines = best (gradedAt at) in
       if crowded skip (length lines) then [] else sorted (λ x y. nameBefore library (x .name) (y .name)) lines
 
--- then targets at or past the image's end, ascending, their valid names in the order first noted; the skip test counts all
+-- a noted name is listed past the image: its target is at or past the image's end, it is valid, and its target has no
+-- more names than the skip amount, where all names noted at the target count, valid or not
 abbrev pub isLeftover : ℕ → Skip → List Noting → Noting → Bool
 isLeftover end skip noted n =
     leb end (n .target) && n .valid && not (crowded skip (length (keep (λ q. eqb (q .target) (n .target)) noted)))
 
+-- the lines past the image: by target, ascending, and at one target as the names were first noted
 unfoldable pub leftovers : ℕ → Skip → List Noting → List Line
 leftovers end skip noted = map notedLine (sorted (λ x y. ltb (x .target) (y .target)) (keep (isLeftover end skip noted) noted))
 
+-- the list: the lines of all positions of the image, and then those past its end
 unfoldable pub listing : List ℕ → List ℕ → Asked → Skip → List Collected → List Placing → List Noting → List Line
 listing library cells a skip segments placed noted =
     joined (linesAt library cells a segments placed noted skip) (from 0 (length cells)) ++ leftovers (length cells) skip noted
 
--- what the lent rows of the listing hold: address, grade, place and length of the name
+-- how many numbers the row of a line has
 abbrev pub lineWidth : ℕ
 lineWidth = 4
 
+-- the row of a line: address, grade, place and length of the name
 abbrev pub lineCells : Line → List ℕ
 lineCells l = l .address ∷ l .grade ∷ l .name .at ∷ l .name .len ∷ []
 
+-- all numbers of the lent rows of lines
 unfoldable pub lineNumbers : List Line → List ℕ
 lineNumbers lines = joined lineCells lines

@@ -1,4 +1,4 @@
--- What a line of the list comes from. Assumes nothing.
+-- Where the lines of the list come from: placed symbols and noted names. Assumes nothing.
 use Prim.Native.Nat.{ℕ, _≤_, _<_, max}
 use mathlib.Core.Path.{_≡_, sym, ap}
 use mathlib.Core.Logic.{_⊎_, inl, inr, _↔_}

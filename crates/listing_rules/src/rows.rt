@@ -1,4 +1,4 @@
-// The lines of the list in lent memory, by number.
+// The lines of the list in lent memory, read and written by number.
 ghost use mathlib.Core.Path.{_≡_};
 ghost use Rattle.lent.specs.Rows.{putRow};
 ghost use Rattle.listing_rules.specs.Listing.{lineWidth, lineCells};
@@ -7,9 +7,10 @@ use crate::Line;
 use lent::part::Part;
 use lent::rows;
 
-// How many numbers a row has.
+// How many numbers the row of a line has.
 pub const LINE_WIDTH: usize = 4;
 
+// The line in row i, made of zeros where there is no such row; of the grade's number the low 8 bits count.
 pub fn line_at(m: &[u64], i: usize) -> Line
     ensures { λ r. ⌜ r ≡ lineAt (now (m .entry)) i ⌝ }
 {
@@ -24,6 +25,7 @@ pub fn line_at(m: &[u64], i: usize) -> Line
     }
 }
 
+// Puts a line into row i; without such a row the memory stays as it was.
 pub fn put_line(m: &mut [u64], i: usize, row: Line)
     ensures { λ _. ⌜ now (m .exit) ≡ putRow lineWidth (now (m .entry)) i (lineCells row) ⌝ }
 {

@@ -1,4 +1,4 @@
--- A table is clear again once the rows of all ids that are defined are. Assumes nothing.
+-- A table is clear again once the rows of all ids that have definitions are cleared. Assumes nothing.
 use Prim.Native.Nat.{ℕ, zero, suc, _+_, _*_, _<_, _≤_}
 use mathlib.Core.Path.{_≡_, refl, sym, ap, _∙_}
 use mathlib.Core.Bool.{Bool, true, false, _&&_, _||_, false≢true}

@@ -1,4 +1,4 @@
--- A definition noted: the table tells of it too. Assumes nothing.
+-- After one more definition was noted, the table tells what it says too. Assumes nothing.
 use Prim.Native.Nat.{ℕ, suc, _+_, _<_, _≤_}
 use mathlib.Core.Path.{_≡_, refl, sym, ap, subst, _∙_}
 use mathlib.Core.Bool.{Bool, true, false, false≢true}

@@ -1,4 +1,4 @@
--- Each has one outcome, by its contract alone. Assumes nothing.
+-- The functions on the table of ids have one outcome each, by their contracts alone. Assumes nothing.
 use Prim.Native.Nat.{ℕ, _<_}
 use mathlib.Core.Path.{_≡_, sym, _∙_}
 use mathlib.Core.List.{List}

@@ -1,9 +1,9 @@
-// Refusals 10 to 13: by module, content and fixup in file order.
+// Refusals 10 to 13 of fixups and contents.
 use lent::refusal::Refusal;
 
 pub mod one;
 
-// What was looked at is refused, or it is not.
+// Whether what was looked at is refused.
 pub enum Verdict {
     Passed,
     Refused(Refusal),

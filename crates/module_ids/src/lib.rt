@@ -1,4 +1,4 @@
-// What the ids of a module lead to: a row for each of the 65,536, filled for a module and cleared after it.
+// What the ids of a module lead to: a table with a row for each of the 65,536 ids, filled for a module and cleared after it.
 use lent::part::Part;
 
 pub mod fault;
@@ -7,20 +7,20 @@ pub mod row;
 pub mod scan;
 pub mod table;
 
-// How a definition that an id may have stands: missing, of another type than code, or code.
+// What the first definition of a sort (segment, external) says for an id: there is none, it is not code, or it is code.
 pub enum Mark {
     Missing,
     Other,
     Code,
 }
 
-// Where the first kept segment of an id stands among the kept ones of its module, and its size.
+// The place of the first kept segment of an id among the kept segments of its module, and its size.
 pub enum KeptAs {
     None,
     Place { place: usize, size: usize },
 }
 
-// What an id leads to: the first segment of it, the first kept one, and the first external, with its name.
+// What an id leads to: its first segment, its first kept segment, and its first external with its name.
 pub struct IdRow {
     pub segment: Mark,
     pub kept: KeptAs,

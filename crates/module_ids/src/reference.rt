@@ -13,17 +13,19 @@ use segments::Goal;
 use segments::Reference;
 use segments::SegmentNumber;
 
-// The kinds of fixup that leave a reference, and all others.
+// The kind of a fixup, if it is one of the three that leave a reference.
 pub enum Known {
     Kind(Kind),
     Other,
 }
 
+// The reference that a fixup leaves, or nothing.
 pub enum Leaves {
     One(Reference),
     Nothing,
 }
 
+// The kind of a number in the file.
 fn kind_of(n: u8) -> Known
     ensures { λ r. ⌜ r ≡ kindKnown n ⌝ }
 {
@@ -39,7 +41,8 @@ fn kind_of(n: u8) -> Known
     Known::Other
 }
 
-// Whether what the fixup names is code: the first segment of its id for block 1, the first external for block 2.
+// Whether the definition that a fixup names is code: the first segment of its id for block 1, the first external for
+// block 2. A fixup of another block names nothing.
 fn code_named(row: IdRow, f: Fixup) -> bool
     ensures { λ r. ⌜ r ≡ codeNamed row f ⌝ }
 {
@@ -54,6 +57,7 @@ fn code_named(row: IdRow, f: Fixup) -> bool
     false
 }
 
+// The place of a kept segment in its module, 0 where there is none.
 fn place_in(kept: KeptAs) -> usize
     ensures { λ r. ⌜ r ≡ placeIn kept ⌝ }
 {
@@ -63,7 +67,8 @@ fn place_in(kept: KeptAs) -> usize
     }
 }
 
-// Block 1 leads to the first kept segment of the id, block 2 to the external's name.
+// The goal of a fixup: block 1 leads to the first kept segment of the id, block 2 to the external's name. `number` is
+// that of the module's first segment.
 fn goal_by(row: IdRow, number: usize, f: Fixup) -> Goal
     requires { ⌜ number + placeIn (row .kept) < 2 ^ 64 ⌝ }
     ensures { λ r. ⌜ r ≡ goalBy row number f ⌝ }
@@ -76,7 +81,8 @@ fn goal_by(row: IdRow, number: usize, f: Fixup) -> Goal
     Goal::Name(name)
 }
 
-// What a fixup leaves whose id has this row, in a module whose first segment has this number, `base` added to its place.
+// What a fixup leaves if its id has this row: a reference if the fixup is not refused, names code, and is of one of
+// three kinds. `number` is that of the module's first segment; `base` is added to the fixup's location.
 pub fn reference_of(row: IdRow, number: usize, base: usize, f: Fixup) -> Leaves
     requires { ⌜ (number + placeIn (row .kept) < 2 ^ 64) × (base + f .location < 2 ^ 64) ⌝ }
     ensures { λ r. ⌜ leftBy r ≡ leavesBy row number base f ⌝ }

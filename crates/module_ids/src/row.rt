@@ -1,4 +1,4 @@
-// The row of an id in memory.
+// The row of an id in the table: six numbers.
 ghost use mathlib.Core.Path.{_≡_};
 ghost use Prim.Native.Nat.{_≤_, _<_};
 ghost use Rattle.lent.specs.Rows.{putRow};
@@ -10,15 +10,18 @@ use lent::part::Part;
 use lent::rows;
 use omf51::ModuleId;
 
+// How many numbers the row of an id has.
 const WIDTH: usize = 6;
 
-// The numbers of a kept segment. The flag is 3, above every mark, so that one number holds a mark, `% 3`, and whether a segment is kept.
+// The numbers of a kept segment. The flag is 3, above every mark, so that the sum of mark and flag tells both: the mark
+// is that sum % 3, and a segment is kept if it is 3 or more.
 struct KeptTriple {
     flag: u64,
     place: u64,
     size: u64,
 }
 
+// The number of a mark.
 fn mark_number(mark: Mark) -> u64
     ensures { λ r. ⌜ (r ≡ markNumber mark) × (r ≤ 2) ⌝ }
 {
@@ -29,6 +32,7 @@ fn mark_number(mark: Mark) -> u64
     }
 }
 
+// The mark of a number.
 fn mark_from(n: u64) -> Mark
     ensures { λ r. ⌜ r ≡ markFrom n ⌝ }
 {
@@ -41,6 +45,7 @@ fn mark_from(n: u64) -> Mark
     }
 }
 
+// The three numbers of an id's first kept segment; zeros where there is none.
 fn kept_cells(kept: KeptAs) -> KeptTriple
     ensures { λ r. ⌜ (r ≡ keptCells kept) × (r .flag ≤ 3) ⌝ }
 {
@@ -58,6 +63,7 @@ fn kept_cells(kept: KeptAs) -> KeptTriple
     }
 }
 
+// An id's first kept segment, from the sum of mark and flag, its place and its size.
 fn kept_from(n: u64, place: u64, size: u64) -> KeptAs
     ensures { λ r. ⌜ r ≡ keptFrom n place size ⌝ }
 {
@@ -70,7 +76,7 @@ fn kept_from(n: u64, place: u64, size: u64) -> KeptAs
     }
 }
 
-// What an id leads to; that an id has 16 bits is handed on to callers' proofs.
+// What an id leads to, by the table. The contract also says that an id has 16 bits, for the proofs of callers.
 pub fn id_row(table: &[u64], id: ModuleId) -> IdRow
     ensures { λ r. ⌜ (r ≡ idRowAt (now (table .entry)) id) × (id .0 < 65536) ⌝ }
 {
@@ -86,6 +92,7 @@ pub fn id_row(table: &[u64], id: ModuleId) -> IdRow
     }
 }
 
+// Puts what an id leads to into its row of the table.
 pub fn put_id(table: &mut [u64], id: ModuleId, row: IdRow)
     ensures { λ _. ⌜ now (table .exit) ≡ putRow 6 (now (table .entry)) (id .0) (idCells row) ⌝ }
 {

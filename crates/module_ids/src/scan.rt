@@ -1,4 +1,4 @@
-// The first refusal of 10 to 13, in file order.
+// The first of refusals 10 to 13 in a library, in file order.
 ghost use mathlib.Core.List.{[]};
 ghost use Rattle.omf51.specs.Module.{sectionsAt, moduleAt};
 ghost use Rattle.library.specs.Gathered.{itemsAt};
@@ -21,7 +21,7 @@ use library::items::decoded::next_fixup;
 use library::module::module_at;
 use omf51::Content;
 
-// The fixups of a content.
+// The first refusal among the fixups of a content, from a cursor on.
 fn fixups_fault(library: &[u8], table: &[u64], from: Cursor) -> Verdict
     ensures { λ r. ⌜ Says (λ ds. fixupsFault ds (fixupsLeft (now (library .entry)) from)) (now (table .entry)) r ⌝ }
 {
@@ -42,7 +42,7 @@ fn fixups_fault(library: &[u8], table: &[u64], from: Cursor) -> Verdict
     }
 }
 
-// One content: its fixups first, then its end.
+// The first refusal of one content: its fixups are tested first, and then whether the content passes its segment's size.
 fn section_fault(library: &[u8], table: &[u64], content: Content, fixups: Cursor) -> Verdict
     ensures { λ r. ⌜ Says (λ ds. sectionFault ds (sectionWith content (fixupsLeft (now (library .entry)) fixups))) (now (table .entry)) r ⌝ }
 {
@@ -53,7 +53,7 @@ fn section_fault(library: &[u8], table: &[u64], content: Content, fixups: Cursor
     content_fault(id_row(table, content.id), content)
 }
 
-// The contents of a module.
+// The first refusal among the contents of a module, from a place on.
 fn sections_fault(library: &[u8], table: &[u64], from: usize) -> Verdict
     ensures { λ r. ⌜ Says (λ ds. sectionsFault ds (itemsAt (now (library .entry)) (sectionsAt (now (library .entry))) from)) (now (table .entry)) r ⌝ }
 {
@@ -78,7 +78,7 @@ fn sections_fault(library: &[u8], table: &[u64], from: usize) -> Verdict
     }
 }
 
-// All modules from a place on; the table is lent clear, and is clear again.
+// The first refusal among all modules from the place `first` on. The table of ids is lent clear, and is clear again afterwards.
 pub fn scan(library: &[u8], first: usize, table: &mut [u64]) -> Verdict
     requires { ⌜ Tells [] (now table) ⌝ }
     ensures { λ r. ⌜ Scanned (itemsAt (now (library .entry)) (moduleAt (now (library .entry))) first) (now (table .exit)) r ⌝ }

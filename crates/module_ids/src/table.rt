@@ -1,4 +1,4 @@
-// The table of a module's ids: filled from its definitions, and cleared after it.
+// The table of a module's ids: filled from the module's definitions, and cleared after the module.
 ghost use mathlib.Core.Path.{_≡_};
 ghost use mathlib.Core.List.{[]};
 ghost use Prim.Native.Nat.{_+_, _<_, _^_};
@@ -18,14 +18,14 @@ use library::items::entries::start;
 use omf51::Definition;
 use omf51::ModuleId;
 
-// Type code: the low three info bits are 0.
+// Whether info says code: its low three bits are 0.
 pub fn code_info(info: u8) -> bool
     ensures { λ r. ⌜ r ≡ codeInfo info ⌝ }
 {
     info & 7 == 0
 }
 
-// Kept: a segment of id not 0, type code, and relocation byte not 0.
+// Whether a definition is a kept segment: its id is not 0, it is code, and its relocation byte is not 0.
 pub fn is_kept(d: Definition) -> bool
     ensures { λ r. ⌜ r ≡ isKept d ⌝ }
 {
@@ -50,6 +50,7 @@ pub fn is_kept(d: Definition) -> bool
     }
 }
 
+// The id of a definition.
 pub fn id_of(d: Definition) -> ModuleId
     ensures { λ r. ⌜ (r ≡ idOf d) × (r .0 < 65536) ⌝ }
 {
@@ -66,7 +67,7 @@ pub fn id_of(d: Definition) -> ModuleId
     }
 }
 
-// The first definition of an id stays.
+// The mark of an id after one more definition: the first definition of the id stays.
 fn first_mark(old: Mark, code: bool) -> Mark
     ensures { λ r. ⌜ r ≡ firstMark old code ⌝ }
 {
@@ -82,6 +83,7 @@ fn first_mark(old: Mark, code: bool) -> Mark
     }
 }
 
+// The name of an id's first external after one more external: the name stays if there was an external before.
 fn first_name(mark: Mark, old: Part, new: Part) -> Part
     ensures { λ r. ⌜ r ≡ firstName mark old new ⌝ }
 {
@@ -92,6 +94,7 @@ fn first_name(mark: Mark, old: Part, new: Part) -> Part
     }
 }
 
+// The first kept segment of an id after one more segment: the first kept one stays.
 fn first_kept(old: KeptAs, kept: bool, place: usize, size: usize) -> KeptAs
     ensures { λ r. ⌜ r ≡ firstKeptAs old kept place size ⌝ }
 {
@@ -106,7 +109,7 @@ fn first_kept(old: KeptAs, kept: bool, place: usize, size: usize) -> KeptAs
     }
 }
 
-// What a definition changes in the row of its id; `n` segments were kept before it.
+// The row of a definition's id after the definition; the module has `n` kept segments before it.
 fn changed(row: IdRow, n: usize, d: Definition) -> IdRow
     ensures { λ r. ⌜ r ≡ changedRow row n d ⌝ }
 {
@@ -137,6 +140,7 @@ fn changed(row: IdRow, n: usize, d: Definition) -> IdRow
     }
 }
 
+// Changes the table by one definition; the module has `n` kept segments before it.
 fn note(table: &mut [u64], n: usize, d: Definition)
     ensures { λ _. ⌜ (now (table .exit) ≡ noteIn (now (table .entry)) n d) × (idOf d .0 < 65536) ⌝ }
 {
@@ -145,6 +149,7 @@ fn note(table: &mut [u64], n: usize, d: Definition)
     put_id(table, id, changed(row, n, d));
 }
 
+// The number of kept segments, counting this definition.
 fn kept_after(n: usize, d: Definition) -> usize
     requires { ⌜ n + 1 < 2 ^ 64 ⌝ }
     ensures { λ r. ⌜ r ≡ keptAfter n d ⌝ }
@@ -155,7 +160,7 @@ fn kept_after(n: usize, d: Definition) -> usize
     n
 }
 
-// Notes all definitions from a place on in a table that is clear, and answers how many segments are kept.
+// Fills a clear table from all definitions of a module, from a place on, and answers how many segments are kept.
 pub fn fill(library: &[u8], at: usize, table: &mut [u64]) -> usize
     requires { ⌜ Tells [] (now table) ⌝ }
     ensures { λ r. ⌜ Filled (itemsAt (now (library .entry)) (definitionsAt (now (library .entry))) at) (now (table .exit)) r ⌝ }
@@ -176,7 +181,7 @@ pub fn fill(library: &[u8], at: usize, table: &mut [u64]) -> usize
     }
 }
 
-// Clears the rows of all ids that these definitions have.
+// Clears the rows of all ids that the definitions from a place on have, which are mostly far fewer than the table has.
 pub fn clear(library: &[u8], at: usize, table: &mut [u64])
     requires { ⌜ Tells (itemsAt (now library) (definitionsAt (now library)) at) (now table) ⌝ }
     ensures { λ _. ⌜ Tells [] (now (table .exit)) ⌝ }
@@ -195,6 +200,7 @@ pub fn clear(library: &[u8], at: usize, table: &mut [u64])
     }
 }
 
+// The row of an id that has no definition.
 fn no_row() -> IdRow
     ensures { λ r. ⌜ r ≡ noRow ⌝ }
 {

@@ -1,4 +1,4 @@
--- The tables of a module: with them the contents and public definitions of an id are met without looking at the others.
+-- The tables of a module: by them the contents and public definitions of an id are met without looking at those of other ids.
 use Prim.Native.Nat.{ℕ, _<_, _≤_}
 use mathlib.Core.Path.{_≡_}
 use mathlib.Core.List.{List}

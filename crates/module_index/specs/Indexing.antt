@@ -1,4 +1,4 @@
--- What indexing leaves in the tables.
+-- What indexing a module's contents or public definitions leaves in the tables.
 use Prim.Native.Nat.{ℕ, _≤_}
 use mathlib.Core.Path.{_≡_}
 use mathlib.Core.List.{List, map}

@@ -1,4 +1,4 @@
--- The tables of a module.
+-- The tables of a module, in which its contents and public definitions are linked by id.
 pub mod Indexed
 pub mod Indexing
 pub mod IndexingLaws

@@ -1,4 +1,5 @@
--- How many are indexed, and the links that are followed, is one, by the contract alone; and so are heads once keys are forgotten. Assumes nothing.
+-- How many things are indexed, and which links are followed, has one outcome, by the contract alone; so have the heads
+-- once keys are forgotten. Assumes nothing.
 use Prim.Native.Nat.{ℕ, _<_}
 use mathlib.Core.Path.{_≡_, sym, subst, _∙_}
 use mathlib.Core.List.{List, map}

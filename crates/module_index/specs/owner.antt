@@ -1,2 +1,2 @@
--- The kept segment that has the contents of an id.
+-- The kept segment that gets the contents of an id.
 pub mod Owned

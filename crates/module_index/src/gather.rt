@@ -1,3 +1,3 @@
-// A module's contents and public definitions, gathered by id.
+// The ids of a module's contents and public definitions, and the places at which they are read again.
 pub mod publics;
 pub mod sections;

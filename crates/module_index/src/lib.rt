@@ -1,4 +1,4 @@
-// The tables of a module: its contents and public definitions, linked by id.
+// The tables of a module, in which its contents and its public definitions are linked by id.
 ghost use Prim.Native.Nat.{_≤_};
 ghost use lib.ListN.{length, take};
 ghost use Rattle.lent.specs.Lists.{keep};
@@ -17,7 +17,8 @@ use crate::gather::sections::gather_sections;
 use tables::links::link;
 use tables::links::unlink;
 
-// Gathers the contents from a place on, links them by id, and answers how many there are.
+// Indexes the contents of a module, from a place on, and answers how many there are: the id of each goes into `keys`,
+// its place in the library into `places`; `first` and `next` link the contents of one id.
 pub fn index_sections(
     library: &[u8],
     from: usize,
@@ -34,7 +35,8 @@ pub fn index_sections(
     n
 }
 
-// The same of the public definitions.
+// Indexes the public definitions of a module, from a place on, and answers how many there are: the id of each goes into
+// `keys`, its place in the library into `places`; `first` and `next` link the public definitions of one id.
 pub fn index_publics(
     library: &[u8],
     from: usize,

@@ -1,4 +1,4 @@
--- A file of bare modules: when there is no first one, and what a damaged later one does. Assumes nothing.
+-- A file of bare modules: when there is no first module, and what a damaged later module does. Assumes nothing.
 use Prim.Native.Nat.{ℕ, zero, suc}
 use mathlib.Core.Path.{_≡_, refl}
 use mathlib.Core.Logic.{_↔_}

@@ -1,4 +1,4 @@
--- Where a reading ends, whatever it read: what the code says of a repetition, and of an entry that it passes over.
+-- Where a reading ends, without what it read: what the code says of a repetition, and of an entry that it passes over.
 use Prim.Native.Nat.{ℕ}
 use mathlib.Core.List.{List}
 use Rattle.lent.specs.declared.part.Part.{Part}

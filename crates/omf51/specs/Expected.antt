@@ -1,4 +1,4 @@
--- The code's answers on a record, in the definition's words.
+-- What the code says of a record and its type, in the words of the definition.
 use Prim.Native.Nat.{ℕ, _+_}
 use mathlib.Core.Bool.{Bool, not, _||_}
 use lib.Dec.{eqb}

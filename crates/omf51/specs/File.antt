@@ -1,4 +1,4 @@
--- The whole file: bare modules, or a 2Ch library.
+-- The whole file: bare modules, or a library that begins with a 2Ch record.
 use Prim.Native.Nat.{ℕ}
 use mathlib.Core.List.{List, []}
 use mathlib.Core.Option.{Option, none, some}
@@ -11,11 +11,11 @@ use Rattle.omf51.specs.Reader.{ReadOutcome, read, stop, refused, Reader,
 use Rattle.omf51.specs.Record.{recordOf}
 use Rattle.omf51.specs.Module.{Module, moduleAt}
 
--- bare modules: what stands after those that can be read is ignored
+-- bare modules: as many as can be read, one at least; bytes behind them are ignored
 abbrev pub modulesAt : List ℕ → Reader (List Module)
 modulesAt library = atLeastOne library (moduleAt library)
 
--- a library goes on to its three closing records; bytes after those are ignored
+-- a library: a 2Ch record, modules, and three closing records; bytes behind these are ignored
 unfoldable pub libraryAt : List ℕ → Reader (List Module)
 libraryAt library = do
   _ ← recordOf library (eqb 0x2c) give
@@ -25,15 +25,17 @@ libraryAt library = do
   _ ← recordOf library (eqb 0x2a) give
   give modules
 
+-- the whole file, by its first byte
 unfoldable pub file : List ℕ → ReadOutcome (List Module)
 file library = if eqb (byteAt library 0) 0x2c then libraryAt library 0 else modulesAt library 0
 
--- refusals 5 to 8, if there is one; and the modules, none where it is refused
+-- the refusal of reading, 5 to 8, if there is one
 abbrev pub fileRefusal : ReadOutcome (List Module) → Option Refusal
 fileRefusal (read modules at) = none
 fileRefusal stop = some NoModule
 fileRefusal (refused r) = some r
 
+-- the modules that were read; none if the file is refused
 abbrev pub modulesIn : ReadOutcome (List Module) → List Module
 modulesIn (read modules at) = modules
 modulesIn stop = []

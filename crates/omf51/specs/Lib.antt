@@ -1,4 +1,4 @@
--- Reading the library: readers, records, entries, modules, the file.
+-- Reading the library, in reading order: readers, records, entries, modules, the file.
 pub mod Reader
 pub mod Record
 pub mod RecordLaws

@@ -15,30 +15,36 @@ use Rattle.omf51.specs.Reader.{Reader, _>>=_, give, refuse, many, atLeas
 use Rattle.omf51.specs.Record.{recordOf}
 use Rattle.omf51.specs.Entry.{ending, nameWith, idSize, idAt, definitionAt, fixupAt}
 
--- KNOWN_TYPES (08h stands there twice); the types of definitions, contents and fixups; those skipped among contents
+-- the twenty types that at51 knows (in its own table, KNOWN_TYPES, 08h stands twice)
 abbrev pub isKnown : ℕ → Bool
 isKnown =
     isIn
     (0x02 ∷ 0x04 ∷ 0x06 ∷ 0x07 ∷ 0x08 ∷ 0x09 ∷ 0x0e ∷ 0x0f ∷ 0x10 ∷ 0x11 ∷ 0x12 ∷ 0x13 ∷ 0x16 ∷ 0x17 ∷ 0x18 ∷ 0x19 ∷ 0x26 ∷ 0x28 ∷ 0x2a ∷ 0x2c ∷ [])
 
+-- the types of definition records: segments, public names, externals
 abbrev pub defines : ℕ → Bool
 defines = isIn (0x0e ∷ 0x0f ∷ 0x16 ∷ 0x17 ∷ 0x18 ∷ 0x19 ∷ [])
 
+-- the types of contents
 abbrev pub fills : ℕ → Bool
 fills = isIn (0x06 ∷ 0x07 ∷ [])
 
+-- the types of fixup records
 abbrev pub fixes : ℕ → Bool
 fixes = isIn (0x08 ∷ 0x09 ∷ [])
 
+-- the types that are skipped among contents: all unknown types, and three known ones
 abbrev pub isIdle : ℕ → Bool
 isIdle type = not (isKnown type) || isIn (0x10 ∷ 0x12 ∷ 0x13 ∷ []) type
 
--- among definitions: a record of at least one whole entry (a partial one after the first is dropped), or a skipped record
+-- a record among definitions: it has at least one whole entry (a partial entry behind it is dropped), or is of an
+-- unknown type and skipped
 unfoldable pub definitionsAt : List ℕ → Reader (List Definition)
 definitionsAt library =
     recordOf library (λ type. defines type || not (isKnown type)) λ f.
     if defines (f .kind) then atLeastOne library (definitionAt library f) else give []
 
+-- a record of fixups, with at least one whole fixup
 unfoldable pub fixupsAt : List ℕ → Reader (List Fixup)
 fixupsAt library = recordOf library fixes λ f. atLeastOne library (fixupAt library f)
 
@@ -53,27 +59,29 @@ contentBody library f at =
     } in
     ending f content (w + 2)
 
--- a content and the fixups of the records that follow it at once
+-- a content, and the fixups of the records that follow it at once
 pub record Section : Type 0 where
   pub content : Content
   pub fixups : List Fixup
 
+-- a content record and all fixup records behind it
 unfoldable pub sectionAt : List ℕ → Reader (List Section)
 sectionAt library = do
   content ← recordOf library fills (contentBody library)
   fixups ← many library (fixupsAt library)
   give (one (record { content = content; fixups = fixups }))
 
--- among contents: one of those, or a skipped record
+-- a record among contents: a content with its fixups, or a record that is skipped
 unfoldable pub sectionsAt : List ℕ → Reader (List Section)
 sectionsAt library at =
     if fills (byteAt library at) then sectionAt library at else recordOf library isIdle (λ f. give []) at
 
--- a module: its definitions and its contents, in file order
+-- a module: its definitions, and its contents with their fixups, both in file order
 pub record Module : Type 0 where
   pub definitions : List Definition
   pub sections : List Section
 
+-- the module at a place: header, definitions, contents, end; it is refused if the end has another name than the header
 unfoldable pub moduleAt : List ℕ → Reader (List Module)
 moduleAt library = do
   name ← recordOf library (eqb 0x02) (nameWith 2 library)

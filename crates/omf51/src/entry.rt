@@ -1,14 +1,14 @@
-// The entries of a body, and the name of a header or an end.
+// Which entries a body holds, and what reading the name in a module's header or end comes to.
 use lent::part::Part;
 use lent::refusal::Refusal;
 
-// Which entries a body holds.
+// Which entries the records at hand hold.
 pub enum Entries {
     Definitions,
     Fixups,
 }
 
-// The name of a header or an end, and the place after its record.
+// A header or end that was read: its name, and the place after its record; or that none stands there; or a refusal.
 pub enum Named {
     Read { name: Part, next: usize },
     Stop,

@@ -1,4 +1,4 @@
-// OMF-51 library files: what their records say.
+// OMF-51 library files: records, and the definitions, contents and fixups that they hold.
 ghost use mathlib.Core.Path.{_≡_};
 ghost use Rattle.omf51.specs.Entry.{segmentSize};
 use lent::part::Part;
@@ -11,24 +11,24 @@ pub mod read_record;
 pub mod record;
 pub mod types;
 
-// An id as a module numbers its segments, and its externals. It means nothing outside its module.
+// The id by which a module speaks of one of its segments or externals. An id means nothing outside its module.
 pub struct ModuleId(pub u16);
 
-// A record: its type (`type` is a word of the language), and where its body starts and ends.
+// A record: its type (called `kind`, since `type` is a word of the language), and where its body starts and ends.
 pub struct Frame {
     pub kind: u8,
     pub body: usize,
     pub end: usize,
 }
 
-// Where a reading ends: after what was read, before what it stopped at, or with a refusal.
+// How a reading ends: read up to a place; stopped, since what should be read does not stand there; or refused.
 pub enum End {
     At(usize),
     Stop,
     Refused(Refusal),
 }
 
-// What the entries of definition records say.
+// The three sorts of entries in definition records.
 pub enum Definition {
     Segment {
         id: ModuleId,
@@ -49,14 +49,15 @@ pub enum Definition {
     },
 }
 
-// Data for the segment of an id, at an offset; of id 0 it is absolute, and the offset is its address.
+// A content: data for the segment of an id, from an offset on. A content of id 0 is absolute, and its offset is its address.
 pub struct Content {
     pub id: ModuleId,
     pub offset: usize,
     pub part: Part,
 }
 
-// A place in the content before it that the linker fills in: how, and with the address of what.
+// A fixup: a location in the content before it where an address is missing, how it is written (kind), and of what it is
+// the address (block and id), with an offset added.
 pub struct Fixup {
     pub location: usize,
     pub kind: u8,
@@ -65,7 +66,7 @@ pub struct Fixup {
     pub offset: usize,
 }
 
-// A segment's size: info bit 80h gives 0, otherwise stored 0 means 65,536.
+// The size of a segment: 0 if bit 80h of info is set, else the size in the file, where 0 means 65,536.
 pub fn segment_size(info: u8, stored: u16) -> usize
     ensures { λ r. ⌜ r ≡ segmentSize info stored ⌝ }
 {

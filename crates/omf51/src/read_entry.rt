@@ -1,4 +1,5 @@
-// The entries of bodies: where each ends, if it is whole.
+// The entries of bodies (definitions, fixups, the names of headers and ends): where an entry
+// ends, if all of it stands within its body.
 ghost use mathlib.Core.Path.{_≡_};
 ghost use Prim.Native.Nat.{_≤_};
 ghost use Rattle.omf51.specs.Record.{recordOf};
@@ -16,32 +17,35 @@ use crate::types::Allowed;
 use lent::part::Part;
 use lent::refusal::Refusal;
 
+// A byte as a size.
 fn wide(x: u8) -> usize
     ensures { λ r. ⌜ (r ≡ x) × (r ≤ 255) ⌝ }
 {
     x as usize
 }
 
+// Whether a definition record holds segments.
 pub fn is_segment(f: Frame) -> bool
     ensures { λ r. ⌜ r ≡ isSegment f ⌝ }
 {
     f.kind == 0x0e || f.kind == 0x0f
 }
 
+// Whether a definition record holds public names; a definition record that holds neither segments nor these holds externals.
 pub fn is_public(f: Frame) -> bool
     ensures { λ r. ⌜ r ≡ isPublic f ⌝ }
 {
     f.kind == 0x16 || f.kind == 0x17
 }
 
-// Records of odd type carry two-byte ids.
+// How many bytes an id has: two in records of odd type, otherwise one.
 pub fn id_size(f: Frame) -> usize
     ensures { λ r. ⌜ (r ≡ idSize f) × (r ≤ 2) ⌝ }
 {
     1 + wide(f.kind % 2)
 }
 
-// How far into a definition its name stands.
+// How many bytes of a definition stand before its name.
 pub fn name_offset(f: Frame) -> usize
     ensures { λ r. ⌜ (r ≡ nameOffset f) × (r ≤ 9) ⌝ }
 {
@@ -55,7 +59,7 @@ pub fn name_offset(f: Frame) -> usize
     ids + 3
 }
 
-// A definition: its name comes last.
+// Where the definition at a place ends, if it is whole. Its name comes last: a length byte, and that many bytes.
 fn definition_end(library: &[u8], f: Frame, at: usize) -> End
     ensures { λ r. ⌜ r ≡ endOf (definitionAt (now (library .entry)) f at) ⌝ }
 {
@@ -75,7 +79,7 @@ fn definition_end(library: &[u8], f: Frame, at: usize) -> End
     End::At(name + 1 + len)
 }
 
-// A fixup: one of block 3 has a byte more.
+// Where the fixup at a place ends, if it is whole. A fixup of block 3 has one byte more.
 fn fixup_end(library: &[u8], f: Frame, at: usize) -> End
     ensures { λ r. ⌜ r ≡ endOf (fixupAt (now (library .entry)) f at) ⌝ }
 {
@@ -96,7 +100,7 @@ fn fixup_end(library: &[u8], f: Frame, at: usize) -> End
     End::At(at + size + 1)
 }
 
-// Where the entry at a place ends, if it is whole.
+// Where the definition or fixup at a place ends, if it is whole.
 pub fn entry_end(library: &[u8], what: Entries, f: Frame, at: usize) -> End
     ensures { λ r. ⌜ r ≡ entryEnd what (now (library .entry)) f at ⌝ }
 {
@@ -106,7 +110,7 @@ pub fn entry_end(library: &[u8], what: Entries, f: Frame, at: usize) -> End
     }
 }
 
-// The record of a header or an end: a name, and some bytes more.
+// The header or end record at a place, by its type `kind`: its body has a name and at least `more` bytes behind it.
 pub fn named_at(library: &[u8], kind: u8, more: u8, at: usize) -> Named
     ensures { λ r. ⌜ nameRead r ≡ recordOf (now (library .entry)) (oneType kind) (nameWith more (now (library .entry))) at ⌝ }
 {

@@ -1,4 +1,5 @@
-// One record: whether its type is allowed here, and where its body stands. The library's bytes are indexed only here.
+// One record: whether its type is allowed at its place, and where its body stands. Only this file indexes the library;
+// all other code takes single bytes by `byte_at` and `word_at`, and names as slices.
 ghost use mathlib.Core.Path.{_≡_};
 ghost use Prim.Native.Nat.{_<_};
 ghost use Rattle.lent.specs.Parts.{byteAt, wordAt};
@@ -10,7 +11,7 @@ use crate::record::Framed;
 use crate::types::Allowed;
 use lent::refusal::Refusal;
 
-// The byte at a place, 0 past the library's end.
+// The byte of the library at a place, 0 past the end.
 pub fn byte_at(library: &[u8], at: usize) -> u8
     ensures { λ r. ⌜ r ≡ byteAt (now (library .entry)) at ⌝ }
 {
@@ -20,7 +21,7 @@ pub fn byte_at(library: &[u8], at: usize) -> u8
     library[at]
 }
 
-// The number of two bytes, low byte first.
+// The number of the two bytes at a place, low byte first.
 pub fn word_at(library: &[u8], at: usize) -> u16
     ensures { λ r. ⌜ r ≡ wordAt (now (library .entry)) at ⌝ }
 {
@@ -30,13 +31,14 @@ pub fn word_at(library: &[u8], at: usize) -> u16
     wide(library[at]) + 256 * wide(byte_at(library, at + 1))
 }
 
+// A byte as a number of 16 bits.
 fn wide(x: u8) -> u16
     ensures { λ r. ⌜ (r ≡ x) × (r < 256) ⌝ }
 {
     x as u16
 }
 
-// The record at a place, whatever its type.
+// The record at a place, whatever its type: a type byte, two bytes of length, a body, a checksum byte, which is not examined.
 fn frame_at(library: &[u8], at: usize) -> Framed
     ensures { λ r. ⌜ frameRead r ≡ frameAt (now (library .entry)) at ⌝ }
 {
@@ -64,7 +66,8 @@ fn frame_at(library: &[u8], at: usize) -> Framed
     })
 }
 
-// The record at a place, if its type is allowed there.
+// The record at a place, if its type is allowed there. The type comes first, so that a record
+// of another type never gives a refusal.
 pub fn record_at(library: &[u8], what: Allowed, at: usize) -> Framed
     ensures { λ r. ⌜ frameRead r ≡ expected (now (library .entry)) (allowedTypes what) at ⌝ }
 {

@@ -1,4 +1,5 @@
--- Each of the three functions has one outcome, the answer and the buffer afterwards, by its contract alone. Assumes nothing.
+-- Each of the three print functions has one outcome, the answer and the buffer afterwards,
+-- by its contract alone. Assumes nothing.
 use Prim.Native.Nat.{ℕ}
 use mathlib.Core.Path.{_≡_}
 use mathlib.Core.List.{List}

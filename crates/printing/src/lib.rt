@@ -1,4 +1,5 @@
-// The list in its printed form, in a lent buffer: what is written is measured first, so that a buffer that is too small stays as it was.
+// The list in its printed form, in a lent buffer. The text is measured before it is written, so that a buffer that is
+// too small stays as it was.
 ghost use mathlib.Core.Path.{_≡_};
 ghost use Prim.Native.Nat.{_≤_};
 ghost use lib.Dec.{leb};
@@ -19,8 +20,10 @@ pub enum Printed {
     NoRoom,
 }
 
+// How many bytes the heading has.
 const HEADING: usize = 45;
 
+// Writes the heading at the front of a buffer that has room for it, and answers where it ends.
 fn put_heading(out: &mut [u8]) -> usize
     requires { ⌜ length heading ≤ length (now out) ⌝ }
     ensures { λ r. ⌜ Put (now (out .entry)) 0 heading (now (out .exit)) r ⌝ }
@@ -28,6 +31,7 @@ fn put_heading(out: &mut [u8]) -> usize
     crate::pieces::put(out, 0, b"Address | Name                 | Description\n")
 }
 
+// Prints the heading alone.
 pub fn print_heading(out: &mut [u8]) -> Printed
     ensures { λ r. ⌜ (r, now (out .exit)) ≡ fittedText heading (now (out .entry)) ⌝ }
 {
@@ -37,6 +41,7 @@ pub fn print_heading(out: &mut [u8]) -> Printed
     Printed::Written(put_heading(out))
 }
 
+// Prints one line of the list, whose name is a part of the library, at the front of the buffer.
 pub fn print_line(library: &[u8], line: Line, out: &mut [u8]) -> Printed
     ensures { λ r. ⌜ (r, now (out .exit)) ≡ fittedText (printedLine (now (library .entry)) line) (now (out .entry)) ⌝ }
 {
@@ -46,7 +51,8 @@ pub fn print_line(library: &[u8], line: Line, out: &mut [u8]) -> Printed
     Printed::Written(crate::pieces::put_line(out, 0, library, line))
 }
 
-// Whether the heading and the first n lines fit into so much room. Each line takes some of it, so that this ends soon.
+// Whether the heading and the first n lines take at most `room` bytes. Each line takes some of it, so that the loop
+// ends soon even if n is far too large.
 fn fits(library: &[u8], lines: &[u64], n: usize, room: usize) -> bool
     ensures { λ r. ⌜ r ≡ leb (length (printed (now (library .entry)) (storedLines (now (lines .entry)) n))) room ⌝ }
 {
@@ -66,6 +72,7 @@ fn fits(library: &[u8], lines: &[u64], n: usize, room: usize) -> bool
     true
 }
 
+// Writes the heading and the first n lines into a buffer that has room for them, and answers where they end.
 fn put_all(library: &[u8], lines: &[u64], n: usize, out: &mut [u8]) -> usize
     requires { ⌜ length (printed (now library) (storedLines (now lines) n)) ≤ length (now out) ⌝ }
     ensures { λ r. ⌜ Put (now (out .entry)) 0 (printed (now (library .entry)) (storedLines (now (lines .entry)) n)) (now (out .exit)) r ⌝ }
@@ -79,7 +86,7 @@ fn put_all(library: &[u8], lines: &[u64], n: usize, out: &mut [u8]) -> usize
     at
 }
 
-// The heading and the lines that the first n rows hold.
+// Prints the heading and the lines that the first n rows of `lines` hold.
 pub fn print(library: &[u8], lines: &[u64], n: usize, out: &mut [u8]) -> Printed
     ensures { λ r. ⌜ (r, now (out .exit)) ≡ fittedText (printed (now (library .entry)) (storedLines (now (lines .entry)) n)) (now (out .entry)) ⌝ }
 {

@@ -1,4 +1,5 @@
-// The pieces of a printed line, put one after another into a buffer that has room for them. Each answers where it ends.
+// The pieces of a printed line, put one after another into a buffer that has room for them. Each
+// function answers where its piece ends.
 ghost use mathlib.Core.Path.{_≡_};
 ghost use Prim.Native.Nat.{_+_, _≤_, _<_};
 ghost use lib.ListN.{length, replicate};
@@ -12,6 +13,7 @@ use describe::Described;
 use lent::names;
 use listing_rules::Line;
 
+// Puts a text at a place.
 pub fn put(out: &mut [u8], at: usize, text: &[u8]) -> usize
     requires { ⌜ at + length (now text) ≤ length (now out) ⌝ }
     ensures { λ r. ⌜ Put (now (out .entry)) at (now (text .entry)) (now (out .exit)) r ⌝ }
@@ -25,6 +27,7 @@ pub fn put(out: &mut [u8], at: usize, text: &[u8]) -> usize
     at + n
 }
 
+// Puts one byte at a place.
 fn put_byte(out: &mut [u8], at: usize, byte: u8) -> usize
     requires { ⌜ at < length (now out) ⌝ }
     ensures { λ r. ⌜ Put (now (out .entry)) at (one byte) (now (out .exit)) r ⌝ }
@@ -33,6 +36,7 @@ fn put_byte(out: &mut [u8], at: usize, byte: u8) -> usize
     at + 1
 }
 
+// Puts n blanks at a place.
 fn put_blanks(out: &mut [u8], at: usize, n: usize) -> usize
     requires { ⌜ at + n ≤ length (now out) ⌝ }
     ensures { λ r. ⌜ Put (now (out .entry)) at (replicate n 32) (now (out .exit)) r ⌝ }
@@ -45,7 +49,7 @@ fn put_blanks(out: &mut [u8], at: usize, n: usize) -> usize
     at + n
 }
 
-// A hexadecimal digit, a letter in lower case.
+// A hexadecimal digit; letters are in lower case.
 fn digit(n: u8) -> u8
     requires { ⌜ n < 16 ⌝ }
     ensures { λ r. ⌜ r ≡ digitOf n ⌝ }
@@ -53,7 +57,7 @@ fn digit(n: u8) -> u8
     if n < 10 { 48 + n } else { 87 + n }
 }
 
-// The last n digits of a number, from the last to the first.
+// Puts the last n hexadecimal digits of a number, working from the last to the first.
 fn put_digits(out: &mut [u8], at: usize, n: usize, number: u64) -> usize
     requires { ⌜ at + n ≤ length (now out) ⌝ }
     ensures { λ r. ⌜ Put (now (out .entry)) at (digits n number) (now (out .exit)) r ⌝ }
@@ -68,6 +72,7 @@ fn put_digits(out: &mut [u8], at: usize, n: usize, number: u64) -> usize
     at + n
 }
 
+// Puts the column of the address: 0x, four or more digits, and blanks up to 7 bytes.
 fn put_address(out: &mut [u8], at: usize, address: u64) -> usize
     requires { ⌜ at + length (addressColumn address) ≤ length (now out) ⌝ }
     ensures { λ r. ⌜ Put (now (out .entry)) at (addressColumn address) (now (out .exit)) r ⌝ }
@@ -78,7 +83,8 @@ fn put_address(out: &mut [u8], at: usize, address: u64) -> usize
     put_blanks(out, end, sizes::blanks(7, n + 2))
 }
 
-// A name that is only referenced stands in parentheses, one whose references fail in brackets.
+// The sign before a name: ( for a name that is only noted (grade 0), [ for a symbol that is
+// not borne out (grade 1), else a blank.
 fn opening(grade: u8) -> u8
     ensures { λ r. ⌜ r ≡ openingOf grade ⌝ }
 {
@@ -88,6 +94,7 @@ fn opening(grade: u8) -> u8
     if grade == 1 { b'[' } else { b' ' }
 }
 
+// The sign behind a name, as that before it.
 fn closing(grade: u8) -> u8
     ensures { λ r. ⌜ r ≡ closingOf grade ⌝ }
 {
@@ -97,6 +104,7 @@ fn closing(grade: u8) -> u8
     if grade == 1 { b']' } else { b' ' }
 }
 
+// Puts the column of the name: the name between its two signs, and blanks up to 22 bytes.
 fn put_name(out: &mut [u8], at: usize, grade: u8, name: &[u8]) -> usize
     requires { ⌜ at + length (nameColumn grade (now name)) ≤ length (now out) ⌝ }
     ensures { λ r. ⌜ Put (now (out .entry)) at (nameColumn grade (now (name .entry))) (now (out .exit)) r ⌝ }
@@ -107,6 +115,7 @@ fn put_name(out: &mut [u8], at: usize, grade: u8, name: &[u8]) -> usize
     put_blanks(out, end, sizes::blanks(22, name.len() + 2))
 }
 
+// Puts a blank and the description of the name, if it has one.
 fn put_remark(out: &mut [u8], at: usize, name: &[u8]) -> usize
     requires { ⌜ at + length (remark (describe (now name))) ≤ length (now out) ⌝ }
     ensures { λ r. ⌜ Put (now (out .entry)) at (remark (describe (now (name .entry)))) (now (out .exit)) r ⌝ }
@@ -122,6 +131,7 @@ fn put_remark(out: &mut [u8], at: usize, name: &[u8]) -> usize
     }
 }
 
+// Puts a whole line: address, two blanks, name, a blank, description, line feed.
 pub fn put_line(out: &mut [u8], at: usize, library: &[u8], line: Line) -> usize
     requires { ⌜ at + length (printedLine (now library) line) ≤ length (now out) ⌝ }
     ensures { λ r. ⌜ Put (now (out .entry)) at (printedLine (now (library .entry)) line) (now (out .exit)) r ⌝ }

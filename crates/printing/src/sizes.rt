@@ -9,17 +9,17 @@ use describe::Described;
 use lent::names;
 use listing_rules::Line;
 
-// No description is longer.
+// No description has more bytes than this.
 pub const LONGEST: usize = 88;
 
-// How many blanks fill a text up to a width; a longer text is not cut.
+// How many blanks fill a text of a length up to a width; a longer text is not cut.
 pub fn blanks(width: usize, len: usize) -> usize
     ensures { λ r. ⌜ r ≡ width - len ⌝ }
 {
     if len < width { width - len } else { 0 }
 }
 
-// An address has four digits, or as many more as it needs.
+// How many hexadecimal digits an address is printed with: four, or as many more as it needs.
 pub fn digits(address: u64) -> usize
     ensures { λ r. ⌜ r ≡ 4 + moreDigits 12 (address / 65536) ⌝ }
 {
@@ -35,6 +35,7 @@ pub fn digits(address: u64) -> usize
     n
 }
 
+// How many bytes the column of the address takes.
 fn address(a: u64) -> usize
     ensures { λ r. ⌜ r ≡ length (addressColumn a) ⌝ }
 {
@@ -42,6 +43,7 @@ fn address(a: u64) -> usize
     n + blanks(7, n)
 }
 
+// How many bytes the column of the name takes.
 fn name(grade: u8, bytes: &[u8]) -> usize
     ensures { λ r. ⌜ r ≡ length (nameColumn grade (now (bytes .entry))) ⌝ }
 {
@@ -49,6 +51,7 @@ fn name(grade: u8, bytes: &[u8]) -> usize
     n + blanks(22, n)
 }
 
+// How many bytes the description takes, with the blank before it; 0 if the name has none.
 fn remark(bytes: &[u8]) -> usize
     ensures { λ r. ⌜ r ≡ length (remarkOf (describe (now (bytes .entry)))) ⌝ }
 {
@@ -60,6 +63,7 @@ fn remark(bytes: &[u8]) -> usize
     }
 }
 
+// How many bytes a line takes, with its three blanks between columns and its line feed.
 pub fn line(library: &[u8], l: Line) -> usize
     ensures { λ r. ⌜ r ≡ length (printedLine (now (library .entry)) l) ⌝ }
 {

@@ -1,67 +1,68 @@
-// What a run comes to, as twelve numbers: the refusal's number, or 0; the seven counts, zeros with a refusal; a digest of all that was lent; a digest of the
-// list as the Rust has it; the length of the printed form, and its digest. With a refusal there is no list, and nothing is printed.
+// What a run comes to, as 18 numbers: the refusal's number, or 0; the seven counts, zeros with a refusal; a digest of each of the eight lists as they are left;
+// the length of the printed form, and its digest. With a refusal nothing is printed.
+use crate::digest::of_bytes;
+use crate::digest::of_numbers;
 use lent::names::name;
 use lent::part::Part;
 use lent::refusal::number;
-use lent::rows::cell;
 use printing::Printed;
 use printing::print;
-use recorded::digest::numbers::take_in;
-use recorded::digest::numbers::take_in_all;
-use recorded::digest::numbers::take_in_bytes;
-use recorded::digest::numbers::take_in_part;
 use run::Answer;
 use run::Counts;
 
-// The five lists of the collection, one after another.
-pub fn take_in_collected(
+pub fn digests_of(
     segments: &[u64],
     references: &[u64],
     symbols: &[u64],
     bytes: &[u8],
     masks: &[u8],
-) -> u64 {
-    let rows = take_in_all(take_in_all(take_in_all(0, segments), references), symbols);
-    take_in_bytes(take_in_bytes(rows, bytes), masks)
-}
-
-// The three lists of what was found, behind them.
-pub fn take_in_found(h: u64, placed: &[u64], noted: &[u64], lines: &[u64]) -> u64 {
-    take_in_all(take_in_all(take_in_all(h, placed), noted), lines)
-}
-
-// A line's address, grade and name; the name's bytes, wherever in the library they stand.
-fn take_in_line(h: u64, library: &[u8], lines: &[u64], i: usize) -> u64 {
-    let graded = take_in(take_in(h, cell(lines, 4, i, 0)), cell(lines, 4, i, 1));
-    let part = Part {
-        at: cell(lines, 4, i, 2) as usize,
-        len: cell(lines, 4, i, 3) as usize,
-    };
-    take_in_part(graded, library, part)
-}
-
-fn list_of(library: &[u8], lines: &[u64], n: usize) -> u64 {
-    let mut h = 0;
-    let mut i = 0;
-    while i < n {
-        h = take_in_line(h, library, lines, i);
-        i += 1;
-    }
-    h
-}
-
-// How long the printed form is; 0 without room for it.
-fn print_size(library: &[u8], lines: &[u64], n: usize, text: &mut [u8]) -> usize {
-    match print(library, lines, n, text) {
-        Printed::Written(size) => size,
-        Printed::NoRoom => 0,
-    }
-}
-
-fn done(library: &[u8], lines: &[u64], c: Counts, left: u64, text: &mut [u8]) -> [u64; 12] {
-    let size = print_size(library, lines, c.lines, text);
+    placed: &[u64],
+    noted: &[u64],
+    lines: &[u64],
+) -> [u64; 8] {
     [
-        0,
+        of_numbers(segments),
+        of_numbers(references),
+        of_numbers(symbols),
+        of_bytes(bytes),
+        of_bytes(masks),
+        of_numbers(placed),
+        of_numbers(noted),
+        of_numbers(lines),
+    ]
+}
+
+struct Print {
+    size: usize,
+    digest: u64,
+}
+
+// The printed form; nothing without room for it.
+fn print_of(library: &[u8], lines: &[u64], n: usize, text: &mut [u8]) -> Print {
+    match print(library, lines, n, text) {
+        Printed::Written(size) => Print {
+            size,
+            digest: of_bytes(name(text, Part { at: 0, len: size })),
+        },
+        Printed::NoRoom => Print { size: 0, digest: 0 },
+    }
+}
+
+fn no_counts() -> Counts {
+    Counts {
+        segments: 0,
+        references: 0,
+        symbols: 0,
+        pattern: 0,
+        placed: 0,
+        noted: 0,
+        lines: 0,
+    }
+}
+
+fn answer(number: u64, c: Counts, left: [u64; 8], text: Print) -> [u64; 18] {
+    [
+        number,
         c.segments as u64,
         c.references as u64,
         c.symbols as u64,
@@ -69,10 +70,16 @@ fn done(library: &[u8], lines: &[u64], c: Counts, left: u64, text: &mut [u8]) ->
         c.placed as u64,
         c.noted as u64,
         c.lines as u64,
-        left,
-        list_of(library, lines, c.lines),
-        size as u64,
-        take_in_bytes(0, name(text, Part { at: 0, len: size })),
+        left[0],
+        left[1],
+        left[2],
+        left[3],
+        left[4],
+        left[5],
+        left[6],
+        left[7],
+        text.size as u64,
+        text.digest,
     ]
 }
 
@@ -80,11 +87,18 @@ pub fn answer_of(
     library: &[u8],
     lines: &[u64],
     came: Answer,
-    left: u64,
+    left: [u64; 8],
     text: &mut [u8],
-) -> [u64; 12] {
+) -> [u64; 18] {
     match came {
-        Answer::Done(counts) => done(library, lines, counts, left, text),
-        Answer::Refused(r) => [number(r) as u64, 0, 0, 0, 0, 0, 0, 0, left, 0, 0, 0],
+        Answer::Done(c) => answer(0, c, left, print_of(library, lines, c.lines, text)),
+        Answer::Refused(r) => {
+            answer(
+                number(r) as u64,
+                no_counts(),
+                left,
+                Print { size: 0, digest: 0 },
+            )
+        }
     }
 }

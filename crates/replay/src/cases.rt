@@ -1,17 +1,46 @@
 // The cases of a file, one after another: a header, and then image and library, unless these are those of the case before. Zeros at the end of either are
 // not stored.
+use crate::header::LENT_AT;
+use crate::header::SETTINGS;
+use crate::header::SETTINGS_AT;
+use crate::header::SIZE;
 use crate::header::has_scene;
-use crate::header::length_at;
+use crate::header::told_settings;
+use crate::numbers::eight_at;
+use crate::numbers::four_at;
 use lent::rows::clear_bytes;
-use recorded::scenes::scene::fill;
+
+// How long image and library are.
+pub struct Scene {
+    pub image: usize,
+    pub library: usize,
+}
 
 pub enum Next {
-    Case,
+    Case(Scene),
     End,
     CutShort,
 }
 
-// Whether so many bytes are there, and then the room begins with them and with zeros up to the size.
+// Whether a file starts with the word "runs" and the number of this version, 2.
+pub fn is_known(fd: i32) -> bool {
+    let mut start = [0u8; 8];
+    let n = io::read_full(fd, &mut start);
+    n == 8 && eight_at(&start, 0) == 0x2_736e_7572
+}
+
+// Whether so many bytes are there; then they stand in the room from a place on.
+fn fill(fd: i32, room: &mut [u8], at: usize, size: usize) -> bool {
+    if room.len() < at {
+        return false;
+    }
+    if room.len() - at < size {
+        return false;
+    }
+    io::read_full(fd, &mut room[at..at + size]) == size
+}
+
+// Whether the stored bytes are there; then the room begins with them, and with zeros up to the size.
 fn fill_up(fd: i32, room: &mut [u8], stored: usize, size: usize) -> bool {
     if size < stored {
         return false;
@@ -20,26 +49,69 @@ fn fill_up(fd: i32, room: &mut [u8], stored: usize, size: usize) -> bool {
         return false;
     }
     clear_bytes(&mut room[stored..size]);
-    fill(fd, room, stored)
+    fill(fd, room, 0, stored)
 }
 
-// The next case: its header; image and library begin with what it is run on.
-pub fn next_case(fd: i32, header: &mut [u8], image: &mut [u8], library: &mut [u8]) -> Next {
-    let n = io::read_full(fd, header);
+// The next image and library.
+fn next_scene(fd: i32, image: &mut [u8], library: &mut [u8]) -> Next {
+    let mut sizes = [0u8; 16];
+    if io::read_full(fd, &mut sizes) < 16 {
+        return Next::CutShort;
+    }
+    let scene = Scene {
+        image: four_at(&sizes, 4) as usize,
+        library: four_at(&sizes, 12) as usize,
+    };
+    if !fill_up(fd, image, four_at(&sizes, 0) as usize, scene.image) {
+        return Next::CutShort;
+    }
+    if !fill_up(fd, library, four_at(&sizes, 8) as usize, scene.library) {
+        return Next::CutShort;
+    }
+    Next::Case(scene)
+}
+
+// Whether the rest of a header is there: the settings that are told, and what stands behind all of them.
+fn fill_header(fd: i32, header: &mut [u8]) -> bool {
+    let told = told_settings(header);
+    if SETTINGS < told {
+        return false;
+    }
+    if !fill(fd, header, SETTINGS_AT, told * 8) {
+        return false;
+    }
+    fill(fd, header, LENT_AT, SIZE - LENT_AT)
+}
+
+// The next case: its header, which is zeros before; image and library begin with what it is run on.
+pub fn next_case(
+    fd: i32,
+    header: &mut [u8],
+    image: &mut [u8],
+    library: &mut [u8],
+    before: Scene,
+) -> Next {
+    let mut start = [0u8; 2];
+    let n = io::read_full(fd, &mut start);
     if n == 0 {
         return Next::End;
     }
-    if n < header.len() {
+    if n < 2 {
         return Next::CutShort;
     }
-    if !has_scene(header) {
-        return Next::Case;
-    }
-    if !fill_up(fd, image, length_at(header, 0), length_at(header, 1)) {
+    begin(header, start[0], start[1]);
+    if !fill_header(fd, header) {
         return Next::CutShort;
     }
-    if !fill_up(fd, library, length_at(header, 2), length_at(header, 3)) {
-        return Next::CutShort;
+    if has_scene(header) {
+        return next_scene(fd, image, library);
     }
-    Next::Case
+    Next::Case(before)
+}
+
+fn begin(header: &mut [u8], flags: u8, told: u8) {
+    if 2 <= header.len() {
+        header[0] = flags;
+        header[1] = told;
+    }
 }

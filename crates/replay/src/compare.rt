@@ -1,27 +1,30 @@
 // Case by case: whether the answers agree.
 use crate::cases::Next;
+use crate::cases::Scene;
+use crate::cases::is_known;
 use crate::cases::next_case;
 use crate::header::is_own;
-use crate::header::number_at;
+use crate::header::no_header;
+use crate::header::recorded;
+use crate::show::cut_short;
 use crate::show::differ;
+use crate::show::say;
 use crate::show::total;
 use crate::tally::count;
 use crate::tally::count_differing;
 use crate::tally::differing;
 use crate::trial::run_back;
-use recorded::scenes::show::cut_short;
-use recorded::scenes::show::limited;
 
 // Nothing says that a file ends, so the loop over its cases counts them; no file here has as many.
 const LIMIT: u64 = 100000;
 // So many of the cases that differ are shown.
 const SHOWN: u64 = 20;
 
-// Whether all twelve numbers are those that are recorded.
+// Whether all numbers are those that are recorded.
 fn same(header: &[u8], came: &[u64]) -> bool {
     let mut i = 0;
     while i < came.len() {
-        if came[i] != number_at(header, std::num::wrapping_add_usize(i, 12)) {
+        if came[i] != recorded(header, i) {
             return false;
         }
         i += 1;
@@ -30,8 +33,15 @@ fn same(header: &[u8], came: &[u64]) -> bool {
 }
 
 // Counts a case; it is shown if it differs and few did before.
-fn compare(image: &[u8], library: &[u8], header: &[u8], passed: u64, tally: &mut [u64]) {
-    let came = run_back(image, library, header);
+fn compare(
+    image: &[u8],
+    library: &[u8],
+    scene: Scene,
+    header: &[u8],
+    passed: u64,
+    tally: &mut [u64],
+) {
+    let came = run_back(image, library, scene, header);
     if same(header, &came) {
         count(tally, came[0], came[7], is_own(header));
         return;
@@ -42,26 +52,38 @@ fn compare(image: &[u8], library: &[u8], header: &[u8], passed: u64, tally: &mut
     count_differing(tally);
 }
 
-pub fn compare_all(fd: i32, image: &mut [u8], library: &mut [u8], tally: &mut [u64]) {
+// From case to case; how many there are.
+fn compare_each(fd: i32, image: &mut [u8], library: &mut [u8], tally: &mut [u64]) -> u64 {
+    let mut scene = Scene {
+        image: 0,
+        library: 0,
+    };
     let mut passed = 0;
     while passed < LIMIT {
-        let mut header = [0u8; 137];
-        match next_case(fd, &mut header, image, library) {
-            Next::Case => {
-                compare(image, library, &header, passed, tally);
+        let mut header = no_header();
+        match next_case(fd, &mut header, image, library, scene) {
+            Next::Case(now) => {
+                scene = now;
+                compare(image, library, scene, &header, passed, tally);
             }
             Next::End => {
-                total(tally, passed);
-                return;
+                return passed;
             }
             Next::CutShort => {
                 cut_short(passed);
-                total(tally, passed);
-                return;
+                return passed;
             }
         }
         passed += 1;
     }
-    limited(passed);
+    passed
+}
+
+pub fn compare_all(fd: i32, image: &mut [u8], library: &mut [u8], tally: &mut [u64]) {
+    if !is_known(fd) {
+        say(b"the file of cases is of another version\n");
+        return;
+    }
+    let passed = compare_each(fd, image, library, tally);
     total(tally, passed);
 }

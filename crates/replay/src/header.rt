@@ -1,8 +1,8 @@
-// The header of a case: flags, the settings, and 24 numbers: how long image and library are, how much is lent, and what is recorded.
+// The header of a case: flags, how many settings are told, room for the settings, the lengths of the eight lent lists, and the recorded answer of 18 numbers.
+use crate::numbers::eight_at;
+use crate::numbers::four_at;
 use image::Stretch;
 use listing_rules::Skip;
-use recorded::scenes::load::eight_at;
-use recorded::scenes::load::four_at;
 use run::Settings;
 
 const CHECK: u8 = 1;
@@ -13,11 +13,33 @@ const SCENE: u8 = 4;
 
 const OWN: u8 = 8;
 
-fn has(header: &[u8], flag: u8) -> bool {
-    if header.len() == 0 {
-        return false;
+// The rule set, the minimum, the skip amount, the start and the length of the stretch: what is not told is 0.
+pub const SETTINGS: usize = 5;
+
+pub const SETTINGS_AT: usize = 2;
+
+// Behind the room for the settings: 8 lengths and the answer.
+pub const LENT_AT: usize = 42;
+
+const ANSWER_AT: usize = 74;
+
+pub const SIZE: usize = 146;
+
+const ANSWER: usize = 18;
+
+pub fn no_header() -> [u8; 146] {
+    [0u8; 146]
+}
+
+fn byte_at(header: &[u8], i: usize) -> u8 {
+    if i < header.len() {
+        return header[i];
     }
-    header[0] & flag != 0
+    0
+}
+
+fn has(header: &[u8], flag: u8) -> bool {
+    byte_at(header, 0) & flag != 0
 }
 
 // Whether image and library stand behind it; else they are those of the case before.
@@ -30,38 +52,49 @@ pub fn is_own(header: &[u8]) -> bool {
     has(header, OWN)
 }
 
-fn wide_at(header: &[u8], at: usize) -> usize {
-    eight_at(header, at) as usize
+pub fn told_settings(header: &[u8]) -> usize {
+    byte_at(header, 1) as usize
+}
+
+fn setting(header: &[u8], i: usize) -> u64 {
+    if SETTINGS <= i {
+        return 0;
+    }
+    eight_at(header, SETTINGS_AT + i * 8)
 }
 
 fn skip_of(header: &[u8]) -> Skip {
     if has(header, SKIP) {
-        return Skip::Above(wide_at(header, 17));
+        return Skip::Above(setting(header, 2) as usize);
     }
     Skip::Never
 }
 
 pub fn settings_of(header: &[u8]) -> Settings {
     Settings {
-        rules: eight_at(header, 1),
+        rules: setting(header, 0),
         check: has(header, CHECK),
-        minimum: wide_at(header, 9),
+        minimum: setting(header, 1) as usize,
         skip: skip_of(header),
         stretch: Stretch {
-            start: wide_at(header, 25),
-            len: wide_at(header, 33),
+            start: setting(header, 3) as usize,
+            len: setting(header, 4) as usize,
         },
     }
 }
 
-// Number i of the 24; there are no others.
-pub fn number_at(header: &[u8], i: usize) -> u64 {
-    if 24 <= i {
+// The length of a lent list, by its number from 0 to 7.
+pub fn lent_length(header: &[u8], i: usize) -> usize {
+    if 8 <= i {
         return 0;
     }
-    four_at(header, 41 + i * 4)
+    four_at(header, LENT_AT + i * 4) as usize
 }
 
-pub fn length_at(header: &[u8], i: usize) -> usize {
-    number_at(header, i) as usize
+// A number of the recorded answer.
+pub fn recorded(header: &[u8], i: usize) -> u64 {
+    if ANSWER <= i {
+        return 0;
+    }
+    four_at(header, ANSWER_AT + i * 4)
 }

@@ -1,9 +1,11 @@
-// Runs the whole of libfind on each case of the file that the first argument names, from an image and a library file to the list, and holds what came of it
-// and its printed form against what is recorded (README.md, "What whole runs come to").
+// Runs the whole of libfind on each case of the file that the first argument names, from an image and a library file to the list and its printed form, and
+// holds what came of it against what is recorded (README.md).
 mod answer;
 mod cases;
 mod compare;
+mod digest;
 mod header;
+mod numbers;
 mod show;
 mod tally;
 mod trial;

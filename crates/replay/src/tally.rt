@@ -1,14 +1,14 @@
-// How many cases agree, by what they come to: from 0 on by number, then how many are the Rust's own, how many lines they have, and how many cases differ.
-const NUMBERS: usize = 14;
+// How many cases agree, by what they come to: first by number, then how many are the Rust's own, how many lines they have, and how many cases differ.
+pub const NUMBERS: usize = 32;
 
-const OWN: usize = 14;
+const OWN: usize = 32;
 
-const LINES: usize = 15;
+const LINES: usize = 33;
 
-const DIFFERING: usize = 16;
+const DIFFERING: usize = 34;
 
-pub fn no_case() -> [u64; 17] {
-    [0u64; 17]
+pub fn no_case() -> [u64; 35] {
+    [0u64; 35]
 }
 
 pub fn at(tally: &[u64], i: usize) -> u64 {

@@ -1,9 +1,9 @@
 // A whole run with lent memory that is full of something else before.
 ghost use Prim.Native.Nat.{_≤_};
 use crate::answer::answer_of;
-use crate::answer::take_in_collected;
-use crate::answer::take_in_found;
-use crate::header::length_at;
+use crate::answer::digests_of;
+use crate::cases::Scene;
+use crate::header::lent_length;
 use crate::header::settings_of;
 use lent::names::name;
 use lent::part::Part;
@@ -24,7 +24,7 @@ fn with_lists(
     noted: &mut [u64],
     lines: &mut [u64],
     text: &mut [u8],
-) -> [u64; 12] {
+) -> [u64; 18] {
     let came = find_names(
         image,
         library,
@@ -38,8 +38,16 @@ fn with_lists(
         noted,
         lines,
     );
-    let collected = take_in_collected(segments, references, symbols, bytes, masks);
-    let left = take_in_found(collected, placed, noted, lines);
+    let left = digests_of(
+        segments,
+        references,
+        symbols,
+        bytes,
+        masks,
+        placed,
+        noted,
+        lines,
+    );
     answer_of(library, lines, came, left, text)
 }
 
@@ -63,14 +71,14 @@ fn with_rows(
     symbols: &mut [u64],
     bytes: &mut [u8],
     masks: &mut [u8],
-) -> [u64; 12] {
+) -> [u64; 18] {
     let mut placed = [0xa5a5_a5a5_a5a5_a5a5u64; 8192];
     let mut noted = [0xa5a5_a5a5_a5a5_a5a5u64; 4096];
     let mut lines = [0xa5a5_a5a5_a5a5_a5a5u64; 4096];
     let mut text = [0xa5u8; 32768];
-    let p = at_most(8192, length_at(header, 9));
-    let n = at_most(4096, length_at(header, 10));
-    let l = at_most(4096, length_at(header, 11));
+    let p = at_most(8192, lent_length(header, 5));
+    let n = at_most(4096, lent_length(header, 6));
+    let l = at_most(4096, lent_length(header, 7));
     with_lists(
         image,
         library,
@@ -88,17 +96,17 @@ fn with_rows(
 }
 
 // With as much as is to be lent for the collection.
-fn with_rooms(image: &[u8], library: &[u8], header: &[u8]) -> [u64; 12] {
-    let mut segments = [0xa5a5_a5a5_a5a5_a5a5u64; 1024];
-    let mut references = [0xa5a5_a5a5_a5a5_a5a5u64; 1024];
-    let mut symbols = [0xa5a5_a5a5_a5a5_a5a5u64; 1024];
+fn with_rooms(image: &[u8], library: &[u8], header: &[u8]) -> [u64; 18] {
+    let mut segments = [0xa5a5_a5a5_a5a5_a5a5u64; 4096];
+    let mut references = [0xa5a5_a5a5_a5a5_a5a5u64; 8192];
+    let mut symbols = [0xa5a5_a5a5_a5a5_a5a5u64; 2048];
     let mut bytes = [0xa5u8; 65792];
     let mut masks = [0xa5u8; 65792];
-    let s = at_most(1024, length_at(header, 4));
-    let r = at_most(1024, length_at(header, 5));
-    let y = at_most(1024, length_at(header, 6));
-    let b = at_most(65792, length_at(header, 7));
-    let m = at_most(65792, length_at(header, 8));
+    let s = at_most(4096, lent_length(header, 0));
+    let r = at_most(8192, lent_length(header, 1));
+    let y = at_most(2048, lent_length(header, 2));
+    let b = at_most(65792, lent_length(header, 3));
+    let m = at_most(65792, lent_length(header, 4));
     with_rows(
         image,
         library,
@@ -116,8 +124,8 @@ fn start(room: &[u8], len: usize) -> &[u8] {
 }
 
 // What a run on what image and library begin with comes to.
-pub fn run_back(image: &[u8], library: &[u8], header: &[u8]) -> [u64; 12] {
-    let own_image = start(image, length_at(header, 1));
-    let own_library = start(library, length_at(header, 3));
+pub fn run_back(image: &[u8], library: &[u8], scene: Scene, header: &[u8]) -> [u64; 18] {
+    let own_image = start(image, scene.image);
+    let own_library = start(library, scene.library);
     with_rooms(own_image, own_library, header)
 }

@@ -1,4 +1,5 @@
--- THE DEMANDS, from the contract alone: whatever an entry point gives, if it meets this contract, all of this holds of it. Assumes nothing.
+-- THE DEMANDS, from the contract alone: if an entry point meets this contract, all of the following holds of what it
+-- gives. Assumes nothing.
 use Prim.Native.Nat.{ℕ, _*_, _≤_, _<_}
 use mathlib.Core.Path.{_≡_, sym, ap, _∙_}
 use mathlib.Core.Logic.{_↔_}
@@ -23,7 +24,7 @@ use Rattle.run.specs.Withheld.{same-run, plain-run}
 use Rattle.run.specs.OwnAddress.{Own, own-address}
 use Rattle.run.specs.ListedRows.{at-among, grades, row-is-line}
 
--- the contract of an entry point: its answer and all that is left in lent memory are those of the run
+-- the contract of an entry point: its answer, and all that it leaves in lent memory, are those of the run
 abbrev pub Contract : List ℕ → List ℕ → Settings → Lent → Outcome → Type 0
 Contract image library s lent o = o ≡ run image library s lent
 
@@ -74,12 +75,12 @@ module _ (image library : List ℕ) (s : Settings) (lent : Lent) where
             → Own library (view image (s .stretch)) (modulesIn (file library)) (x .name) (x .address)
         by-line e = rw e λ k. own-address image library s r (getD lines i none) (at-among lines none i number) k
 
--- THE STRETCH: two images of one length that agree outside it give one outcome, all else being equal
+-- THE STRETCH: two images of one length that agree outside the stretch give one outcome, if all else is equal
 pub stretch-alone : (a b library : List ℕ) (s : Settings) (lent : Lent) → Agree a b (s .stretch)
     → (o p : Outcome) → Contract a library s lent o → Contract b library s lent p → o ≡ p
 stretch-alone a b library s lent h o p c d = c ∙ same-run a b library s lent h ∙ sym d
 
--- NOTHING WITHHELD: what is listed is demand 2's list, of the image itself
+-- NOTHING WITHHELD: with an empty stretch the run is that on the image itself, so that its list is demand 2's
 pub nothing-withheld : (image library : List ℕ) (s : Settings) (lent : Lent) → s .stretch .len ≡ 0
     → (o : Outcome) → Contract image library s lent o → o ≡ runSeen image library s lent
 nothing-withheld image library s lent e o c = c ∙ plain-run image library s lent e

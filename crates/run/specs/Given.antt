@@ -1,4 +1,4 @@
--- Document 01's table of refusals, as conditions on what goes into a run. It states; Refused.antt proves.
+-- Document 01's table of refusals, as conditions on what goes into a run. This file states them; Refused.antt proves them.
 use Prim.Native.Nat.{ℕ, _+_, _*_, _≤_, _<_}
 use mathlib.Core.Path.{_≡_}
 use mathlib.Core.Logic.{_⊎_}
@@ -24,28 +24,32 @@ use Rattle.run.specs.Run.{Lent, stages, counted}
 abbrev pub Over : ℕ → List ℕ → ℕ → Type 0
 Over width lent n = length lent < n * width
 
+-- the rows or pattern bytes of the collection do not fit
 abbrev pub CollectionOver : Lent → Counts → Type 0
 CollectionOver lent c =
     Over segmentWidth (lent .segments) (c .segments) ⊎ Over referenceWidth (lent .references) (c .references)
     ⊎ Over symbolWidth (lent .symbols) (c .symbols) ⊎ Over 1 (lent .bytes) (c .pattern) ⊎ Over 1 (lent .masks) (c .pattern)
 
+-- the rows of the search do not fit
 abbrev pub SearchOver : Lent → Counts → Type 0
 SearchOver lent c = Over placedWidth (lent .placed) (c .placed) ⊎ Over notedWidth (lent .noted) (c .noted)
 
+-- the lines do not fit
 abbrev pub ListOver : Lent → Counts → Type 0
 ListOver lent c = Over lineWidth (lent .lines) (c .lines)
 
--- none of 1 to 4 applies
+-- none of refusals 1 to 4 applies
 pub record Accepted (image library : List ℕ) (s : Settings) : Type 0 where
   pub rule-set : s .rules ≤ 1
   pub image-fits : length image ≤ 65536
   pub library-fits : length library ≤ 1048576
   pub stretch-fits : s .stretch .start + s .stretch .len ≤ length image
 
--- none of 5 to 8 applies
+-- none of refusals 5 to 8 applies: the file is read
 abbrev pub IsRead : List ℕ → Type 0
 IsRead library = (modules : List Module) × (next : ℕ) × (file library ≡ read modules next)
 
+-- for a run's image, library, settings and lent lists: when each refusal is given, with all earlier ones ruled out
 module _ (image library : List ℕ) (s : Settings) (lent : Lent) where
   abbrev pub counts : Counts
   counts = counted (stages (view image (s .stretch)) library s)

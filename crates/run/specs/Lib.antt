@@ -1,4 +1,4 @@
--- The whole: the run, what is proved of it, and document 01's examples.
+-- The whole run: its definition, what is proved of it, and document 01's examples.
 pub mod Run
 pub mod Examples
 pub mod Withheld

@@ -1,4 +1,4 @@
--- The whole: what is lent, the order of the refusals, the answer, and what is left in lent memory.
+-- The whole run: what is lent, the stages, the order of the refusals, the answer, and what is left in lent memory.
 use Prim.Native.Nat.{ℕ, _+_}
 use mathlib.Core.Bool.{Bool, _||_}
 use mathlib.Core.List.{List, [], _∷_}
@@ -27,7 +27,7 @@ use Rattle.run.specs.declared.Counts.{Counts}
 use Rattle.run.specs.declared.Answer.{Answer}
 use Rattle.run.specs.declared.Answer.the-variants.{Done, Refused}
 
--- the lent lists of numbers: rows of each stage, and the pattern memory
+-- the eight lent lists of numbers: the rows of each stage, the pattern bytes and the masks
 pub record Lent : Type 0 where
   pub segments : List ℕ
   pub references : List ℕ
@@ -38,11 +38,12 @@ pub record Lent : Type 0 where
   pub noted : List ℕ
   pub lines : List ℕ
 
+-- the lent lists, put together
 abbrev pub lentLists : List ℕ → List ℕ → List ℕ → List ℕ → List ℕ → List ℕ → List ℕ → List ℕ → Lent
 lentLists segments references symbols bytes masks placed noted lines =
     record { segments = segments; references = references; symbols = symbols; bytes = bytes; masks = masks; placed = placed; noted = noted; lines = lines }
 
--- what the stages yield
+-- what the stages give
 pub record Yield : Type 0 where
   pub segments : List Collected
   pub placed : List Placing
@@ -54,10 +55,11 @@ pub record Outcome : Type 0 where
   pub answer : Answer
   pub left : Lent
 
--- the stages, one after another
+-- what the settings ask of the search
 abbrev pub askedOf : Settings → Asked
 askedOf s = record { rules = rulesOf (s .rules); check = s .check; minimum = s .minimum }
 
+-- the stages, one after another, on the cells of a view: reading and collecting, searching, listing
 unfoldable pub stages : List ℕ → List ℕ → Settings → Yield
 stages cells library s =
     let a : Asked = askedOf s in
@@ -66,6 +68,7 @@ stages cells library s =
     let n = noted library cells a segments in
     record { segments = segments; placed = p; noted = n; lines = listing library cells a (s .skip) segments p n }
 
+-- the seven counts: rows of each stage, and pattern bytes
 unfoldable pub counted : Yield → Counts
 counted y = record {
   segments = length (y .segments);
@@ -77,20 +80,22 @@ counted y = record {
   lines = length (y .lines);
 }
 
--- refusal 9: a stage yields more rows or pattern bytes than were lent for it
+-- refusal 9 for the collection: it gives more rows or pattern bytes than were lent; each pattern byte takes a byte and a mask
 abbrev pub collectOver : Lent → Counts → Bool
 collectOver lent c =
     tooMany segmentWidth (lent .segments) (c .segments)
     || (tooMany referenceWidth (lent .references) (c .references)
     || (tooMany symbolWidth (lent .symbols) (c .symbols) || (tooMany 1 (lent .bytes) (c .pattern) || tooMany 1 (lent .masks) (c .pattern))))
 
+-- refusal 9 for the search: it gives more rows than were lent
 abbrev pub searchOver : Lent → Counts → Bool
 searchOver lent c = tooMany placedWidth (lent .placed) (c .placed) || tooMany notedWidth (lent .noted) (c .noted)
 
+-- refusal 9 for the list: it has more lines than were lent
 abbrev pub listOver : Lent → Counts → Bool
 listOver lent c = tooMany lineWidth (lent .lines) (c .lines)
 
--- the refusals in their order, of which the first counts; the view is as long as the image
+-- the refusals of a run in their order, of which the first that applies counts; the view is as long as the image
 unfoldable pub refusals : List ℕ → List ℕ → Settings → Lent → Counts → List (Option Refusal)
 refusals cells library s lent c =
     when (ltb 1 (s .rules)) RuleSet
@@ -104,7 +109,7 @@ refusals cells library s lent c =
     ∷ when (listOver lent c) TooFewRows
     ∷ []
 
--- lent memory set to zero; and filled with what the stages yield, the rest zero
+-- the lent lists set to zero
 unfoldable pub zeroed : Lent → Lent
 zeroed lent = record {
   segments = zeros (length (lent .segments));
@@ -117,6 +122,7 @@ zeroed lent = record {
   lines = zeros (length (lent .lines));
 }
 
+-- the lent lists filled with what the stages give, and zeros behind
 unfoldable pub filledWith : List ℕ → Yield → Lent → Lent
 filledWith library y lent = record {
   segments = padded (length (lent .segments)) (segmentNumbers (y .segments));
@@ -129,31 +135,35 @@ filledWith library y lent = record {
   lines = padded (length (lent .lines)) (lineNumbers (y .lines));
 }
 
--- refusals 1 to 8 write nothing, 9 to 13 set all lent memory to zero
+-- what a refusal leaves: 1 to 8 write nothing, 9 to 13 set all lent lists to zero
 abbrev pub leftBy : Refusal → Lent → Lent
 leftBy r lent = if leb (refusalNumber r) 8 then lent else zeroed lent
 
+-- the outcome of a run with a refusal or without
 abbrev pub outcomeOf : List ℕ → Option Refusal → Yield → Lent → Outcome
 outcomeOf library none y lent = record { answer = Done (counted y); left = filledWith library y lent }
 outcomeOf library (some r) y lent = record { answer = Refused r; left = leftBy r lent }
 
--- the run, from the view, and from the image
+-- the run on the cells of a view
 unfoldable pub runSeen : List ℕ → List ℕ → Settings → Lent → Outcome
 runSeen cells library s lent =
     let y = stages cells library s in
     outcomeOf library (leading (refusals cells library s lent (counted y))) y lent
 
+-- THE RUN on an image: it sees only the view, in which the stretch is withheld
 unfoldable pub run : List ℕ → List ℕ → Settings → Lent → Outcome
 run image library s lent = runSeen (view image (s .stretch)) library s lent
 
--- what an answer says: the number, and the counts, which are zero for every refusal
+-- the number of an answer: 0, or that of the refusal
 abbrev pub numberOf : Answer → ℕ
 numberOf (Done c) = 0
 numberOf (Refused r) = refusalNumber r
 
+-- the counts of a refusal: all zero
 abbrev pub noCounts : Counts
 noCounts = record { segments = 0; references = 0; symbols = 0; pattern = 0; placed = 0; noted = 0; lines = 0 }
 
+-- the counts of an answer
 abbrev pub countsOf : Answer → Counts
 countsOf (Done c) = c
 countsOf (Refused r) = noCounts

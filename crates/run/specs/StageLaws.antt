@@ -1,4 +1,4 @@
--- What each stage of a run can refuse with, and when it does, in words. Assumes nothing.
+-- The refusals that each stage of a run can give, and when it gives them, in words. Assumes nothing.
 use Prim.Native.Nat.{ℕ, _*_, _≤_, _<_}
 use mathlib.Core.Path.{_≡_, refl, sym}
 use mathlib.Core.Logic.{_⊎_, inl, inr, _↔_, Iff·trans}

@@ -1,5 +1,6 @@
--- Demand 3: what is withheld has no influence on anything that a run gives. Assumes nothing.
--- What the stretch takes away is stated where it is defined: `matches-seen` of the crate pattern, `no-target` of the crate fixup.
+-- Demand 3: bytes that are withheld have no influence on anything that a run gives. Assumes nothing.
+-- What the stretch takes away is proved in the crate image: `matches-seen` (MatchLaws.antt) of matches, `no-target`
+-- (fixup/TargetLaws.antt) of references.
 use Prim.Native.Nat.{ℕ}
 use mathlib.Core.Path.{_≡_, ap}
 use mathlib.Core.List.{List}

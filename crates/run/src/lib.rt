@@ -1,10 +1,10 @@
-// The whole run, from an image and a library to the list: what is asked, and what the caller gets.
+// The whole run, from an image and a library to the list: what the caller asks, and what the caller gets.
 use image::Stretch;
 use lent::refusal::Refusal;
 use listing_rules::Skip;
 
-// What the caller asks: the rule set's number (0 as found, 1 as documented), whether references are checked, how many nonzero
-// masks make a match valid, above how many names a position is left out, and what is withheld of the image.
+// What the caller asks: the number of the rule set (0 as found, 1 as documented), whether references are checked, how
+// many masks other than 0 make a match valid, the skip amount, and the stretch of the image that is withheld.
 pub struct Settings {
     pub rules: u64,
     pub check: bool,
@@ -13,7 +13,7 @@ pub struct Settings {
     pub stretch: Stretch,
 }
 
-// How many rows each stage yielded, and how many pattern bytes.
+// How many rows each stage wrote, and how many pattern bytes.
 pub struct Counts {
     pub segments: usize,
     pub references: usize,
@@ -24,7 +24,7 @@ pub struct Counts {
     pub lines: usize,
 }
 
-// What the caller gets, beside what is left in lent memory.
+// The answer of a run: its counts, or a refusal. The rows are in lent memory.
 pub enum Answer {
     Done(Counts),
     Refused(Refusal),

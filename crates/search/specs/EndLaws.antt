@@ -1,4 +1,4 @@
--- The three ends of the search. Assumes nothing.
+-- The three ends of the search: done, image too long, too few rows. Assumes nothing.
 use Prim.Native.Nat.{ℕ, _*_, _<_, _≤_}
 use mathlib.Core.Path.{_≡_, refl, sym, ap, _∙_}
 use mathlib.Core.Bool.{Bool, true, false, _||_, false≢true}

@@ -1,4 +1,4 @@
--- Searching an image for the segments that are stored in lent memory.
+-- The search of an image for the segments that are stored in lent memory: what it comes to, and its laws.
 pub mod Fills
 pub mod FillLaws
 pub mod Outcome

@@ -1,4 +1,4 @@
--- What the search comes to: the answer, and what is left in the memory that was lent to it.
+-- What the search comes to: the answer, and what is left in the lists that were lent to it.
 use Prim.Native.Nat.{ℕ}
 use mathlib.Core.Bool.{Bool, _||_}
 use mathlib.Core.List.{List, [], _∷_}
@@ -17,25 +17,26 @@ use Rattle.search.specs.declared.Searched.{Searched}
 use Rattle.search.specs.declared.Searched.the-variants.{Done, Refused}
 use Rattle.search.specs.visit.Visits.{Stored, segmentsIn}
 
--- the lent lists: those in which the segments are stored, and those of the search's rows
+-- the lent lists: the five in which the segments are stored, and the two for the rows of the search
 pub record SearchLists : Type 0 where
   pub stored : Stored
   pub placed : List ℕ
   pub noted : List ℕ
 
+-- the answer, and the lent lists afterwards
 pub record SearchOutcome : Type 0 where
   pub answer : Searched
   pub left : SearchLists
 
--- refusal 9: more rows than were lent
+-- refusal 9: there are more rows of placed symbols or noted names than were lent
 abbrev pub tooFew : SearchLists → List Placing → List Noting → Bool
 tooFew l p n = tooMany placedWidth (l .placed) (length p) || tooMany notedWidth (l .noted) (length n)
 
--- the refusals in their order, of which the first counts; what is seen is as long as the image
+-- the refusals of the search in their order, of which the first that applies counts; the view is as long as the image
 unfoldable pub refusalOf : List ℕ → SearchLists → List Placing → List Noting → Option Refusal
 refusalOf cells l p n = leading (when (ltb 65536 (length cells)) ImageTooLong ∷ when (tooFew l p n) TooFewRows ∷ [])
 
--- lent memory set to zero; and filled with rows, the rest zero
+-- the lent lists set to zero
 unfoldable pub searchZeroed : SearchLists → SearchLists
 searchZeroed l = record {
   stored = record {
@@ -49,6 +50,7 @@ searchZeroed l = record {
   noted = zeros (length (l .noted));
 }
 
+-- the lent lists with the rows of the search, and zeros behind; the stored segments stay
 unfoldable pub searchFilled : List ℕ → List Placing → List Noting → SearchLists → SearchLists
 searchFilled library p n l = record {
   stored = l .stored;
@@ -56,12 +58,12 @@ searchFilled library p n l = record {
   noted = padded (length (l .noted)) (notedNumbers library n);
 }
 
--- a refusal up to 8 writes nothing, 9 sets all that was lent to zero
+-- the outcome with a refusal or without: a refusal up to 8 writes nothing, 9 sets all lent lists to zero
 abbrev pub searchOutcomeOf : List ℕ → Option Refusal → List Placing → List Noting → SearchLists → SearchOutcome
 searchOutcomeOf library none p n l = record { answer = Done (record { placed = length p; noted = length n }); left = searchFilled library p n l }
 searchOutcomeOf library (some r) p n l = record { answer = Refused r; left = if leb (refusalNumber r) 8 then l else searchZeroed l }
 
--- THE SEARCH of what is seen of an image for the first n segments that are stored
+-- THE SEARCH of the view of an image for the first n segments that are stored
 unfoldable pub searched : List ℕ → Asked → List ℕ → ℕ → SearchLists → SearchOutcome
 searched cells a library n l =
     let gs = segmentsIn (l .stored) n in

@@ -1,4 +1,4 @@
--- The index of an image's bytes, and the byte of a pattern whose links are followed.
+-- The index of an image's bytes, and the anchor of a pattern: the byte whose links are followed.
 pub mod Index
 pub mod IndexLaws
 pub mod Anchor

@@ -1,4 +1,4 @@
--- Noting names, and whether references hold.
+-- Names are noted, and whether references hold.
 pub mod Noting
 pub mod NotingLaws
 pub mod ReferLaws

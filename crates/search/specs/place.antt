@@ -1,3 +1,3 @@
--- Placing symbols.
+-- Symbols are placed.
 pub mod Placing
 pub mod PlacingLaws

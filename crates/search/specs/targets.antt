@@ -1,4 +1,4 @@
--- Where references lead, and what holds there.
+-- The targets of references, and which segments match there.
 pub mod Seats
 pub mod MatchingLaws
 pub mod CountLaws

@@ -1,4 +1,4 @@
--- Visiting the matches of the segments that are stored in lent memory.
+-- The matches of the stored segments are gone over, one after another.
 pub mod Visits
 pub mod VisitLaws
 pub mod Leading

@@ -14,7 +14,7 @@ use lent::rows::clear;
 use lent::rows::clear_bytes;
 use search_rules::Asked;
 
-// All that was lent is set to zero.
+// Sets all seven lists that were lent, those of the collection and those of the search, to zero.
 pub fn clear_all(
     segments: &mut [u64],
     references: &mut [u64],
@@ -36,8 +36,9 @@ pub fn clear_all(
     clear(noted);
 }
 
-// Searches the image, with a stretch withheld, for the first n segments that are stored, and writes rows of placed symbols and of
-// noted names. An image that is too long is refused, and nothing is written; too few rows are refused, and all that was lent is zero.
+// Searches the image, of which the stretch `s` is withheld, for the first n segments in the five lists of the
+// collection, and writes rows of placed symbols and of noted names. Names are parts of `library`. An image that is too
+// long is refused, and nothing is written; if there are too few rows all seven lists are left zero.
 pub fn search(
     image: &[u8],
     s: Stretch,

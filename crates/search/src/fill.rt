@@ -1,4 +1,4 @@
-// All rows of the search, in tables that are made for it.
+// The rows of the search, filled with the help of tables that are made for it.
 ghost use mathlib.Core.Path.{_≡_};
 ghost use mathlib.Core.Bool.{_||_};
 ghost use Prim.Native.Nat.{_≤_};
@@ -17,7 +17,7 @@ use tables::zeros::bucket_heads;
 use tables::zeros::byte_heads;
 use tables::zeros::place_links;
 
-// Whether there was no room for a row.
+// Whether there was no room for a row of either kind.
 pub fn lacks_room(f: Fills) -> bool
     ensures { λ r. ⌜ r ≡ (f .placed .over || f .noted .over) ⌝ }
 {
@@ -26,6 +26,9 @@ pub fn lacks_room(f: Fills) -> bool
     placed.over || noted.over
 }
 
+// Fills the rows of placed symbols and of noted names from all matches of the first n segments: makes the byte index of
+// the image and the heads of both kinds of rows, and then goes over the segments. The image with the stretch `s`, what
+// is asked, the library and the five lists of the collection are only read.
 pub fn fill_rows(
     image: &[u8],
     s: Stretch,

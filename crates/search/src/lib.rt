@@ -1,4 +1,4 @@
-// Searching an image for segments that are stored in lent memory.
+// The search of an image for segments that are stored in lent memory.
 pub mod byte_index;
 pub mod entry;
 pub mod fill;
@@ -11,13 +11,13 @@ pub mod visit;
 
 use lent::refusal::Refusal;
 
-// How many rows were written.
+// How many rows of placed symbols and of noted names were written.
 pub struct SearchCounts {
     pub placed: usize,
     pub noted: usize,
 }
 
-// What the search comes to.
+// What the search comes to: how many rows were written, or a refusal.
 pub enum Searched {
     Done(SearchCounts),
     Refused(Refusal),

@@ -1,4 +1,4 @@
-// The matches of a pattern, one after another.
+// The matches of a pattern, one after another, ascending.
 ghost use Rattle.search.specs.byte_index.Index.{Heads};
 ghost use Rattle.search.specs.matches.Cursor.{Walk, Search, Started, Stepped};
 ghost use Rattle.search.specs.declared.matches.MatchCursor.the-variants.{Along};
@@ -9,8 +9,8 @@ use image::Stretch;
 use image::match_at;
 use image::next_match;
 
-// Where a search stands: at a link of the byte at `anchor`, at a place from which on each is tried, at the one place to try, or
-// past the last.
+// Where the search for a pattern stands: at a link of the anchor's byte, at a place from which on each place is tried,
+// at the one address to try, or past the last match.
 pub enum MatchCursor {
     Along { anchor: usize, link: u32 },
     Plain(usize),
@@ -18,14 +18,14 @@ pub enum MatchCursor {
     Over,
 }
 
-// A match, and where the search goes on.
+// The next match, and where the search goes on.
 pub enum Next {
     At { at: usize, rest: MatchCursor },
     Done,
 }
 
-// How many places are too many for an anchor: more than half of the image's, or more than those at which so long a pattern fits.
-// It is quicker then to try each place.
+// A byte that the image has so many times, or more, makes no anchor: more than half as often as the image has bytes, or
+// about as often as there are places where the pattern fits. It is quicker then to try each place.
 fn most_places(image: usize, pattern: usize) -> usize {
     if image < pattern {
         return 0;
@@ -37,7 +37,7 @@ fn most_places(image: usize, pattern: usize) -> usize {
     image / 2 + 1
 }
 
-// A search with all matches before it.
+// The cursor before the first match of a pattern. `first` has the first place of each byte in the image, and the bytes' counts.
 pub fn start(image: &[u8], seat: Seat, bytes: &[u8], masks: &[u8], first: &[u32]) -> MatchCursor
     requires { ⌜ Heads (now image) (now first) ⌝ }
     ensures { λ r. ⌜ Started (now (image .entry)) seat (now (bytes .entry)) (now (masks .entry)) r ⌝ }
@@ -54,7 +54,7 @@ pub fn start(image: &[u8], seat: Seat, bytes: &[u8], masks: &[u8], first: &[u32]
     }
 }
 
-// The next match along the links of the anchor's byte.
+// The next match, found along the links (`next`) of the anchor's byte from the link `from` on.
 fn step_along(
     image: &[u8],
     s: Stretch,
@@ -84,7 +84,7 @@ fn step_along(
     Next::Done
 }
 
-// The next match, with a stretch withheld.
+// The next match of a pattern from a cursor on, with the stretch `s` of the image withheld.
 pub fn next_place(
     image: &[u8],
     s: Stretch,

@@ -4,7 +4,7 @@ pub mod refer;
 
 use tables::fill::Fill;
 
-// Whether references hold, and how far the noted rows are filled.
+// Whether all references that were gone over hold, and how far the rows of noted names are filled after them.
 pub struct Referred {
     pub holds: bool,
     pub fill: Fill,

@@ -1,4 +1,4 @@
-// Symbols of a match, placed in lent memory.
+// The symbols of a match are placed in lent memory.
 ghost use mathlib.Core.Path.{_≡_};
 ghost use lib.ListN.{length};
 ghost use Rattle.tables.specs.fill.Filling.{oneMore, putMore};
@@ -21,7 +21,7 @@ use tables::by_name::set_heads;
 use tables::fill::Fill;
 use tables::fill::one_more;
 
-// One row more, behind those before, if there is room.
+// Puts one more row of a placed symbol behind the rows before it, if there is room.
 fn append_placed(m: &mut [u64], f: Fill, row: Placed) -> Fill
     ensures { λ r. ⌜ (now (m .exit) ≡ putMore placedLayout f row (now (m .entry))) × (r ≡ oneMore f 8 (length (now (m .entry)))) ⌝ }
 {
@@ -33,7 +33,9 @@ fn append_placed(m: &mut [u64], f: Fill, row: Placed) -> Fill
     next
 }
 
-// A symbol of a match at `base`, in an image of `end` bytes. It is omitted at or past the end, and where its name stands already.
+// Places the symbol `y` of a match of segment `number` at `base`, in an image of `end` bytes. A symbol at the image's
+// end or past it is omitted, and so is a symbol whose name is placed at that position already. `heads` has the heads of
+// the buckets by which rows of placed symbols are found; `f` says how far these rows are filled.
 pub fn place_symbol(
     library: &[u8],
     end: usize,
@@ -85,7 +87,7 @@ pub fn place_symbol(
     more
 }
 
-// The symbols of a part of the rows, in their order.
+// Places the symbols in a part of the rows, in their order; the other parameters are those of `place_symbol`.
 pub fn place_symbols(
     library: &[u8],
     end: usize,

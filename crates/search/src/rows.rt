@@ -1,4 +1,4 @@
-// The rows of the search in lent memory: placed symbols and noted names, by number.
+// The rows of the search in lent memory, read and written by number: placed symbols and noted names. Any numbers make a row.
 ghost use mathlib.Core.Path.{_≡_};
 ghost use Rattle.lent.specs.Rows.{putRow};
 ghost use Rattle.search_rules.specs.SearchRows.{placedWidth, notedWidth, placedCells, notedCells};
@@ -11,6 +11,7 @@ use search_rules::PLACED_WIDTH;
 use search_rules::Placed;
 use segments::SegmentNumber;
 
+// The placed symbol in row i, made of zeros where there is no such row.
 pub fn placed_at(m: &[u64], i: usize) -> Placed
     ensures { λ r. ⌜ r ≡ placedAt (now (m .entry)) i ⌝ }
 {
@@ -29,6 +30,7 @@ pub fn placed_at(m: &[u64], i: usize) -> Placed
     }
 }
 
+// Puts a placed symbol into row i; without such a row the memory stays as it was.
 pub fn put_placed(m: &mut [u64], i: usize, row: Placed)
     ensures { λ _. ⌜ now (m .exit) ≡ putRow placedWidth (now (m .entry)) i (placedCells row) ⌝ }
 {
@@ -45,6 +47,7 @@ pub fn put_placed(m: &mut [u64], i: usize, row: Placed)
     rows::put(m, i, &cells);
 }
 
+// The noted name in row i, made of zeros where there is no such row.
 pub fn noted_at(m: &[u64], i: usize) -> Noted
     ensures { λ r. ⌜ r ≡ notedAt (now (m .entry)) i ⌝ }
 {
@@ -61,6 +64,7 @@ pub fn noted_at(m: &[u64], i: usize) -> Noted
     }
 }
 
+// Puts a noted name into row i; without such a row the memory stays as it was.
 pub fn put_noted(m: &mut [u64], i: usize, row: Noted)
     ensures { λ _. ⌜ now (m .exit) ≡ putRow notedWidth (now (m .entry)) i (notedCells row) ⌝ }
 {

@@ -1,4 +1,4 @@
-// Where the references of a match lead, and what holds there.
+// The targets of a match's references, and which segments match there.
 ghost use mathlib.Core.Path.{_≡_};
 ghost use Prim.Native.Nat.{_+_};
 ghost use mathlib.Core.Bool.{not};
@@ -19,7 +19,8 @@ use segments::Reference;
 use segments::SegmentNumber;
 use segments::rows::segment_at;
 
-// The target of a reference of a match at `position`. One that reads past the image's end has none; no sum is taken there.
+// The target of a reference of a match at `position`. A reference that reads past the image's end has none, which is
+// found before any sum is taken that could wrap.
 pub fn target_of(image: &[u8], s: Stretch, rules: Rules, position: usize, r: Reference) -> Target
     ensures { λ t. ⌜ t ≡ target (view (now (image .entry)) s) rules (position + r .place) (r .kind) (r .offset) ⌝ }
 {
@@ -34,7 +35,7 @@ pub fn target_of(image: &[u8], s: Stretch, rules: Rules, position: usize, r: Ref
     find_target(image, s, rules, position + place, kind, r.offset as u64)
 }
 
-// Whether a pattern may stand at a place.
+// Whether a pattern may stand at a place at all.
 fn may_stand(seat: Seat, at: usize) -> bool
     ensures { λ r. ⌜ r ≡ mayStand seat at ⌝ }
 {
@@ -44,8 +45,8 @@ fn may_stand(seat: Seat, at: usize) -> bool
     }
 }
 
-// Whether a place is a match of the segment of a number: one test there, and no table of matches. A number that is not below n
-// has no segment.
+// Whether the segment of a number matches at a place: the pattern is compared there, and no table of matches is kept. A
+// number that is not below n has no segment, and so no match.
 pub fn is_match(
     image: &[u8],
     s: Stretch,
@@ -76,7 +77,7 @@ pub fn is_match(
     )
 }
 
-// Whether so many masks are not zero.
+// Whether at least so many masks are not 0.
 pub fn reaches(masks: &[u8], least: usize) -> bool
     ensures { λ r. ⌜ r ≡ leb least (length (keep (λ mask. not (eqb mask 0)) (now (masks .entry)))) ⌝ }
 {

@@ -1,4 +1,4 @@
-// The matches of segments that are stored in lent memory, one after another: their references note names, their symbols are placed.
+// The matches of all stored segments, one after another: the references of each match note names, and its symbols are placed.
 pub mod all;
 pub mod matched;
 pub mod segment;

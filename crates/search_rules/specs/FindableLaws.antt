@@ -1,4 +1,4 @@
--- The rows of the search are ones that are found by key and name. Assumes nothing.
+-- The rows of the search can be found by key and name: they have what such a table asks for. Assumes nothing.
 use mathlib.Core.Path.{refl}
 use native.Mathlib.Omega.{arith}
 use Rattle.tables.specs.by_name.Readable.{Reads}

@@ -1,4 +1,4 @@
--- Searching: matches and their references, symbols placed, names noted, and the rows of both.
+-- The rules of the search: matches and their references, symbols placed, names noted, and the rows of both.
 pub mod Search
 pub mod SearchLaws
 pub mod SearchRows

@@ -1,4 +1,4 @@
--- The matches of all segments, and what they give: symbols placed, public references noted.
+-- The matches of all segments, the symbols that they place, and the names that their references note.
 use Prim.Native.Nat.{ℕ, _+_}
 use mathlib.Core.Bool.{Bool, true, false, not, _&&_, _||_}
 use mathlib.Core.List.{List, [], _++_, map}
@@ -20,13 +20,13 @@ use Rattle.segments.specs.declared.Symbol.{Symbol}
 use Rattle.segments.specs.Collect.{Collected}
 use Rattle.search_rules.specs.declared.Asked.{Asked}
 
--- a match: its segment, with its number, and its position
+-- a match: a segment with its number, and the position at which it matches
 pub record Match : Type 0 where
   pub number : ℕ
   pub segment : Collected
   pub position : ℕ
 
--- a symbol placed, by which match; and a public reference noted
+-- a symbol placed at a position, and the match that placed it: its segment's number and its position, `base`
 pub record Placing : Type 0 where
   pub position : ℕ
   pub name : Part
@@ -34,72 +34,82 @@ pub record Placing : Type 0 where
   pub segment : ℕ
   pub base : ℕ
 
+-- a name noted at a target
 pub record Noting : Type 0 where
   pub target : ℕ
   pub name : Part
   pub valid : Bool
 
--- where a segment matches, where the segment of a number does, and all matches by segment and position
+-- the positions at which a segment matches
 abbrev pub positions : List ℕ → Collected → List ℕ
 positions cells g = matches cells (g .seat) (g .bytes) (g .masks)
 
+-- the positions at which the segment of a number matches; without such a segment there are none
 unfoldable pub positionsOf : List ℕ → List Collected → SegmentNumber → List ℕ
 positionsOf cells segments number = getD (map (positions cells) segments) (number .0) []
 
+-- the matches of one segment
 abbrev pub matchesOf : List ℕ → ℕ × Collected → List Match
 matchesOf cells (number, g) = map (λ at. record { number = number; segment = g; position = at }) (positions cells g)
 
+-- the matches of all segments, by segment number and then by position
 unfoldable pub allMatches : List ℕ → List Collected → List Match
 allMatches cells segments = joined (matchesOf cells) (numbered 0 segments)
 
--- a match is valid if its count of nonzero masks reaches the minimum
+-- a segment's matches are valid: at least the minimum of its masks are not 0
 unfoldable pub isValid : Asked → Collected → Bool
 isValid a g = leb (a .minimum) (length (keep (λ mask. not (eqb mask 0)) (g .masks)))
 
+-- the target of a reference of a match at a position
 abbrev pub targetOf : List ℕ → Asked → ℕ → Reference → Target
 targetOf cells a position r = target cells (a .rules) (position + r .place) (r .kind) (r .offset)
 
--- a reference with no target fails; a segment reference holds if its target is a match of that segment; a public one holds
+-- a reference without a target does not hold; a reference to a segment holds if that segment matches at the target; a
+-- reference to a name holds
 abbrev pub holdsAt : List ℕ → List Collected → Goal → Target → Bool
 holdsAt cells segments goal Nowhere = false
 holdsAt cells segments (Goal.Segment number) (At t) = isIn (positionsOf cells segments number) t
 holdsAt cells segments (Goal.Name name) (At t) = true
 
+-- all references of a match hold
 unfoldable pub holds : List ℕ → Asked → List Collected → Match → Bool
 holds cells a segments m =
     all (λ r. holdsAt cells segments (r .goal) (targetOf cells a (m .position) r)) (m .segment .references)
 
--- what the public references of a segment note where it matches at a position
+-- what a reference notes: nothing without a target, or if its goal is a segment; else the name at the target
 abbrev pub noteAt : Bool → Goal → Target → List Noting
 noteAt valid goal Nowhere = []
 noteAt valid (Goal.Segment number) (At t) = []
 noteAt valid (Goal.Name name) (At t) = one (record { target = t; name = name; valid = valid })
 
+-- what the references of a segment note if the segment matches at a position
 unfoldable pub notes : List ℕ → Asked → Collected → ℕ → List Noting
 notes cells a g position = joined (λ r. noteAt (isValid a g) (r .goal) (targetOf cells a position r)) (g .references)
 
--- a row notes a name at a target; some row does
+-- a row notes this name at this target
 abbrev pub notesIt : List ℕ → ℕ → Part → Noting → Bool
 notesIt library at name n = eqb (n .target) at && sameName library (n .name) name
 
+-- some row notes this name at this target
 abbrev pub isNoted : List ℕ → List Noting → ℕ → Part → Bool
 isNoted library rows at name = any (notesIt library at name) rows
 
--- a name is noted at a target once, and is valid if any match that noted it was
+-- the row r after one more noting: it becomes valid if it notes the same name at the same target and the new noting is valid
 abbrev pub alsoNoted : List ℕ → Noting → Noting → Noting
 alsoNoted library new r =
     record { target = r .target; name = r .name; valid = r .valid || (notesIt library (new .target) (new .name) r && new .valid) }
 
+-- the rows after one more noting: a name has one row for a target, that of its first noting
 unfoldable pub note : List ℕ → List Noting → Noting → List Noting
 note library rows new =
     if isNoted library rows (new .target) (new .name) then map (alsoNoted library new) rows else rows ++ one new
 
--- all notings, by match and reference; those of a match that fails its check stay
+-- the names that all matches note, by match and reference; what a match notes stays, whether its references hold or not
 unfoldable pub noted : List ℕ → List ℕ → Asked → List Collected → List Noting
 noted library cells a segments =
     fold (note library) [] (joined (λ m. notes cells a (m .segment) (m .position)) (allMatches cells segments))
 
--- the symbols that a match places: with checking on none if a reference fails
+-- a symbol of a match, placed at match position + offset
 abbrev pub symbolAt : Asked → Match → Symbol → Placing
 symbolAt a m y = record {
   position = m .position + y .offset;
@@ -109,19 +119,22 @@ symbolAt a m y = record {
   base = m .position;
 }
 
+-- the symbols that a match places: with checking on, none if one of its references does not hold
 unfoldable pub symbolsAt : List ℕ → Asked → List Collected → Match → List Placing
 symbolsAt cells a segments m =
     if a .check && not (holds cells a segments m) then [] else map (symbolAt a m) (m .segment .symbols)
 
--- a name is placed at a position
+-- some row places this name at this position
 abbrev pub isPlaced : List ℕ → List Placing → ℕ → Part → Bool
 isPlaced library rows at name = any (λ p. eqb (p .position) at && sameName library (p .name) name) rows
 
--- at one position the first symbol of a name stays; one at or past the image's end is omitted
+-- the rows after one more symbol: of the symbols of one name at one position the first stays; a symbol at the image's
+-- end or past it is omitted
 unfoldable pub place : List ℕ → ℕ → List Placing → Placing → List Placing
 place library end rows new =
     if leb end (new .position) || isPlaced library rows (new .position) (new .name) then rows else rows ++ one new
 
+-- the symbols that all matches place, by match and symbol
 unfoldable pub placed : List ℕ → List ℕ → Asked → List Collected → List Placing
 placed library cells a segments =
     fold (place library (length cells)) [] (joined (symbolsAt cells a segments) (allMatches cells segments))

@@ -1,4 +1,4 @@
--- The rows of the search by their numbers.
+-- The rows of the search, read from memory by their numbers.
 use Prim.Native.Nat.{ℕ}
 use mathlib.Core.List.{List}
 use Rattle.lent.specs.Rows.{rowAt}

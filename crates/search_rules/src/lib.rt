@@ -1,23 +1,23 @@
-// Searching an image for the segments: symbols placed, and names noted by references.
+// The rules of the search: what is asked of it, and the symbols that it places and the names that it notes, as rows.
 use image::fixup::Rules;
 use lent::part::Part;
 use segments::SegmentNumber;
 
-// What is asked of a search: the rule set, whether references are checked, and how many nonzero masks make a match valid.
+// What is asked of a search: the rule set, whether references are checked, and how many masks other than 0 make a match valid.
 pub struct Asked {
     pub rules: Rules,
     pub check: bool,
     pub minimum: usize,
 }
 
-// How many numbers a row of a placed symbol has, and a row of a noted name.
+// How many numbers the row of a placed symbol has.
 pub const PLACED_WIDTH: usize = 8;
 
+// How many numbers the row of a noted name has.
 pub const NOTED_WIDTH: usize = 6;
 
-// A symbol placed at a position, by the match of a segment at `base`. Its links are each one more than the number of an
-// earlier row, or 0: `link` leads to the newest of the same position, `alike` to the newest whose position and name share a
-// bucket with these.
+// A symbol placed at a position, by the match of a segment at `base`. A link is one more than the number of an earlier row, or
+// 0: `link` leads to the newest row with the same position, `alike` to the newest row in the same bucket of position and name.
 pub struct Placed {
     pub position: usize,
     pub name: Part,
@@ -28,8 +28,8 @@ pub struct Placed {
     pub alike: usize,
 }
 
-// A name noted at a target by a reference. Its links are as those of a placed symbol, by the low 16 bits of the target, and by
-// target and name.
+// A name noted at a target by a reference. `link` leads to the newest earlier row with the same low 16 bits of the
+// target, `alike` to the newest in the same bucket of target and name.
 pub struct Noted {
     pub target: u64,
     pub name: Part,

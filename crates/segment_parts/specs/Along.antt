@@ -1,4 +1,4 @@
--- On the way along links: what is still to be met, and that whoever adds or merges it has done so with all.
+-- On the way along links: which things are still to be met, and that adding or merging these finishes the work on all.
 use Prim.Native.Nat.{ℕ}
 use mathlib.Core.Path.{_≡_}
 use mathlib.Core.List.{List}

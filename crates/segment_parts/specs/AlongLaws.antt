@@ -1,4 +1,4 @@
--- From link to link. Assumes nothing.
+-- Steps from link to link: one more thing is met. Assumes nothing.
 use Prim.Native.Nat.{ℕ, _-_, _<_, _≤_}
 use mathlib.Core.Path.{_≡_, refl, sym, ap, _∙_}
 use mathlib.Core.List.{List}

@@ -1,4 +1,4 @@
--- The symbols that are added, by which public definitions a segment carries.
+-- The symbols that are put, by which public definitions a segment carries.
 use Prim.Native.Nat.{ℕ, _+_, _-_}
 use mathlib.Core.Path.{_≡_}
 use mathlib.Core.Bool.{Bool, true, _&&_}

@@ -1,4 +1,4 @@
--- What pattern memory holds after contents were merged into a segment's stretch of it.
+-- What pattern memory holds after contents were merged into one segment's part of it.
 use Prim.Native.Nat.{ℕ}
 use mathlib.Core.Path.{_≡_}
 use mathlib.Core.List.{List}

@@ -1,4 +1,4 @@
--- The references that are added, by what a table of ids tells.
+-- The references that are put, by what a table of ids tells.
 use Prim.Native.Nat.{ℕ, _+_, _<_, _≤_, _^_}
 use mathlib.Core.Path.{_≡_}
 use mathlib.Core.List.{List}

@@ -1,4 +1,4 @@
--- A content that is read again is the one that was gathered. Assumes nothing.
+-- A content that is read again is the content that was gathered. Assumes nothing.
 use Prim.Native.Nat.{ℕ}
 use mathlib.Core.Path.{_≡_, sym, ap, _∙_}
 use mathlib.Core.List.{List}

@@ -1,4 +1,5 @@
-// What the contents and the public definitions of an id leave in lent memory, met one after another along their links.
+// The parts of a segment in lent memory: its pattern, its references and its symbols, made from the contents and the
+// public definitions that are met along links.
 pub mod carried;
 pub mod merge;
 pub mod patterns;

@@ -1,3 +1,3 @@
-// Contents merged into pattern memory: their masks under their fixups, and bytes or masks ORed into a stretch of it.
+// Contents are merged into pattern memory: the masks of a content, and bytes or masks ORed into a segment's part of the memory.
 pub mod masks;
 pub mod stretch;

@@ -1,4 +1,4 @@
-// The patterns of segments: contents merged into the stretch of pattern memory that a segment has.
+// The patterns of segments: contents are merged into the part of pattern memory that a segment has.
 ghost use mathlib.Core.Path.{_≡_};
 ghost use Prim.Native.Nat.{_<_, _≤_};
 ghost use lib.ListN.{length};
@@ -15,14 +15,15 @@ use library::items::contents::next_content;
 use omf51::Content;
 use tables::links::number_at;
 
-// Where something is merged: the stretch of a segment, and the offset in it.
+// Where a content is merged: the start and size of its segment's pattern, and the offset in it.
 pub struct Spot {
     pub start: usize,
     pub size: usize,
     pub offset: usize,
 }
 
-// The masks of `len` bytes are made apart, since those of an earlier content stay where they are set.
+// Makes the masks of a content of `len` bytes in `apart`, and merges them into the masks of its segment. They are made
+// apart, since a fixup overwrites only masks of its own content, while merging keeps the bits of earlier contents.
 fn merge_masks(
     library: &[u8],
     fixups: Cursor,
@@ -38,7 +39,7 @@ fn merge_masks(
     merge_at(masks, spot.start, spot.size, spot.offset, &apart[0..len]);
 }
 
-// One content, with the fixups that follow it.
+// Merges one content, with the fixups that follow it, into the bytes and the masks at a spot of pattern memory.
 pub fn merge_content(
     library: &[u8],
     content: Content,
@@ -57,7 +58,9 @@ pub fn merge_content(
     merge_masks(library, fixups, len, spot, masks, apart);
 }
 
-// All contents from a link on.
+// Merges all contents that are met from a link on into the pattern of one segment, each at its own offset. `next` and
+// `places` are the links between the module's contents and their places in the library; the pattern is the `size` bytes
+// from `start` on in `bytes` and `masks`; `apart` is room for the masks of one content.
 pub fn merge_along(
     library: &[u8],
     link: u32,

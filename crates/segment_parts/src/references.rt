@@ -1,4 +1,4 @@
-// The references of contents.
+// The references of a segment, as the fixups of its contents leave them.
 ghost use mathlib.Core.Path.{_≡_};
 ghost use lib.ListN.{length};
 ghost use Rattle.segments.specs.SegmentLayouts.{referenceLayout};
@@ -18,6 +18,7 @@ use segments::append::append_reference;
 use tables::fill::Fill;
 use tables::links::number_at;
 
+// Puts the reference that a fixup leaves, if it leaves one.
 fn append_left(leaves: Leaves, m: &mut [u64], f: Fill) -> Fill
     ensures { λ r. ⌜ Adds referenceLayout (leftBy leaves) (now (m .entry)) f (now (m .exit)) r × (length (now (m .exit)) ≡ length (now (m .entry))) ⌝ }
 {
@@ -27,8 +28,8 @@ fn append_left(leaves: Leaves, m: &mut [u64], f: Fill) -> Fill
     }
 }
 
-// The references that the fixups from a cursor on leave, in a module whose first segment has this number; `base` is added to
-// the places.
+// Puts the references that the fixups from a cursor on leave, behind the rows of `m` that are filled before. `table` tells
+// what the module's ids lead to; `number` is that of the module's first segment; `base` is added to the fixups' locations.
 pub fn refer(
     library: &[u8],
     table: &[u64],
@@ -58,7 +59,8 @@ pub fn refer(
     }
 }
 
-// Those of all contents from a link on.
+// Puts the references of all contents that are met from a link on, each with its content's offset added to its
+// location. `next` and `places` are the links between the module's contents and their places in the library.
 pub fn refer_along(
     library: &[u8],
     table: &[u64],

@@ -1,4 +1,4 @@
-// The symbols of segments, from the public definitions of their ids.
+// The symbols of a segment, from the public definitions of its id.
 ghost use mathlib.Core.Path.{_≡_};
 ghost use Prim.Native.Nat.{_-_, _<_, _^_};
 ghost use Rattle.segment_parts.specs.Naming.{carriesAt, baseOf, NamesOne, NamesAlong};
@@ -11,6 +11,7 @@ use segments::append::append_symbol;
 use tables::fill::Fill;
 use tables::links::number_at;
 
+// Whether a segment carries a public definition of its id with this offset.
 fn carries(c: Carried, offset: usize) -> bool
     ensures { λ r. ⌜ r ≡ carriesAt c offset ⌝ }
 {
@@ -25,6 +26,7 @@ fn carries(c: Carried, offset: usize) -> bool
     }
 }
 
+// The offset of the symbol that a public definition with this offset becomes.
 fn offset_in(c: Carried, offset: usize) -> usize
     ensures { λ r. ⌜ r ≡ offset - baseOf c ⌝ }
 {
@@ -42,13 +44,15 @@ fn offset_in(c: Carried, offset: usize) -> usize
     }
 }
 
+// A byte as a size.
 fn wide(x: u8) -> usize
     ensures { λ r. ⌜ r ≡ x ⌝ }
 {
     x as usize
 }
 
-// The public definition whose offset stands at a place of the library.
+// Puts the symbol of a public definition, if the segment carries it. `place` is where the definition's offset stands in
+// the library: the name's length follows three bytes later, and then the name.
 pub fn append_public(library: &[u8], place: usize, c: Carried, m: &mut [u64], f: Fill) -> Fill
     requires { ⌜ place < 2 ^ 32 ⌝ }
     ensures { λ r. ⌜ NamesOne (now (library .entry)) place c (now (m .entry)) f (now (m .exit)) r ⌝ }
@@ -67,7 +71,8 @@ pub fn append_public(library: &[u8], place: usize, c: Carried, m: &mut [u64], f:
     f
 }
 
-// All of them from a link on.
+// Puts the symbols of all public definitions that are met from a link on. `next` and `places` are the links between the
+// module's public definitions and their places in the library.
 pub fn name_along(
     library: &[u8],
     link: u32,

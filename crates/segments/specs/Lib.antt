@@ -1,4 +1,4 @@
--- Collecting: what a module's ids mean, refusals 10 to 13, masks and merging, the segments, and their rows.
+-- Collecting, in reading order: what a module's ids mean, refusals 10 to 13, masks and merging, the segments, and their rows.
 pub mod Ids
 pub mod Refuse
 pub mod RefuseLaws

@@ -1,4 +1,4 @@
--- Where a segment stands in what all segments together give.
+-- Where the parts of one segment stand in the lists of all segments together.
 use Prim.Native.Nat.{ℕ, _+_, _≤_}
 use mathlib.Core.Path.{_≡_}
 use mathlib.Core.List.{List}

@@ -1,4 +1,4 @@
--- When each of 10 to 13 is given, in document 01's words. Assumes nothing.
+-- When each of refusals 10 to 13 is given, in document 01's words. Assumes nothing.
 use Prim.Native.Nat.{_+_, _≤_, _<_}
 use mathlib.Core.Path.{_≡_, refl, sym, ap, _∙_}
 use mathlib.Core.Logic.{_↔_, Iff·rfl}

@@ -1,1 +1,1 @@
--- Rows of the collection, appended.
+-- Rows of the collection, put behind the rows before them.

@@ -1,4 +1,4 @@
-// One row of the collection more, behind those before, if there is room.
+// A row of the collection is put behind the rows before it, if there is room; each function gives the fill afterwards.
 ghost use mathlib.Core.Path.{_≡_};
 ghost use lib.ListN.{length};
 ghost use Rattle.tables.specs.fill.Filling.{oneMore, putMore};
@@ -15,6 +15,7 @@ use crate::rows::SYMBOL_WIDTH;
 use tables::fill::Fill;
 use tables::fill::one_more;
 
+// Puts the row of one more segment.
 pub fn append_segment(m: &mut [u64], f: Fill, row: SegmentRow) -> Fill
     ensures { λ r. ⌜ (now (m .exit) ≡ putMore segmentLayout f row (now (m .entry))) × (r ≡ oneMore f 8 (length (now (m .entry)))) ⌝ }
 {
@@ -26,6 +27,7 @@ pub fn append_segment(m: &mut [u64], f: Fill, row: SegmentRow) -> Fill
     next
 }
 
+// Puts the row of one more reference.
 pub fn append_reference(m: &mut [u64], f: Fill, row: Reference) -> Fill
     ensures { λ r. ⌜ (now (m .exit) ≡ putMore referenceLayout f row (now (m .entry))) × (r ≡ oneMore f 6 (length (now (m .entry)))) ⌝ }
 {
@@ -37,6 +39,7 @@ pub fn append_reference(m: &mut [u64], f: Fill, row: Reference) -> Fill
     next
 }
 
+// Puts the row of one more symbol.
 pub fn append_symbol(m: &mut [u64], f: Fill, row: Symbol) -> Fill
     ensures { λ r. ⌜ (now (m .exit) ≡ putMore symbolLayout f row (now (m .entry))) × (r ≡ oneMore f 3 (length (now (m .entry)))) ⌝ }
 {

@@ -1,4 +1,4 @@
-// Segments to be searched for, as they are collected from the modules.
+// Segments that the search looks for, as the collection makes them from the modules.
 pub mod append;
 pub mod masks;
 pub mod put;
@@ -9,16 +9,17 @@ use image::Seat;
 use image::fixup::Kind;
 use lent::part::Part;
 
-// A segment's number in the whole file.
+// The number of a segment in the whole file.
 pub struct SegmentNumber(pub usize);
 
-// What a reference leads to.
+// The goal of a reference: a segment of the same module, or the name of an external.
 pub enum Goal {
     Segment(SegmentNumber),
     Name(Part),
 }
 
-// A reference out of a pattern: where in it, how it is written, what is added to its goal's address, and the goal.
+// A reference out of a pattern: its place in the pattern, its kind, the fixup's offset, which is
+// added to the goal's address, and the goal.
 pub struct Reference {
     pub place: usize,
     pub kind: Kind,
@@ -26,13 +27,14 @@ pub struct Reference {
     pub goal: Goal,
 }
 
-// A public symbol of a segment: it is placed at match position + offset.
+// A symbol of a segment: a match of the segment places the name at match position + offset.
 pub struct Symbol {
     pub name: Part,
     pub offset: usize,
 }
 
-// A segment in lent memory: where it may stand, and its parts of the pattern memory, the references and the symbols.
+// A segment in lent memory: where it may stand, and which parts of the pattern memory, of the
+// references and of the symbols are its own.
 pub struct SegmentRow {
     pub seat: Seat,
     pub pattern: Part,

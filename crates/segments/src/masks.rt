@@ -1,11 +1,11 @@
-// Masks of a content under its fixups.
+// The masks of a content, as its fixups change them.
 ghost use mathlib.Core.Path.{_≡_};
 ghost use Prim.Native.Nat.{_+_};
 ghost use lib.ListN.{set};
 ghost use Rattle.segments.specs.Masks.{masked};
 use omf51::Fixup;
 
-// A mask at a place; places past the end are passed over.
+// Puts a mask at a place; a place past the end of the masks is passed over.
 fn put(masks: &mut [u8], at: usize, mask: u8)
     ensures { λ _. ⌜ now (masks .exit) ≡ set (now (masks .entry)) at mask ⌝ }
 {
@@ -14,7 +14,7 @@ fn put(masks: &mut [u8], at: usize, mask: u8)
     }
 }
 
-// The mask after a place cleared; no sum is taken past the end, so none can wrap.
+// Sets the mask after a place to 0. No sum is taken past the end, so that none can wrap.
 fn clear_after(masks: &mut [u8], at: usize)
     ensures { λ _. ⌜ now (masks .exit) ≡ set (now (masks .entry)) (at + 1) 0 ⌝ }
 {
@@ -23,7 +23,8 @@ fn clear_after(masks: &mut [u8], at: usize)
     }
 }
 
-// What a fixup makes of its content's masks.
+// Changes a content's masks by one fixup, which writes over what stood there: a Word (kind 4) 0 and 0, an Inblock (kind
+// 5) 1Fh and 0, any other kind a single 0, a fixup of block 3 nothing.
 pub fn mask(masks: &mut [u8], f: Fixup)
     ensures { λ _. ⌜ now (masks .exit) ≡ masked (now (masks .entry)) f ⌝ }
 {

@@ -1,4 +1,4 @@
-// The rows of the collection in lent memory: segments, references and symbols, written by number.
+// The rows of the collection in lent memory are written by number: segments, references and symbols.
 ghost use mathlib.Core.Path.{_≡_};
 ghost use Rattle.lent.specs.Rows.{putRow};
 ghost use Rattle.segments.specs.SegmentRows.{segmentWidth, referenceWidth, symbolWidth, segmentCells, referenceCells, symbolCells};
@@ -17,6 +17,7 @@ use image::Seat;
 use image::fixup::Kind;
 use lent::rows;
 
+// Where a segment may stand, as two numbers: 0 and 0 for anywhere, 1 and the address for an absolute content.
 fn seat_pair(seat: Seat) -> Pair
     ensures { λ r. ⌜ r ≡ seatPair seat ⌝ }
 {
@@ -29,6 +30,7 @@ fn seat_pair(seat: Seat) -> Pair
     }
 }
 
+// The goal of a reference as three numbers: 0, a segment's number and 0, or 1 and a name's place and length.
 fn goal_triple(goal: Goal) -> Triple
     ensures { λ r. ⌜ r ≡ goalTriple goal ⌝ }
 {
@@ -46,6 +48,7 @@ fn goal_triple(goal: Goal) -> Triple
     }
 }
 
+// The number of a kind in the file.
 fn kind_number(kind: Kind) -> u64
     ensures { λ r. ⌜ r ≡ kindNumber kind ⌝ }
 {
@@ -56,6 +59,7 @@ fn kind_number(kind: Kind) -> u64
     }
 }
 
+// Puts a segment into row i; without such a row the memory stays as it was.
 pub fn put_segment(m: &mut [u64], i: usize, row: SegmentRow)
     ensures { λ _. ⌜ now (m .exit) ≡ putRow segmentWidth (now (m .entry)) i (segmentCells row) ⌝ }
 {
@@ -74,6 +78,7 @@ pub fn put_segment(m: &mut [u64], i: usize, row: SegmentRow)
     rows::put(m, i, &cells);
 }
 
+// Puts a reference into row i; without such a row the memory stays as it was.
 pub fn put_reference(m: &mut [u64], i: usize, row: Reference)
     ensures { λ _. ⌜ now (m .exit) ≡ putRow referenceWidth (now (m .entry)) i (referenceCells row) ⌝ }
 {
@@ -92,6 +97,7 @@ pub fn put_reference(m: &mut [u64], i: usize, row: Reference)
     rows::put(m, i, &cells);
 }
 
+// Puts a symbol into row i; without such a row the memory stays as it was.
 pub fn put_symbol(m: &mut [u64], i: usize, row: Symbol)
     ensures { λ _. ⌜ now (m .exit) ≡ putRow symbolWidth (now (m .entry)) i (symbolCells row) ⌝ }
 {

@@ -1,4 +1,4 @@
-// The rows of the collection in lent memory: segments, references and symbols, read by number.
+// The rows of the collection in lent memory are read by number: segments, references and symbols. Any numbers make a row.
 ghost use mathlib.Core.Path.{_≡_};
 ghost use Rattle.segments.specs.SegmentLayouts.{seatFrom, kindFrom, goalFrom, segmentRowAt, referenceAt, symbolAt};
 use crate::Goal;
@@ -11,25 +11,29 @@ use image::fixup::Kind;
 use lent::part::Part;
 use lent::rows;
 
-// How many numbers a row has.
+// How many numbers the row of a segment has.
 pub const SEGMENT_WIDTH: usize = 8;
 
+// How many numbers the row of a reference has.
 pub const REFERENCE_WIDTH: usize = 6;
 
+// How many numbers the row of a symbol has.
 pub const SYMBOL_WIDTH: usize = 3;
 
-// A case as numbers: its tag, and what it holds.
+// A case of an enum as two numbers: its tag, and what it holds.
 pub struct Pair {
     pub tag: u64,
     pub held: u64,
 }
 
+// A case of an enum as three numbers: its tag, and the two numbers that it holds.
 pub struct Triple {
     pub tag: u64,
     pub first: u64,
     pub second: u64,
 }
 
+// Where a segment may stand, from its tag and its address; a tag other than 1 counts as 0.
 fn seat_from(tag: u64, address: u64) -> Seat
     ensures { λ r. ⌜ r ≡ seatFrom tag address ⌝ }
 {
@@ -40,6 +44,7 @@ fn seat_from(tag: u64, address: u64) -> Seat
     }
 }
 
+// The goal of a reference, from its tag and its two numbers; a tag other than 1 counts as 0.
 fn goal_from(tag: u64, first: u64, second: u64) -> Goal
     ensures { λ r. ⌜ r ≡ goalFrom tag first second ⌝ }
 {
@@ -53,6 +58,7 @@ fn goal_from(tag: u64, first: u64, second: u64) -> Goal
     }
 }
 
+// The kind of a number; a number that is neither 2 nor 4 counts as Inblock.
 fn kind_from(n: u64) -> Kind
     ensures { λ r. ⌜ r ≡ kindFrom n ⌝ }
 {
@@ -65,6 +71,7 @@ fn kind_from(n: u64) -> Kind
     }
 }
 
+// The segment in row i, made of zeros where there is no such row.
 pub fn segment_at(m: &[u64], i: usize) -> SegmentRow
     ensures { λ r. ⌜ r ≡ segmentRowAt (now (m .entry)) i ⌝ }
 {
@@ -86,6 +93,7 @@ pub fn segment_at(m: &[u64], i: usize) -> SegmentRow
     }
 }
 
+// The reference in row i, made of zeros where there is no such row.
 pub fn reference_at(m: &[u64], i: usize) -> Reference
     ensures { λ r. ⌜ r ≡ referenceAt (now (m .entry)) i ⌝ }
 {
@@ -98,6 +106,7 @@ pub fn reference_at(m: &[u64], i: usize) -> Reference
     }
 }
 
+// The symbol in row i, made of zeros where there is no such row.
 pub fn symbol_at(m: &[u64], i: usize) -> Symbol
     ensures { λ r. ⌜ r ≡ symbolAt (now (m .entry)) i ⌝ }
 {

@@ -1,4 +1,4 @@
--- Rows of things that have a key and a name, and are found by links.
+-- Rows that have a key and a name, and are found by links.
 pub mod Newest
 pub mod NewestLaws
 pub mod Sheet

@@ -1,4 +1,4 @@
--- Lent memory that is filled with rows.
+-- Lent memory that is filled with rows until there is no room.
 pub mod Filling
 pub mod FillingLaws
 pub mod AddingLaws

@@ -1,4 +1,4 @@
--- Links between the places of one key.
+-- Links between the places of one key, by which these places are gone over.
 pub mod First
 pub mod FirstLaws
 pub mod Index

@@ -1,4 +1,4 @@
--- Tables of zeros.
+-- Tables of zeros, and their laws.
 pub mod Zeros
 pub mod ZeroLaws
 pub mod OneOutcome

@@ -1,4 +1,5 @@
-// Rows of things that have a key and a name, found by links.
+// Rows that have a key and a name, found by links. A row's first three numbers are its key and its name's place and length; its
+// last number is the link to an earlier row in the same bucket of key and name. A link is one more than a row's number, or 0.
 ghost use mathlib.Core.Path.{_≡_};
 ghost use mathlib.Core.Bool.{_&&_};
 ghost use Prim.Native.Nat.{_+_};
@@ -12,20 +13,20 @@ use lent::names;
 use lent::part::Part;
 use lent::rows::cell;
 
-// How many buckets there are of keys; those of keys and names together, as many, stand behind them in a table of heads.
+// How many buckets of keys there are. In a table of heads as many buckets of key and name together follow them.
 pub const KEYS: usize = 65536;
 
-// The same number for keys of 64 bits, and for names.
+// The same number as 64 bits, for sums of keys and name bytes.
 pub const BUCKETS: u64 = 65536;
 
-// What is looked at of a row: its key and its name, and where it leads on.
+// What a search looks at in a row: its key, its name, and its link to an earlier row of its bucket.
 struct Tag {
     key: u64,
     name: Part,
     next: usize,
 }
 
-// How many rows are whole and have all of it.
+// How many rows of the width are whole in memory; 0 for a width that has no room for a key and a name.
 fn whole_rows(m: &[u64], width: usize) -> usize
     ensures { λ r. ⌜ Whole width (now (m .entry)) r ⌝ }
 {
@@ -35,7 +36,7 @@ fn whole_rows(m: &[u64], width: usize) -> usize
     m.len() / width
 }
 
-// That of row i, at once where it is one of these.
+// The tag of row i. If the row is one of the `rows` whole rows, its numbers are read without further tests.
 fn tag_at(m: &[u64], width: usize, rows: usize, i: usize) -> Tag
     requires { ⌜ Whole width (now m) rows ⌝ }
     ensures { λ r. ⌜ r ≡ tagAt width (now (m .entry)) i ⌝ }
@@ -54,7 +55,7 @@ fn tag_at(m: &[u64], width: usize, rows: usize, i: usize) -> Tag
     }
 }
 
-// That of row i, of any width and whether or not there is such a row.
+// The tag of row i for any width, with 0 for each number that the row does not have, as when there is no such row.
 fn tag_by_cells(m: &[u64], width: usize, i: usize) -> Tag
     ensures { λ r. ⌜ r ≡ tagAt width (now (m .entry)) i ⌝ }
 {
@@ -75,7 +76,8 @@ fn tag_by_cells(m: &[u64], width: usize, i: usize) -> Tag
     }
 }
 
-// Whether a name's bytes can't be these, by its length alone. A name that is no part of the library has no bytes.
+// Whether the length of a row's name alone rules out the bytes wanted. No length rules out the empty name, since a name
+// that passes the library's end has no bytes whatever its length says.
 fn is_other_length(len: usize, wanted: usize) -> bool
     ensures { λ r. ⌜ r ≡ otherLength len wanted ⌝ }
 {
@@ -85,7 +87,7 @@ fn is_other_length(len: usize, wanted: usize) -> bool
     len != wanted
 }
 
-// Whether a row has this key, and a name of these bytes.
+// Whether a row's tag has this key, and a name of these bytes.
 fn is_tagged(library: &[u8], tag: Tag, key: u64, bytes: &[u8]) -> bool
     ensures { λ r. ⌜ r ≡ (eqb (tag .key) key && sameBytes (bytesOf (now (library .entry)) (tag .name)) (now (bytes .entry))) ⌝ }
 {
@@ -98,7 +100,8 @@ fn is_tagged(library: &[u8], tag: Tag, key: u64, bytes: &[u8]) -> bool
     names::same(names::name(library, tag.name), bytes)
 }
 
-// From a link on, the link to the first row with this key and name, or 0.
+// Follows the links of a bucket from `link` on, to the first row with this key and name; gives the link to that row, or
+// 0. A link that does not lead to an earlier row ends the search, so that the loop ends on any numbers.
 pub fn find(library: &[u8], m: &[u64], width: usize, link: usize, key: u64, name: Part) -> usize
     ensures { λ r. ⌜ r ≡ followed (now (library .entry)) width (now (m .entry)) key name link ⌝ }
 {
@@ -118,7 +121,7 @@ pub fn find(library: &[u8], m: &[u64], width: usize, link: usize, key: u64, name
     0
 }
 
-// The bucket of a key and a name.
+// The bucket of a key and a name together: a number made of the key's low 16 bits and the name's bytes.
 pub fn bucket(library: &[u8], key: u64, name: Part) -> usize
     ensures { λ r. ⌜ r ≡ nameBucket key (bytesOf (now (library .entry)) name) ⌝ }
 {
@@ -132,7 +135,7 @@ pub fn bucket(library: &[u8], key: u64, name: Part) -> usize
     h as usize
 }
 
-// Where a bucket's head leads, 0 past the heads' end.
+// The link in the head of bucket i, 0 past the end of the heads.
 pub fn head_at(heads: &[u64], i: usize) -> usize
     ensures { λ r. ⌜ r ≡ getD (now (heads .entry)) i 0 ⌝ }
 {
@@ -142,7 +145,7 @@ pub fn head_at(heads: &[u64], i: usize) -> usize
     0
 }
 
-// A bucket's head leads to a row; past the heads' end nothing changes.
+// Makes the head of bucket i a link; past the end of the heads nothing changes.
 fn set_head(heads: &mut [u64], i: usize, number: usize)
     ensures { λ _. ⌜ now (heads .exit) ≡ set (now (heads .entry)) i number ⌝ }
 {
@@ -151,7 +154,7 @@ fn set_head(heads: &mut [u64], i: usize, number: usize)
     }
 }
 
-// The heads of a key's bucket and of a key and name's lead to a row.
+// Makes the heads of two buckets links to one row: that of the row's key, and that of its key and name together.
 pub fn set_heads(heads: &mut [u64], key: u64, bucket: usize, number: usize)
     ensures { λ _. ⌜ now (heads .exit) ≡ headsWith (now (heads .entry)) key bucket number ⌝ }
 {
@@ -161,7 +164,8 @@ pub fn set_heads(heads: &mut [u64], key: u64, bucket: usize, number: usize)
     }
 }
 
-// The heads of n rows that stand in memory, on top of what the heads are: for whoever looks up rows that were written before.
+// Sets the heads for the first n rows in memory, oldest first, on top of what the heads are: for a stage that looks up
+// rows that another stage wrote.
 pub fn head_rows(library: &[u8], m: &[u64], width: usize, n: usize, heads: &mut [u64])
     ensures { λ _. ⌜ now (heads .exit) ≡ headedBy (now (library .entry)) width (now (m .entry)) (now (heads .entry)) n ⌝ }
 {

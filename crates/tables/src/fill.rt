@@ -2,13 +2,14 @@
 ghost use mathlib.Core.Path.{_≡_};
 ghost use Rattle.tables.specs.fill.Filling.{oneMore};
 
-// How many rows were put, and whether there was one for which there was no room. After that nothing is put, and the number says nothing.
+// How many rows were put, and whether there was no room for a further row. Once `over` is set no row is put any more,
+// and the number of rows means nothing.
 pub struct Fill {
     pub rows: usize,
     pub over: bool,
 }
 
-// One row more, of a width, in memory of a length.
+// The fill after one more row of this width in memory of this length.
 pub fn one_more(f: Fill, width: usize, len: usize) -> Fill
     ensures { λ r. ⌜ r ≡ oneMore f width len ⌝ }
 {

@@ -1,4 +1,5 @@
-// Tables in lent memory: rows put until there is no room, tables of zeros, places of one key by links, rows found by key and name.
+// Tables in lent memory: rows that are put until there is no room, tables of zeros, the places of one key by links, and
+// rows that are found by key and name.
 pub mod by_name;
 pub mod fill;
 pub mod links;

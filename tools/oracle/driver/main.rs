@@ -1,14 +1,13 @@
 //! Batch driver around the unchanged libfind.
 //!
 //! stdin: any number of cases, each
-//!   flags u8 (1 = check, 2 = a skip amount is given, 4 = also print the table, 8 = only read the library,
-//!     16 = only read it and collect its segments, 32 = only search, and list nothing)
+//!   flags u8 (1 = check, 2 = a skip amount is given, 4 = also print the table, 8 = only collect the segments,
+//!     16 = only search, and list nothing)
 //!   minimum, skip (u64 LE each), image length u32 LE, image, library length u32 LE, library
 //! stdout: per case one JSON line
 //!   {"case":n,"outcome":"ok","ns":..,"rows":[{location,name,goodness,description}..]}
-//!   {"case":n,"outcome":"read","ns":..,"text":".."} with flag 8: the Debug form of all that was read
-//!   {"case":n,"outcome":"collected","ns":..,"segments":[..]} with flag 16: the segments as shown.rs puts them
-//!   {"case":n,"outcome":"searched","ns":..,"placed":[..],"noted":[..]} with flag 32: what shown.rs shows of both lists
+//!   {"case":n,"outcome":"collected","ns":..,"segments":[..]} with flag 8: the segments as shown.rs puts them
+//!   {"case":n,"outcome":"searched","ns":..,"placed":[..],"noted":[..]} with flag 16: what shown.rs shows of both lists
 //!   {"case":n,"outcome":"unread"|"convert error"|"panic","text":"..","stage":"read|convert|search|list"}
 //!   the text of "unread" is "incomplete" where a record's body passes the file's end, else "error .."
 //! and, if flag 4 is set and the outcome is ok, the very output of print_segrefs between the lines
@@ -28,7 +27,6 @@ use std::time::Instant;
 
 enum Outcome {
     Ok(Vec<Segref>),
-    Read(String),
     Collected(Vec<serde_json::Value>),
     Searched(serde_json::Value, serde_json::Value),
     Unread(String),
@@ -47,14 +45,6 @@ fn unread(e: nom::Err<nom::error::Error<&[u8]>>, library: &[u8]) -> String {
                 format!("error {:?}", e.code)
             }
         }
-    }
-}
-
-/// Only reading: nothing is converted or searched.
-fn read(library: &[u8]) -> Outcome {
-    match Omf51Objects::new(library) {
-        Ok(o) => Outcome::Read(format!("{:?}", o)),
-        Err(e) => Outcome::Unread(unread(e, library)),
     }
 }
 
@@ -133,13 +123,11 @@ fn main() {
         let start = Instant::now();
         let outcome = catch_unwind(AssertUnwindSafe(|| {
             if flags & 8 != 0 {
-                read(library)
-            } else if flags & 16 != 0 {
                 match collect(library, &stage) {
                     Ok(c) => Outcome::Collected(shown::segments(&c)),
                     Err(outcome) => outcome,
                 }
-            } else if flags & 32 != 0 {
+            } else if flags & 16 != 0 {
                 match search(image, library, check, minimum, &stage) {
                     Ok((cslist, rslist)) => Outcome::Searched(shown::placed(&cslist), shown::noted(&rslist)),
                     Err(outcome) => outcome,
@@ -153,9 +141,6 @@ fn main() {
         let line = match &outcome {
             Ok(Outcome::Ok(rows)) => {
                 serde_json::json!({"case": case, "outcome": "ok", "ns": ns, "rows": rows})
-            }
-            Ok(Outcome::Read(t)) => {
-                serde_json::json!({"case": case, "outcome": "read", "ns": ns, "text": t})
             }
             Ok(Outcome::Collected(segments)) => {
                 serde_json::json!({"case": case, "outcome": "collected", "ns": ns, "segments": segments})

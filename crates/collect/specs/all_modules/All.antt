@@ -1,4 +1,4 @@
--- The segments of all modules.
+-- What storing the segments of all modules leaves in lent memory.
 use Prim.Native.Nat.{ℕ}
 use mathlib.Core.List.{List, []}
 use Rattle.image.specs.declared.fixup.Rules.{Rules}

@@ -1,4 +1,4 @@
--- Module after module. Assumes nothing.
+-- The segments of all modules are stored, module after module. Assumes nothing.
 use Prim.Native.Nat.{ℕ, _+_, _*_, _≤_}
 use mathlib.Core.Path.{_≡_, refl, sym, subst, _∙_}
 use mathlib.Core.List.{List, [], _∷_, _++_}

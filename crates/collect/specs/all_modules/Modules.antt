@@ -1,4 +1,4 @@
--- One module more.
+-- What storing the segments of one more module needs and leaves.
 use Prim.Native.Nat.{ℕ, _+_, _<_, _≤_, _^_}
 use mathlib.Core.Path.{_≡_}
 use mathlib.Core.Bool.{Bool}

@@ -1,4 +1,4 @@
--- The two parts of a module's segments.
+-- The two parts of a module's segments, its kept segments and its absolute contents: what each needs and leaves.
 use Prim.Native.Nat.{ℕ, _*_, _≤_}
 use mathlib.Core.Path.{_≡_}
 use mathlib.Core.Bool.{Bool}

@@ -1,4 +1,4 @@
--- On the way: some of the segments are stored, and the rest is still to come.
+-- On the way: some segments are stored, and the others are still to come.
 use mathlib.Core.Path.{_≡_}
 use mathlib.Core.List.{List, _++_}
 use Rattle.segments.specs.Collect.{Collected}

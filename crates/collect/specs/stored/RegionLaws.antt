@@ -1,4 +1,5 @@
--- A segment's stretch of pattern memory: zeros behind what is stored, into which its contents are merged. Assumes nothing.
+-- One segment's part of pattern memory: zeros behind the patterns stored before, into which the segment's contents are
+-- merged. Assumes nothing.
 use Prim.Native.Nat.{ℕ, zero, suc, _+_, _-_, _≤_}
 use mathlib.Core.Path.{_≡_, refl, sym, ap, _∙_}
 use mathlib.Core.List.{List, [], _∷_, _++_, append-assoc}

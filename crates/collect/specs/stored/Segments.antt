@@ -1,4 +1,4 @@
--- The two kinds of segments, by what is met along links.
+-- The two kinds of segments, kept and absolute, put together from what is met along links.
 use Prim.Native.Nat.{ℕ, _+_, _≤_, _<_}
 use mathlib.Core.Path.{_≡_}
 use mathlib.Core.Bool.{Bool, true, false}
@@ -78,7 +78,8 @@ pub record StoresKept (library table : List ℕ) (number link : ℕ) (next place
       → Follows (SectionIs library places) next 0 link sections → Follows (PublicIs library publicPlaces) publicNext 0 publicLink publics
       → Extends (one (keptOf library definitions number size sections publics)) l c after w
 
-pub record StoresAbsolute (library table : List ℕ) (number : ℕ) (own : Bool) (content : Content) (fixups : List Fixup) (keys : List ℕ) (n : ℕ) (entries heads onward : List ℕ) (c : CollectCounts) (l : CollectLists) (apart flags : List ℕ) (after : CollectLists) (apart′ flags′ : List ℕ) (w : Stored) : Type 0 where
+pub record StoresAbsolute (library table : List ℕ) (number : ℕ) (own : Bool) (content : Content) (fixups : List Fixup) (keys : List ℕ) (n : ℕ)
+    (entries heads onward : List ℕ) (c : CollectCounts) (l : CollectLists) (apart flags : List ℕ) (after : CollectLists) (apart′ flags′ : List ℕ) (w : Stored) : Type 0 where
   pub long : SameLengths l after
   pub apart-long : length apart′ ≡ length apart
   pub flags-long : length flags′ ≡ length flags

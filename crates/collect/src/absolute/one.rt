@@ -1,4 +1,4 @@
-// An absolute content: a segment of its own, which may stand at its address only.
+// One absolute content: a segment of its own, which may stand at its address only.
 ghost use Prim.Native.Nat.{_≤_};
 ghost use lib.ListN.{length};
 ghost use Rattle.library.specs.items.Left.{fixupsLeft};
@@ -18,7 +18,9 @@ use segment_parts::patterns::merge_content;
 use segment_parts::references::refer;
 use segment_parts::symbols_by_offset::names::name_inside;
 
-// The public definitions of id 0 that lie inside are its symbols; `own` says whether a symbol stands at its own address, so that its offset counts from the content's start.
+// Stores one absolute content, with its fixups, behind what `c` counts. The public definitions of id 0 with an offset
+// inside it are its symbols, found by `keys` (of which n count), `entries`, `heads` and `onward`. `table` tells what
+// the ids lead to, `number` is that of the module's first segment; `own` is explained at `is_own`.
 pub fn store_absolute(
     library: &[u8],
     table: &[u64],

@@ -1,4 +1,4 @@
-// All modules, one after another, until there is no room.
+// All modules of a library, one after another, until there is no room.
 ghost use mathlib.Core.Path.{_≡_};
 ghost use mathlib.Core.List.{[]};
 ghost use Rattle.omf51.specs.Module.{moduleAt};
@@ -15,6 +15,7 @@ use image::fixup::Rules;
 use library::ModuleAt;
 use library::module::module_at;
 
+// The counts before anything is stored.
 fn none_yet() -> CollectCounts
     ensures { λ r. ⌜ r ≡ nothing ⌝ }
 {
@@ -26,6 +27,9 @@ fn none_yet() -> CollectCounts
     }
 }
 
+// Stores the segments of all modules from `from` on in the five lists of the collection. The tables of a module are
+// lent blank, once for all modules, since they are large: by id `table`; of contents `ids`, `places`, `first`, `next`;
+// of public definitions `keys`, `entries`, `heads`, `onward`. `apart` is room for the masks of one content.
 pub fn store_all(
     library: &[u8],
     rules: Rules,

@@ -1,4 +1,4 @@
-// One module: its tables are made, its segments are stored, and the tables are blank again.
+// One module: its tables are filled, its segments are stored, and the tables are made blank again.
 ghost use Rattle.collect.specs.stored.Segments.{lists};
 ghost use Rattle.collect.specs.all_modules.Modules.{Workable, StoresModule};
 use crate::one_module::both::both_parts;
@@ -11,6 +11,9 @@ use module_index::forget;
 use module_index::index_sections;
 use tables::zeros::block_flags;
 
+// Stores the segments of one module, whose parts stand at `at`, in the five lists of the collection, behind what `c`
+// counts. The tables of the module, as in `store_all`, are lent blank, filled here, and left blank for the next module.
+// `own` is explained at `is_own`.
 pub fn store_module(
     library: &[u8],
     own: bool,

@@ -1,4 +1,4 @@
-// A kept segment.
+// One kept segment: its pattern, its references, its symbols, and then its row.
 ghost use Prim.Native.Nat.{_≤_};
 ghost use lib.ListN.{length};
 ghost use Rattle.segment_parts.specs.Referring.{Placeable};
@@ -14,8 +14,9 @@ use segment_parts::patterns::merge_along;
 use segment_parts::references::refer_along;
 use segment_parts::symbols::name_along;
 
-// The contents from a link on are merged into `size` bytes, and carry the references; the public definitions from another link
-// on are its symbols. `number` is that of its module's first segment.
+// Stores one kept segment of `size` bytes in the five lists of the collection, behind what `c` counts. The contents
+// from `link` on (along `next`, at `places`) make its pattern and references, the public definitions from `publics` on
+// (along `onward`, at `entries`) its symbols. `table` tells of ids, `number` is that of the module's first segment.
 pub fn store_kept(
     library: &[u8],
     table: &[u64],

@@ -1,4 +1,4 @@
-// All segments of a module: the kept ones first, then the absolute contents.
+// All segments of a module: its kept segments first, then its absolute contents.
 ghost use Prim.Native.Nat.{_≤_};
 ghost use lib.ListN.{length};
 ghost use Rattle.segment_parts.specs.Referring.{Placeable};
@@ -10,6 +10,9 @@ use crate::one_module::part::second_part;
 use crate::stored::CollectCounts;
 use crate::stored::Stored;
 
+// Stores all segments of a module, whose definitions start at `from`, in the five lists of the collection. The tables
+// of ids (`table`) and contents (`first`, `next`, `places`) are filled; those of public definitions (`keys`, `entries`,
+// `heads`, `onward`) are blank: each part fills them in its own way. `apart` has room for masks, `flags` for flags.
 pub fn both_parts(
     library: &[u8],
     own: bool,

@@ -1,5 +1,5 @@
-// The two parts of a module's segments. Each has public definitions in tables that are blank before and after: the first all of them by id,
-// the second those of id 0 by their offsets.
+// The two parts of a module's segments. Each part fills the tables of public definitions in its own way, and leaves
+// them blank: the first with all public definitions by id, the second with those of id 0 by offset.
 ghost use Prim.Native.Nat.{_≤_};
 ghost use lib.ListN.{length};
 ghost use Rattle.segment_parts.specs.Referring.{Placeable};
@@ -15,7 +15,9 @@ use module_index::index_publics;
 use segment_parts::symbols_by_offset::offsets::index_offsets;
 use tables::links::number_at;
 
-// The kept segments.
+// Stores the kept segments of a module, whose definitions start at `from`, behind what `c` counts. The module's ids
+// (`table`) and contents (`first`, `next`, `places`) are indexed already; its public definitions are indexed here, by
+// id (`keys`, `entries`, `heads`, `onward`).
 pub fn first_part(
     library: &[u8],
     from: usize,
@@ -63,7 +65,9 @@ pub fn first_part(
     stored
 }
 
-// The absolute contents; `number` is that of the module's first segment. Most modules have none, and then nothing is indexed.
+// Stores the absolute contents of a module, whose definitions start at `from`, behind what `c` counts; `number` is that
+// of the module's first segment. Most modules have no absolute content, and then nothing is indexed; else the public
+// definitions of id 0 are indexed here, by offset (`keys`, `entries`, `heads`, `onward`).
 pub fn second_part(
     library: &[u8],
     own: bool,

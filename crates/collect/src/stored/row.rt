@@ -1,4 +1,4 @@
-// The row of a segment, once its pattern, its references and its symbols are stored.
+// The row of a segment, which is put once its pattern, its references and its symbols are stored.
 ghost use mathlib.Core.Path.{_≡_};
 ghost use Prim.Native.Nat.{_+_, _-_};
 ghost use lib.Dec.{leb};
@@ -12,14 +12,14 @@ use segments::SegmentRow;
 use segments::append::append_segment;
 use tables::fill::Fill;
 
-// So many rows, and room for more.
+// The fill of memory that holds so many rows and may take more.
 pub fn filled_to(rows: usize) -> Fill
     ensures { λ r. ⌜ r ≡ filledTo rows ⌝ }
 {
     Fill { rows, over: false }
 }
 
-// Whether memory of a length has room for so many more; no sum is taken that could wrap.
+// Whether memory of a length, of which `used` elements are used, has room for `more`. No sum is taken that could wrap.
 pub fn fits(used: usize, more: usize, len: usize) -> bool
     ensures { λ r. ⌜ r ≡ leb (used + more) len ⌝ }
 {
@@ -29,6 +29,7 @@ pub fn fits(used: usize, more: usize, len: usize) -> bool
     more <= len - used
 }
 
+// The part from `start` up to `end`; an `end` before `start` makes it empty.
 pub fn since(start: usize, end: usize) -> Part
     ensures { λ r. ⌜ r ≡ record { at = start; len = end - start } ⌝ }
 {
@@ -41,7 +42,8 @@ pub fn since(start: usize, end: usize) -> Part
     }
 }
 
-// `c` was stored before this segment; `end`, `references` and `symbols` are how far its parts reach.
+// Puts the row of a segment into the rows of segments `m`, if nothing has run out of room. `c` is what was stored
+// before the segment; its pattern goes up to `end`, and its references and symbols as far as these are filled now.
 pub fn finish(
     seat: Seat,
     c: CollectCounts,

@@ -1,4 +1,4 @@
--- The target step has one outcome, by its contract alone. Assumes nothing.
+-- Finding the target of a reference has one outcome, by the contract alone. Assumes nothing.
 use Prim.Native.Nat.{ℕ}
 use mathlib.Core.Path.{_≡_}
 use mathlib.Core.List.{List}

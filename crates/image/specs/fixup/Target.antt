@@ -1,4 +1,4 @@
--- Where a reference leads. Sums wrap at 64 bits.
+-- The target of a reference: the address that its bytes in the view give, less the fixup's offset. Sums wrap at 64 bits.
 use Prim.Native.Nat.{ℕ, _+_, _-_, _*_, _/_, _%_, _^_}
 use mathlib.Core.Bool.{Bool, _&&_}
 use mathlib.Core.List.{List}
@@ -15,16 +15,17 @@ use Rattle.image.specs.declared.fixup.Kind.the-variants.{Relative, Word,
 use Rattle.image.specs.declared.fixup.Target.{Target}
 use Rattle.image.specs.declared.fixup.Target.the-variants.{At, Nowhere}
 
--- the rule set of a number: all but 1 count as 0 (a run refuses those above 1)
+-- the rule set of a number: every number but 1 counts as 0 (a run refuses numbers above 1)
 abbrev pub rulesOf : ℕ → Rules
 rulesOf n = if eqb n 1 then Documented else AsFound
 
--- the kinds by their numbers in the file, of which only these leave a reference
+-- the number of a kind in the file
 abbrev pub kindNumber : Kind → ℕ
 kindNumber Relative = 2
 kindNumber Word = 4
 kindNumber Inblock = 5
 
+-- the kind of a number; fixups of other numbers leave no reference
 abbrev pub kindOf : ℕ → Option Kind
 kindOf n =
     if eqb n 2 then some Relative
@@ -32,50 +33,53 @@ kindOf n =
     else if eqb n 5 then some Inblock
     else none
 
--- what the answer says: the address, if there is one
+-- the address of a target, if it has one
 abbrev pub addressIn : Target → Option ℕ
 addressIn (At t) = some t
 addressIn Nowhere = none
 
--- sums and differences at 64 bits, and a byte as a signed number there
+-- a sum at 64 bits
 abbrev pub plus : ℕ → ℕ → ℕ
 plus a b = (a + b) % 2 ^ 64
 
+-- a difference at 64 bits
 abbrev pub minus : ℕ → ℕ → ℕ
 minus a b = (a + (2 ^ 64 - b % 2 ^ 64)) % 2 ^ 64
 
+-- a byte as a signed number at 64 bits: 80h and above stand for a - 256
 abbrev pub signed : ℕ → ℕ
 signed a = if ltb a 128 then a else a + (2 ^ 64 - 256)
 
--- high byte first
+-- the address of two bytes, high byte first
 abbrev pub addr16 : ℕ → ℕ → ℕ
 addr16 a b = 256 * a + b
 
--- pos + 2 with its low 11 bits cleared, 256 times the first byte's top three bits, the second byte, kept to 16 bits;
--- as found, the three bits count as 0
+-- the top three bits of an Inblock's first byte; under rule set 0, as found, they count as 0
 abbrev pub topBits : Rules → ℕ → ℕ
 topBits AsFound a = 0
 topBits Documented a = a / 32
 
+-- pos + 2 with its low 11 bits cleared, plus 256 times the top bits of the first byte, plus the second byte, kept to 16 bits
 abbrev pub addr11 : Rules → ℕ → ℕ → ℕ → ℕ
 addr11 rules pos a b = ((pos + 2) / 2048 * 2048 + 256 * topBits rules a + b) % 65536
 
--- where the bytes a and b at `pos` lead
+-- the address to which the bytes a and b at `pos` lead
 abbrev pub leadsTo : Rules → ℕ → Kind → ℕ → ℕ → ℕ
 leadsTo rules pos Relative a b = plus (plus pos 1) (signed a)
 leadsTo rules pos Word a b = addr16 a b
 leadsTo rules pos Inblock a b = addr11 rules pos a b
 
--- a reference reads two bytes at `pos`, Relative one: they must not pass the image's end, nor be withheld
+-- how many bytes a reference of a kind reads
 abbrev pub reads : Kind → ℕ
 reads Relative = 1
 reads Word = 2
 reads Inblock = 2
 
+-- the n cells at `pos` do not pass the view's end, and none of them is withheld
 unfoldable pub readable : List ℕ → ℕ → ℕ → Bool
 readable cells pos n = leb (pos + n) (length cells) && all (λ i. isByte (cellAt cells (pos + i))) (from 0 n)
 
--- the target of a reference that reads at `pos`; the fixup's offset is subtracted
+-- the target of a reference that reads at `pos`: none if its cells can't be read; the fixup's offset is subtracted
 unfoldable pub target : List ℕ → Rules → ℕ → Kind → ℕ → Target
 target cells rules pos kind offset =
     if readable cells pos (reads kind)

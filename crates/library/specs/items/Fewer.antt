@@ -1,4 +1,5 @@
--- Each step of a walk leaves fewer than there were: the measures of loops over definitions, fixups and contents. Assumes nothing.
+-- Each step of a walk leaves fewer items than there were: the measures of loops over definitions,
+-- fixups and contents. Assumes nothing.
 use Prim.Native.Nat.{ℕ, _<_}
 use mathlib.Core.Path.{_≡_, ap, _∙_}
 use mathlib.Core.List.{List}

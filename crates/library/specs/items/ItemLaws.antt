@@ -1,4 +1,4 @@
--- A walk stops at whole entries only, and what it says of one is what is read there. Assumes nothing.
+-- A walk stops at whole entries only, and what it says of an entry is what is read there. Assumes nothing.
 use Prim.Native.Nat.{ℕ, zero, suc, _+_, _≤_, _<_}
 use mathlib.Core.Path.{_≡_, refl, sym, ap, subst, _∙_}
 use mathlib.Core.Bool.{Bool, true, false}

@@ -1,4 +1,4 @@
--- What the entries of a walk say: the next definition, the next fixup.
+-- What the entries say that a walk comes to: the next definition, the next fixup.
 use Prim.Native.Nat.{ℕ, _+_}
 use mathlib.Core.List.{List}
 use Rattle.lent.specs.declared.part.Part.{Part}

@@ -1,4 +1,4 @@
--- What is left of a walk: the lists of the definition, from a cursor on.
+-- The items that are left of a walk, from a cursor on, as the definition lists them.
 use Prim.Native.Nat.{ℕ}
 use mathlib.Core.List.{List, [], _++_}
 use lib.Dec.{leb}

@@ -1,4 +1,4 @@
-// From content to content.
+// From content to content of a module.
 ghost use mathlib.Core.Path.{_≡_};
 ghost use Prim.Native.Nat.{_+_, _<_, _≤_};
 ghost use lib.ListN.{length};
@@ -18,7 +18,7 @@ use omf51::read_record::record_at;
 use omf51::record::Framed;
 use omf51::types::Allowed;
 
-// The content in a body that has an id and an offset at least.
+// The content in the body of a record, which has an id and an offset at least.
 fn content_of(library: &[u8], f: Frame) -> Content
     requires { ⌜ (f .body + idSize f + 2 ≤ f .end) × (f .end < length (now library)) ⌝ }
     ensures { λ r. ⌜ r ≡ contentHere (now (library .entry)) f ⌝ }
@@ -36,7 +36,7 @@ fn content_of(library: &[u8], f: Frame) -> Content
     }
 }
 
-// The next content of a module, records that are skipped among contents passed over.
+// The next content of a module from a place on; records that are skipped among contents are passed over.
 pub fn next_content(library: &[u8], from: usize) -> NextContent
     ensures { λ r. ⌜ r ≡ nextContent (now (library .entry)) from ⌝ }
 {

@@ -1,4 +1,4 @@
-// What an entry says, and the steps from one to the next.
+// What an entry of a module says, and the steps from definition to definition and from fixup to fixup.
 ghost use mathlib.Core.Path.{_≡_};
 ghost use Prim.Native.Nat.{_+_, _<_};
 ghost use lib.ListN.{length};
@@ -24,19 +24,21 @@ use omf51::read_record::byte_at;
 use omf51::read_record::word_at;
 use omf51::segment_size;
 
+// A byte as a size.
 fn wide(x: u8) -> usize
     ensures { λ r. ⌜ r ≡ x ⌝ }
 {
     x as usize
 }
 
+// The number of the two bytes at a place, low byte first, as a size.
 pub fn word(library: &[u8], at: usize) -> usize
     ensures { λ r. ⌜ r ≡ wordAt (now (library .entry)) at ⌝ }
 {
     word_at(library, at) as usize
 }
 
-// Records of odd type carry two-byte ids.
+// The id at a place: of two bytes in records of odd type, otherwise of one.
 pub fn id_at(library: &[u8], f: Frame, at: usize) -> ModuleId
     ensures { λ r. ⌜ r ≡ idAt (now (library .entry)) f at ⌝ }
 {
@@ -46,7 +48,7 @@ pub fn id_at(library: &[u8], f: Frame, at: usize) -> ModuleId
     ModuleId(byte_at(library, at) as u16)
 }
 
-// The definition at a place where it is whole.
+// The definition at a place where a whole definition stands.
 fn definition_of(library: &[u8], f: Frame, at: usize) -> Definition
     requires { ⌜ at + nameOffset f < length (now library) ⌝ }
     ensures { λ r. ⌜ r ≡ definitionHere (now (library .entry)) f at ⌝ }
@@ -81,7 +83,7 @@ fn definition_of(library: &[u8], f: Frame, at: usize) -> Definition
     }
 }
 
-// The fixup at a place where it is whole.
+// The fixup at a place where a whole fixup stands.
 fn fixup_of(library: &[u8], f: Frame, at: usize) -> Fixup
     requires { ⌜ at + 6 < length (now library) ⌝ }
     ensures { λ r. ⌜ r ≡ fixupHere (now (library .entry)) f at ⌝ }
@@ -95,7 +97,7 @@ fn fixup_of(library: &[u8], f: Frame, at: usize) -> Fixup
     }
 }
 
-// The next definition of a module.
+// The next definition of a module from a cursor on, and the cursor behind it.
 pub fn next_definition(library: &[u8], from: Cursor) -> NextDefinition
     ensures { λ r. ⌜ r ≡ nextDefinition (now (library .entry)) from ⌝ }
 {
@@ -116,7 +118,7 @@ pub fn next_definition(library: &[u8], from: Cursor) -> NextDefinition
     }
 }
 
-// The next fixup of a content.
+// The next fixup of a content from a cursor on, and the cursor behind it.
 pub fn next_fixup(library: &[u8], from: Cursor) -> NextFixup
     ensures { λ r. ⌜ r ≡ nextFixup (now (library .entry)) from ⌝ }
 {

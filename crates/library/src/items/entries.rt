@@ -1,4 +1,4 @@
-// From entry to entry, through the records that hold them.
+// From entry to entry, through the records that hold definitions or fixups.
 ghost use mathlib.Core.Path.{_≡_};
 ghost use Prim.Native.Nat.{_+_, _<_, _≤_};
 ghost use lib.ListN.{length};
@@ -13,7 +13,7 @@ use omf51::entry::Entries;
 use omf51::read_entry::entry_end;
 use omf51::read_record::byte_at;
 
-// Before the first record at a place.
+// The cursor before the first record at a place: an empty body, with that record as the next.
 pub fn start(at: usize) -> Cursor
     ensures { λ r. ⌜ r ≡ startAt at ⌝ }
 {
@@ -28,7 +28,7 @@ pub fn start(at: usize) -> Cursor
     }
 }
 
-// Where the entry at the cursor ends, if it is whole; a body that passes the library's end has none.
+// Where the entry at the cursor ends, if it is whole; a body that passes the library's end has no entry.
 fn entry_in(library: &[u8], what: Entries, c: Cursor) -> End
     ensures { λ r. ⌜ r ≡ entryIn what (now (library .entry)) c ⌝ }
 {
@@ -39,7 +39,7 @@ fn entry_in(library: &[u8], what: Entries, c: Cursor) -> End
     entry_end(library, what, frame, c.at)
 }
 
-// In the body of the record from `at` up to `next`, or behind it if it is skipped.
+// The cursor in the body of the record from `at` up to `next`; if the record is skipped, it stands at the body's end.
 fn entered(library: &[u8], what: Entries, at: usize, next: usize) -> Cursor
     requires { ⌜ (at + 3 < next) × (next ≤ length (now library)) ⌝ }
     ensures { λ r. ⌜ r ≡ enteredAt what (now (library .entry)) at next ⌝ }
@@ -61,7 +61,7 @@ fn entered(library: &[u8], what: Entries, at: usize, next: usize) -> Cursor
     }
 }
 
-// The next entry from the cursor on.
+// The next entry from the cursor on: in the cursor's body, or else in the records that follow.
 pub fn next_entry(library: &[u8], what: Entries, from: Cursor) -> Step
     ensures { λ r. ⌜ r ≡ nextEntry what (now (library .entry)) from ⌝ }
 {

@@ -1,4 +1,4 @@
--- What is asked of the rows is what the definition asks. Assumes nothing.
+-- What the code asks of the rows is what the definition of the grade asks. Assumes nothing.
 use mathlib.Core.Path.{_≡_, sym, ap, _∙_}
 use mathlib.Core.Bool.{Bool, true, false, not, _&&_, _||_}
 use mathlib.Core.List.{List, [], _∷_}

@@ -1,4 +1,4 @@
--- A list put in order, by any strict order of its members: it does not matter in which order they come. Assumes nothing.
+-- A list put in order by any strict order: it does not matter in which order its elements come. Assumes nothing.
 use Prim.Native.Nat.{ℕ, zero, suc, _<_}
 use mathlib.Core.Path.{_≡_, refl, sym, ap, _∙_}
 use mathlib.Core.Bool.{Bool, true, false, false≢true}

@@ -1,4 +1,5 @@
--- Byte order: no string is before itself, what is before one is before all behind it, and of two different ones one is before the other. Assumes nothing.
+-- Byte order is a strict order: no string is before itself, a string that is before another is before all strings
+-- behind that one, and of two different strings one is before the other. Assumes nothing.
 use Prim.Native.Nat.{ℕ, _<_}
 use mathlib.Core.Path.{_≡_, refl, sym, _∙_}
 use mathlib.Core.Logic.{_⊎_, inl, inr}

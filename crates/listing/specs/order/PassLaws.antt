@@ -1,4 +1,4 @@
--- The passes from the first to the last. Assumes nothing.
+-- The passes of the sort, from the first to the last. Assumes nothing.
 use Prim.Native.Nat.{ℕ, _+_, _≤_}
 use mathlib.Core.Path.{_≡_, refl, sym, ap, _∙_}
 use mathlib.Core.List.{List, _++_}

@@ -1,4 +1,5 @@
--- What the passes of the sort leave: the region's lines in some order, of which a pass by single steps leaves none before the one in front of it.
+-- What the passes of the sort leave: the lines of the region in some order; after the pass with gap 1 no line comes
+-- before the line in front of it.
 use Prim.Native.Nat.{ℕ, suc, _<_}
 use mathlib.Core.Path.{_≡_}
 use mathlib.Core.List.{List}

@@ -1,4 +1,4 @@
--- Lists that are in order, and one that moves down into its place. Assumes nothing.
+-- Lists that are in order, and an element that moves down into its place. Assumes nothing.
 use Prim.Native.Nat.{ℕ, suc, _≤_, _<_}
 use mathlib.Core.Path.{_≡_, refl, sym, ap, subst, _∙_}
 use mathlib.Core.Bool.{Bool, true, false}

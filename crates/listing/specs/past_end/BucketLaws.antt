@@ -1,4 +1,4 @@
--- Going over the rows of a target's bucket: where one stands, and what was passed. Assumes nothing.
+-- Going over the rows of a target's bucket: where the walk stands, and which rows it has passed. Assumes nothing.
 use Prim.Native.Nat.{ℕ, _-_, _%_, _<_}
 use mathlib.Core.Path.{_≡_, refl, sym, ap, subst, _∙_}
 use mathlib.Core.Bool.{Bool, true, false, _||_}

@@ -1,4 +1,4 @@
--- The best of some lines, one more being met in front of them. Assumes nothing.
+-- The lines of the best grade, when one more line is met in front of the others. Assumes nothing.
 use Prim.Native.Nat.{ℕ, _+_, _*_, _<_, max}
 use mathlib.Core.Path.{_≡_, refl, sym, ap, subst, _∙_}
 use mathlib.Core.List.{List, [], _∷_, _++_, reverse, reverse-cons, append-assoc, append-nil}

@@ -1,4 +1,4 @@
--- The lines of rows that are known. Assumes nothing.
+-- The lines of rows of which it is known what they hold. Assumes nothing.
 use Prim.Native.Nat.{ℕ, _<_}
 use mathlib.Core.Path.{_≡_, subst}
 use mathlib.Core.Bool.{true, _||_}

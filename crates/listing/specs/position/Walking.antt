@@ -1,4 +1,4 @@
--- Going over the rows of a position.
+-- Going over the rows of a position, from the newest row of its bucket to the oldest.
 use Prim.Native.Nat.{ℕ, _+_, _/_, _≤_, _<_}
 use mathlib.Core.Path.{_≡_}
 use mathlib.Core.Bool.{Bool, false, _&&_}

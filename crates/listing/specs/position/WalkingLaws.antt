@@ -1,4 +1,4 @@
--- From row to row of a bucket. Assumes nothing.
+-- Going over a bucket of a position, from row to row. Assumes nothing.
 use Prim.Native.Nat.{ℕ, _+_, _-_, _*_, _≤_, _<_}
 use mathlib.Core.Path.{_≡_, refl, sym, ap, subst, _∙_}
 use mathlib.Core.Bool.{Bool, true, false}

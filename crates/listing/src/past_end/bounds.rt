@@ -1,12 +1,14 @@
-// Between which targets to look, by one pass over the rows each.
+// The targets at which to look for names past the end, each found by one pass over the rows.
 ghost use Prim.Native.Nat.{_≤_};
 ghost use Rattle.listing.specs.past_end.Beyond.{Higher, Lower, NonePast, NoneBefore};
 use lent::rows::cell;
 use search_rules::NOTED_WIDTH;
 
-// With so many rows it takes less time to look at each target of a window than to look for the next one each time.
+// With so many rows or more it takes less time to look at each target of a span than to search
+// all rows for the next target each time.
 const MANY: usize = 128;
 
+// The higher of two targets.
 fn higher(a: u64, b: u64) -> u64
     ensures { λ r. ⌜ Higher a b r ⌝ }
 {
@@ -16,7 +18,7 @@ fn higher(a: u64, b: u64) -> u64
     a
 }
 
-// The highest target of n rows, 0 where there are none.
+// The highest target of n rows, 0 where there are no rows.
 pub fn highest(noted: &[u64], n: usize) -> u64
     ensures { λ r. ⌜ NonePast (now (noted .entry)) n r ⌝ }
 {
@@ -29,7 +31,7 @@ pub fn highest(noted: &[u64], n: usize) -> u64
     top
 }
 
-// A target instead of a higher one, if it is not below the bound.
+// The target t instead of `least`, if it is lower and not below the bound.
 fn lower(bound: u64, least: u64, t: u64) -> u64
     ensures { λ r. ⌜ Lower bound least t r ⌝ }
 {
@@ -42,7 +44,7 @@ fn lower(bound: u64, least: u64, t: u64) -> u64
     least
 }
 
-// The lowest target of n rows that is at or past a bound, `top` where there is none below it.
+// The lowest target of n rows that is at or past a bound; `top` if no such target is below it.
 pub fn lowest(noted: &[u64], n: usize, bound: u64, top: u64) -> u64
     ensures { λ r. ⌜ NoneBefore (now (noted .entry)) n bound top r ⌝ }
 {
@@ -55,7 +57,7 @@ pub fn lowest(noted: &[u64], n: usize, bound: u64, top: u64) -> u64
     least
 }
 
-// A target instead of a lower one, if it is not past the most.
+// The target t instead of `last`, if it is higher and at most `most`.
 fn further(last: u64, t: u64, most: u64) -> u64
     ensures { λ r. ⌜ last ≤ r ⌝ }
 {
@@ -65,7 +67,9 @@ fn further(last: u64, t: u64, most: u64) -> u64
     higher(last, t)
 }
 
-// Up to where targets are gone over one by one: with many rows, up to the highest of those that differ in the low 16 bits only.
+// The end of the span of targets that are tried one by one from `first` on. With few rows the span is `first`
+// alone; with many it ends at the highest target that differs from `first` in the low 16 bits only, so that
+// no bucket serves two targets of a span.
 pub fn span_end(noted: &[u64], n: usize, first: u64) -> u64
     ensures { λ r. ⌜ first ≤ r ⌝ }
 {

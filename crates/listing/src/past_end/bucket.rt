@@ -1,4 +1,4 @@
-// The names of one target: its bucket's rows, gone over by their links from the newest to the oldest.
+// The names of one target: the rows of its bucket are gone over by their links, from the newest to the oldest.
 ghost use mathlib.Core.Path.{_≡_};
 ghost use Rattle.listing.specs.past_end.Beyond.{notingOf, sought, Onward, Counts, WritesOne, WritesAll, ListsBucket};
 use listing_rules::Line;
@@ -10,7 +10,8 @@ use search::rows::noted_at;
 use search_rules::Noted;
 use tables::fill::Fill;
 
-// A row's link leads to an earlier row; any other one leads nowhere, so that whoever follows them comes to an end.
+// The link to follow after `here`: a link that does not lead to an earlier row leads
+// nowhere, so that the way ends on any numbers.
 fn onward(here: usize, link: usize) -> usize
     ensures { λ r. ⌜ Onward here link r ⌝ }
 {
@@ -20,7 +21,7 @@ fn onward(here: usize, link: usize) -> usize
     0
 }
 
-// Whether a row is of this target, and valid unless all are sought.
+// Whether a row has this target, and is valid, or all rows are sought.
 fn is_sought(row: Noted, t: u64, all: bool) -> bool
     ensures { λ r. ⌜ r ≡ sought t all (notingOf row) ⌝ }
 {
@@ -33,7 +34,7 @@ fn is_sought(row: Noted, t: u64, all: bool) -> bool
     row.valid
 }
 
-// How many rows of a target there are, all or the valid ones.
+// How many rows of the target t there are, all or the valid ones.
 fn count(noted: &[u64], head: usize, t: u64, all: bool) -> usize
     ensures { λ r. ⌜ Counts (now (noted .entry)) head t all r ⌝ }
 {
@@ -49,7 +50,7 @@ fn count(noted: &[u64], head: usize, t: u64, all: bool) -> usize
     n
 }
 
-// A row's name goes in front of line k, if it is a valid one of the target; where the first line is now.
+// Writes the line of a row in front of line k, if the row is valid and has this target; answers where the first line is now.
 fn write_name(row: Noted, t: u64, lines: &mut [u64], k: usize) -> usize
     ensures { λ r. ⌜ WritesOne row t (now (lines .entry)) k (now (lines .exit)) r ⌝ }
 {
@@ -72,7 +73,8 @@ fn write_name(row: Noted, t: u64, lines: &mut [u64], k: usize) -> usize
     k
 }
 
-// The valid names of a target in front of line `end`: the newest is met first, so they are written from the back.
+// Writes the lines of a target's valid names in front of line `end`. The newest row is met first, so
+// that lines are written from the back.
 fn write_names(noted: &[u64], head: usize, t: u64, end: usize, lines: &mut [u64])
     ensures { λ _. ⌜ WritesAll (now (noted .entry)) head t end (now (lines .entry)) (now (lines .exit)) ⌝ }
 {
@@ -85,7 +87,8 @@ fn write_names(noted: &[u64], head: usize, t: u64, end: usize, lines: &mut [u64]
     }
 }
 
-// The lines of a target, by the head of its bucket. The skip test counts invalid names too.
+// Lists the valid names of the target t behind the lines that `f` counts; `head` is the head of the target's bucket.
+// The skip test counts all names of the target, valid or not.
 pub fn list_bucket(
     noted: &[u64],
     head: usize,

@@ -6,7 +6,7 @@ use tables::by_name::BUCKETS;
 use tables::by_name::head_at;
 use tables::fill::Fill;
 
-// The lines of one target, at once where its bucket is empty.
+// Lists the names of the target t; a target whose bucket is empty is passed over at once.
 fn list_target(noted: &[u64], goals: &[u64], t: u64, skip: Skip, lines: &mut [u64], f: Fill) -> Fill
     ensures { λ r. ⌜ ListsTarget (now (noted .entry)) (now (goals .entry)) t skip (now (lines .entry)) f (now (lines .exit)) r ⌝ }
 {
@@ -20,7 +20,7 @@ fn list_target(noted: &[u64], goals: &[u64], t: u64, skip: Skip, lines: &mut [u6
     list_bucket(noted, head, t, skip, lines, f)
 }
 
-// The lines of the targets from the first to the last.
+// Lists the names of all targets from `first` to `last`.
 pub fn list_span(
     noted: &[u64],
     goals: &[u64],

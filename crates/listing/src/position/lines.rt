@@ -1,4 +1,4 @@
-// One position of the image.
+// The lines of one position of the image.
 ghost use mathlib.Core.Path.{_≡_};
 ghost use Prim.Native.Nat.{_/_, _≤_};
 ghost use lib.ListN.{length};
@@ -15,7 +15,8 @@ use listing_rules::is_crowded;
 use listing_rules::rows::LINE_WIDTH;
 use tables::fill::Fill;
 
-// All names were met: with more than the skip amount the position is left out; otherwise those of the best grade are put in order.
+// Finishes a position once all its names were met: with more names of the best grade than the skip amount the position
+// is left out; otherwise these are put in order behind the `from` lines before.
 fn finish(library: &[u8], skip: Skip, m: &mut [u64], from: usize, b: Best) -> Fill
     requires { ⌜ from ≤ length (now m) / 4 ⌝ }
     ensures { λ r. ⌜ Finishes (now (library .entry)) skip (now (m .entry)) from b (now (m .exit)) r ⌝ }
@@ -39,6 +40,8 @@ fn finish(library: &[u8], skip: Skip, m: &mut [u64], from: usize, b: Best) -> Fi
     }
 }
 
+// Lists the names at the position `at`, behind the lines in `m` that `f` counts: those noted there, then the symbols
+// placed there, of which only the best grade stays. The other parameters are those of `list_inside`.
 pub fn list_position(
     image: &[u8],
     s: Stretch,

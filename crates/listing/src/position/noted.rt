@@ -1,4 +1,4 @@
-// The names noted at a position, from the newest row of its bucket to the oldest.
+// The names noted at a position: the rows of its bucket, from the newest to the oldest.
 ghost use Prim.Native.Nat.{_+_, _/_, _<_, _≤_};
 ghost use lib.ListN.{length};
 ghost use Rattle.listing.specs.position.Bests.{Meets, notedLines};
@@ -11,7 +11,7 @@ use search_rules::NOTED_WIDTH;
 use search_rules::Noted;
 use tables::by_name::head_at;
 
-// A noted name, if it is valid and its target is the position.
+// Takes in the line of a noted name, of grade 0, if the name is valid and its target is the position.
 fn take_noted(m: &mut [u64], from: usize, b: Best, at: usize, row: Noted) -> Best
     requires { ⌜ from + b .count < 18446744073709551615 ⌝ }
     ensures { λ r. ⌜ Meets from (notedLines at row) (now (m .entry)) b (now (m .exit)) r ⌝ }
@@ -35,6 +35,8 @@ fn take_noted(m: &mut [u64], from: usize, b: Best, at: usize, row: Noted) -> Bes
     )
 }
 
+// Goes over all names noted at the position `at`, and puts the lines of the valid ones behind the `from` lines in `m`.
+// `goals` has the heads of the buckets of noted names.
 pub fn walk_noted(noted: &[u64], goals: &[u64], at: usize, m: &mut [u64], from: usize) -> Best
     requires { ⌜ from ≤ length (now m) / 4 ⌝ }
     ensures { λ r. ⌜ WalksNoted (now (noted .entry)) (now (goals .entry)) at from (now (m .entry)) (now (m .exit)) r ⌝ }

@@ -1,4 +1,4 @@
-// The symbols placed at a position, from the newest row of its bucket to the oldest.
+// The symbols placed at a position: the rows of its bucket, from the newest to the oldest.
 ghost use Prim.Native.Nat.{_+_, _/_, _<_, _≤_};
 ghost use lib.ListN.{length};
 ghost use Rattle.image.specs.View.{view};
@@ -16,7 +16,8 @@ use search_rules::PLACED_WIDTH;
 use search_rules::Placed;
 use tables::by_name::head_at;
 
-// A symbol with its grade, if it stands at the position and is not dropped.
+// Takes in the line of a placed symbol with its grade, if the symbol stands at the position and is graded. The
+// parameters are those of `walk_placed`.
 fn take_placed(
     image: &[u8],
     s: Stretch,
@@ -71,7 +72,9 @@ fn take_placed(
     )
 }
 
-// Those that were met before stay, unless a symbol is better.
+// Goes over all symbols placed at the position `at`, and puts the lines of the best grade behind the `from` lines in
+// `m`. Lines of noted names, which `before` counts, give way to the first symbol that is graded. The other parameters
+// are those of `list_inside`.
 pub fn walk_placed(
     image: &[u8],
     s: Stretch,

@@ -1,4 +1,4 @@
--- Each verdict is one, by its contract alone. Assumes nothing.
+-- The functions that look for refusals 10 to 13 have one verdict each, by their contracts alone. Assumes nothing.
 use Prim.Native.Nat.{ℕ}
 use mathlib.Core.Path.{_≡_, sym, _∙_}
 use mathlib.Core.List.{List}

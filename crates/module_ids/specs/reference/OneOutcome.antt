@@ -1,4 +1,4 @@
--- What a fixup leaves is one, by the contract alone. Assumes nothing.
+-- What a fixup leaves has one outcome, by the contract alone. Assumes nothing.
 use Prim.Native.Nat.{ℕ}
 use mathlib.Core.Path.{_≡_, refl, sym, ap, _∙_}
 use mathlib.Core.List.{List, [], _∷_}

@@ -9,6 +9,7 @@ use lent::refusal::Refusal;
 use omf51::Content;
 use omf51::Fixup;
 
+// Whether the definition of a mark is code.
 pub fn is_code(mark: Mark) -> bool
     ensures { λ r. ⌜ r ≡ isCodeMark mark ⌝ }
 {
@@ -19,6 +20,7 @@ pub fn is_code(mark: Mark) -> bool
     }
 }
 
+// Whether an id has a kept segment.
 fn is_kept(kept: KeptAs) -> bool
     ensures { λ r. ⌜ r ≡ isKeptAs kept ⌝ }
 {
@@ -28,7 +30,7 @@ fn is_kept(kept: KeptAs) -> bool
     }
 }
 
-// 10, 11 or 13 of a fixup whose id has this row; one of block 3 is ignored.
+// Refusal 10, 11 or 13 of a fixup whose id has this row, if it has one; a fixup of block 3 is ignored.
 pub fn fixup_fault(row: IdRow, f: Fixup) -> Verdict
     ensures { λ r. ⌜ r ≡ verdictOf (fixupFault row f) ⌝ }
 {
@@ -55,7 +57,7 @@ pub fn fixup_fault(row: IdRow, f: Fixup) -> Verdict
     Verdict::Refused(Refusal::NoKeptSegment)
 }
 
-// 12 of a content whose id has this row.
+// Refusal 12 of a content whose id has this row, if the content passes the size of the kept segment to which it goes.
 pub fn content_fault(row: IdRow, c: Content) -> Verdict
     ensures { λ r. ⌜ r ≡ verdictOf (contentFault row c) ⌝ }
 {

@@ -1,4 +1,5 @@
--- How many are gathered, and their keys, is one, by the contract alone. The place of each is any at which it is read again, and what stands behind them is open. Assumes nothing.
+-- How many things are gathered, and their keys, has one outcome, by the contract alone. The place of a thing is any at
+-- which it is read again, and what stands in memory behind all of them is open. Assumes nothing.
 use Prim.Native.Nat.{ℕ}
 use mathlib.Core.Path.{_≡_, sym, _∙_}
 use mathlib.Core.List.{List}

@@ -1,4 +1,5 @@
--- What a module's contents and public definitions are gathered as: a key for each, its id, and a place in the library at which it is read again.
+-- How a module's contents and public definitions are gathered: for each its id as a key, and a place in the library at
+-- which it is read again.
 use Prim.Native.Nat.{ℕ, _+_, _<_}
 use mathlib.Core.Path.{_≡_}
 use mathlib.Core.Bool.{Bool, true, false}

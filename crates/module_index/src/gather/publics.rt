@@ -1,4 +1,4 @@
-// The public definitions of a module: the id of each, and where it is read again.
+// The public definitions of a module: the id of each, and the place in the library at which it is read again.
 ghost use Rattle.lent.specs.Lists.{keep};
 ghost use Rattle.omf51.specs.Module.{definitionsAt};
 ghost use Rattle.library.specs.Gathered.{itemsAt};
@@ -9,7 +9,8 @@ use library::items::decoded::next_definition;
 use library::items::entries::start;
 use omf51::Definition;
 
-// Stores the id and the place of each public definition from a place on, and answers how many there are.
+// Stores the id and the place of each public definition from a place on, and answers how many there are. The place is
+// that of the definition's offset, four bytes before the bytes of its name.
 pub fn gather_publics(library: &[u8], from: usize, keys: &mut [u16], places: &mut [u32]) -> usize
     requires { ⌜ Roomy 5 (now library) (now keys) (now places) ⌝ }
     ensures { λ r. ⌜ GatheredInto publicKey (PublicIs (now (library .entry))) noDefinition (keep isPublicDefinition (itemsAt (now (library .entry)) (definitionsAt (now (library .entry))) from)) (now (keys .entry)) (now (places .entry)) (now (keys .exit)) (now (places .exit)) r ⌝ }

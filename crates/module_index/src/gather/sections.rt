@@ -1,4 +1,4 @@
-// The contents of a module: the id of each, and where it is sought.
+// The contents of a module: the id of each, and the place in the library from which it is read again.
 ghost use Rattle.omf51.specs.Module.{sectionsAt};
 ghost use Rattle.library.specs.Gathered.{itemsAt};
 ghost use Rattle.module_index.specs.gather.Places.{sectionKey, SectionIs, noSection};

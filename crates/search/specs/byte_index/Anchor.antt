@@ -1,4 +1,4 @@
--- The byte of a pattern by whose links its matches are found.
+-- The anchor of a pattern: the byte by whose links in the image its matches are found.
 use Prim.Native.Nat.{ℕ, _<_}
 use mathlib.Core.Path.{_≡_}
 use mathlib.Core.List.{List}

@@ -1,4 +1,4 @@
--- The index of an image's bytes: the first place of each byte, and for each place the next of its byte, as links.
+-- The index of an image's bytes: the first place of each byte, and for each place the next place with the same byte, as links.
 use Prim.Native.Nat.{ℕ, _+_, _<_, _≤_}
 use mathlib.Core.Path.{_≡_}
 use mathlib.Core.List.{List}

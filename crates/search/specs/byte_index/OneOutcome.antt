@@ -1,4 +1,4 @@
--- There is one index, by the contract alone. Assumes nothing.
+-- The index of an image's bytes has one outcome, by the contract alone. Assumes nothing.
 use Prim.Native.Nat.{ℕ, _<_}
 use mathlib.Core.Path.{_≡_}
 use mathlib.Core.List.{List}

@@ -1,4 +1,4 @@
--- Where a search stands: the matches that are left, and what makes a link one to follow.
+-- Where the search for a pattern stands: which matches are left, and which links lead to them.
 use Prim.Native.Nat.{ℕ, _-_, _<_}
 use mathlib.Core.Path.{_≡_}
 use mathlib.Core.Bool.{true}

@@ -1,4 +1,4 @@
--- A search from its start on, step by step. Assumes nothing.
+-- The search for a pattern from its start on, match by match. Assumes nothing.
 use Prim.Native.Nat.{ℕ, zero, suc, _+_, _-_, _≤_, _<_}
 use mathlib.Core.Path.{_≡_, refl, sym, ap, subst, _∙_}
 use mathlib.Core.Bool.{Bool, true, false}

@@ -1,4 +1,4 @@
--- On the way: some matches are visited, and whoever visits those that are left has visited all.
+-- On the way: some matches are gone over, and going over the matches that are left finishes the work on all.
 use Prim.Native.Nat.{ℕ}
 use mathlib.Core.List.{List}
 use lib.ListN.{length}

@@ -1,4 +1,4 @@
--- Matches visited one after another. Assumes nothing.
+-- Matches are gone over one after another. Assumes nothing.
 use Prim.Native.Nat.{ℕ}
 use mathlib.Core.Path.{_≡_, ap, _∙_}
 use mathlib.Core.List.{List, [], _++_}

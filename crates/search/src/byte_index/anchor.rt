@@ -1,17 +1,19 @@
-// The byte of a pattern by whose links its matches are found.
+// The anchor of a pattern: the byte by whose links in the image its matches are found.
 ghost use Prim.Native.Nat.{_≤_};
 ghost use lib.ListN.{length};
 ghost use Rattle.search.specs.byte_index.Anchor.{Anchored};
 use image::FirstPlace;
 
+// The lesser of two numbers.
 fn lesser(a: usize, b: usize) -> usize
     ensures { λ r. ⌜ r ≤ a ⌝ }
 {
     if a < b { a } else { b }
 }
 
-// The place of the byte that is compared whole and is rarest in the image, of those that stand there less than `most` times. One
-// that stands there less than 4 times is rare enough, and so is one that stands there not more often than bytes were looked at.
+// The place of the anchor in a pattern: the rarest in the image among the bytes that have the mask FFh and stand in the
+// image fewer than `most` times. `first` has the count of a byte 256 behind its first place. A byte that the image has
+// fewer than 4 times ends the choice, and so does one that it has no more often than bytes were looked at.
 pub fn anchor(bytes: &[u8], masks: &[u8], first: &[u32], most: usize) -> FirstPlace
     requires { ⌜ 512 ≤ length (now first) ⌝ }
     ensures { λ r. ⌜ Anchored (now (bytes .entry)) (now (masks .entry)) r ⌝ }

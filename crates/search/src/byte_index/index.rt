@@ -2,8 +2,9 @@
 ghost use Rattle.search.specs.byte_index.Index.{Ready, Indexed};
 use std::num::wrapping_add_u32;
 
-// Links each place to the next of its byte, from the back: the first place of a byte at its number, and how often it stands in
-// the image 256 further. A count only steers the search, so nothing is said of it.
+// Links each place of the image to the next place with the same byte, going from the back to the front. `first` has the
+// first place of each byte value, and 256 further on how often the image has it. A count only steers the choice of an
+// anchor, so that the contract says nothing of it.
 pub fn index(image: &[u8], first: &mut [u32], next: &mut [u32])
     requires { ⌜ Ready (now image) (now first) (now next) ⌝ }
     ensures { λ _. ⌜ Indexed (now (image .entry)) (now (first .exit)) (now (next .exit)) ⌝ }

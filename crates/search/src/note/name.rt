@@ -1,4 +1,4 @@
-// A name noted at a target.
+// A name is noted at a target.
 ghost use mathlib.Core.Path.{_≡_};
 ghost use lib.ListN.{length};
 ghost use Rattle.lent.specs.Rows.{putRow};
@@ -20,7 +20,7 @@ use tables::by_name::set_heads;
 use tables::fill::Fill;
 use tables::fill::one_more;
 
-// One row more, behind those before, if there is room.
+// Puts one more row of a noted name behind the rows before it, if there is room.
 fn append_noted(m: &mut [u64], f: Fill, row: Noted) -> Fill
     ensures { λ r. ⌜ (now (m .exit) ≡ putMore notedLayout f row (now (m .entry))) × (r ≡ oneMore f 6 (length (now (m .entry)))) ⌝ }
 {
@@ -32,7 +32,7 @@ fn append_noted(m: &mut [u64], f: Fill, row: Noted) -> Fill
     next
 }
 
-// A row that a valid match notes once more.
+// Makes row i valid: a valid match notes the same name at the same target once more.
 fn validate(m: &mut [u64], i: usize)
     ensures { λ _. ⌜ now (m .exit) ≡ putRow 6 (now (m .entry)) i (notedCells (validated (notedAt (now (m .entry)) i))) ⌝ }
 {
@@ -51,7 +51,8 @@ fn validate(m: &mut [u64], i: usize)
     );
 }
 
-// A name is noted at a target once, and is valid if any match that noted it was.
+// Notes a name at a target: a name has one row for a target, and is valid if any match that noted it was. `heads` has
+// the heads of the buckets by which rows of noted names are found; `f` says how far these rows are filled.
 pub fn note_name(
     library: &[u8],
     target: u64,

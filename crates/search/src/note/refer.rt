@@ -1,4 +1,4 @@
-// The references of a match, in file order.
+// The references of a match are gone over in file order.
 ghost use Rattle.lent.specs.Lists.{one};
 ghost use Rattle.image.specs.View.{view};
 ghost use Rattle.search.specs.note.Noting.{Refers, RefersAll};
@@ -17,8 +17,9 @@ use segments::rows::REFERENCE_WIDTH;
 use segments::rows::reference_at;
 use tables::fill::Fill;
 
-// One reference of a match at `position`. Without a target it fails; one to a segment holds if its target is a match of that
-// segment; one to a name notes it there, and holds.
+// Goes over one reference `r` of a match at `position`. A reference without a target does not hold; a reference to a
+// segment holds if that segment matches at the target; a reference to a name notes the name at the target, and holds.
+// The parameters are those of `refer_all`.
 fn refer_one(
     image: &[u8],
     s: Stretch,
@@ -57,7 +58,9 @@ fn refer_one(
     }
 }
 
-// Those of a part of the rows.
+// Goes over the references in a part of the rows, for a match at `position`. The image with its stretch `s` gives the
+// targets; the first n segments, with `bytes` and `masks`, tell what matches there; names, parts of `library`, go into
+// `noted`, whose rows are found by `heads` and filled up to `before`.
 pub fn refer_all(
     image: &[u8],
     s: Stretch,

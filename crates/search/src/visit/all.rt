@@ -1,4 +1,4 @@
-// All segments, in their order.
+// All segments, by their numbers.
 ghost use Rattle.image.specs.View.{view};
 ghost use Rattle.search.specs.byte_index.Index.{Indexed};
 ghost use Rattle.search.specs.visit.Visits.{stored, VisitsAll};
@@ -7,6 +7,9 @@ use crate::visit::segment::search_segment;
 use image::Stretch;
 use search_rules::Asked;
 
+// Searches the image, with its stretch `s`, for each of the first n segments in the five lists of the collection.
+// `first` and `next` are the byte index of the image. The two lists of the search, `placed` and `noted`, are filled
+// from `before` on; their rows are found by the heads in `positions` and `goals`. Names are parts of `library`.
 pub fn search_all(
     image: &[u8],
     s: Stretch,

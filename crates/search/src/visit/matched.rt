@@ -1,4 +1,4 @@
-// A match: its references in file order, then its symbols.
+// One match: its references are gone over in file order, and then its symbols are placed.
 ghost use mathlib.Core.Path.{_≡_};
 ghost use mathlib.Core.Bool.{_&&_, not};
 ghost use Rattle.image.specs.View.{view};
@@ -12,20 +12,23 @@ use segments::SegmentNumber;
 use segments::SegmentRow;
 use tables::fill::Fill;
 
-// Whether a match places no symbols.
+// Whether a match places no symbols: references are checked, and one does not hold.
 fn keeps_out(check: bool, holds: bool) -> bool
     ensures { λ r. ⌜ r ≡ (check && not holds) ⌝ }
 {
     check && !holds
 }
 
+// How far the two lists of the search are filled.
 fn fills(placed: Fill, noted: Fill) -> Fills
     ensures { λ r. ⌜ r ≡ record { placed = placed; noted = noted } ⌝ }
 {
     Fills { placed, noted }
 }
 
-// With checking on, a failed reference keeps the symbols out; what the references noted stays.
+// Goes over one match, of the segment `number`, whose row is `row`, at the place `at`. With checking on, a reference
+// that does not hold keeps the symbols of the match out; the names that its references noted stay. The other parameters
+// are those of `search_all`.
 pub fn visit_match(
     image: &[u8],
     s: Stretch,

@@ -1,4 +1,4 @@
-// All matches of a segment, ascending.
+// All matches of one segment, ascending.
 ghost use Rattle.image.specs.View.{view};
 ghost use Rattle.search.specs.byte_index.Index.{Indexed};
 ghost use Rattle.search.specs.visit.Visits.{stored, VisitsSegment};
@@ -14,7 +14,8 @@ use search_rules::Asked;
 use segments::SegmentNumber;
 use segments::rows::segment_at;
 
-// One with no symbol and no reference leaves nothing, wherever it matches, and is not searched.
+// Searches the image for segment i, and goes over its matches. A segment with no symbol and no reference leaves
+// nothing, wherever it matches, and is not searched for. The other parameters are those of `search_all`.
 pub fn search_segment(
     image: &[u8],
     s: Stretch,

@@ -1,4 +1,4 @@
--- One segment's pattern within the memory of all of them.
+-- The pattern of one segment within the memory of all patterns.
 use Prim.Native.Nat.{ℕ, _+_}
 use mathlib.Core.List.{List, _++_}
 use lib.Dec.{leb}

@@ -1,4 +1,4 @@
--- One definition more among the public ones of id 0. Assumes nothing.
+-- One more definition, which is a public definition of id 0 or not. Assumes nothing.
 use mathlib.Core.Path.{_≡_, refl, ap, _∙_}
 use mathlib.Core.Bool.{Bool, true, false}
 use mathlib.Core.List.{List, [], append-nil, _++_}

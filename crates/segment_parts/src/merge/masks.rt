@@ -8,7 +8,7 @@ use library::items::NextFixup;
 use library::items::decoded::next_fixup;
 use segments::masks::mask;
 
-// Before its fixups every bit of a content counts.
+// Sets all masks to FFh: before its fixups all bits of a content count.
 fn set_all(masks: &mut [u8])
     ensures { λ _. ⌜ now (masks .exit) ≡ replicate (length (now (masks .entry))) 0xff ⌝ }
 {
@@ -19,7 +19,8 @@ fn set_all(masks: &mut [u8])
     }
 }
 
-// The masks of as many bytes as are lent, changed by each fixup from the cursor on, in file order.
+// Makes the masks of a content with as many bytes as masks are lent: FFh for each byte, changed by each fixup from the
+// cursor on, in file order.
 pub fn content_masks(library: &[u8], fixups: Cursor, masks: &mut [u8])
     ensures { λ _. ⌜ now (masks .exit) ≡ masksOf (length (now (masks .entry))) (fixupsLeft (now (library .entry)) fixups) ⌝ }
 {

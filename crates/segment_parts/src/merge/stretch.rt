@@ -1,9 +1,10 @@
-// Merging into a stretch of pattern memory. Bytes and masks are merged alike, so one function serves both.
+// Merging into one segment's part of pattern memory. Bytes and masks are merged alike, so that one function serves both.
 ghost use mathlib.Core.Path.{_≡_};
 ghost use Rattle.segments.specs.Masks.{ored, merged};
 ghost use Rattle.segment_parts.specs.merge.MergedAt.{mergedAt};
 
-// Nothing is overwritten: each place gets the bits of both. Past the end of either nothing changes.
+// ORs new bytes into old bytes, so that each place has the bits of both and nothing is overwritten. Bytes past the end
+// of the shorter of the two change nothing.
 fn or_into(old: &mut [u8], new: &[u8])
     ensures { λ _. ⌜ now (old .exit) ≡ ored (now (old .entry)) (now (new .entry)) ⌝ }
 {
@@ -17,7 +18,7 @@ fn or_into(old: &mut [u8], new: &[u8])
     }
 }
 
-// A pattern from an offset on; one past its end leaves it as it is.
+// ORs new bytes into a pattern from an offset on; an offset past the pattern's end changes nothing.
 pub fn merge(pattern: &mut [u8], offset: usize, new: &[u8])
     ensures { λ _. ⌜ now (pattern .exit) ≡ merged (now (pattern .entry)) offset (now (new .entry)) ⌝ }
 {
@@ -26,8 +27,9 @@ pub fn merge(pattern: &mut [u8], offset: usize, new: &[u8])
     }
 }
 
-// The pattern of a segment is `size` bytes of the memory of all segments; one that passes its end is not touched. No sum is
-// taken before it is known to fit, so none can wrap.
+// Merges new bytes into one segment's pattern, the `size` bytes from `start` on in the memory of all segments,
+// from an offset on. A pattern that passes the memory's end is not touched; no sum is taken before the pattern
+// is known to fit, so that none can wrap.
 pub fn merge_at(memory: &mut [u8], start: usize, size: usize, offset: usize, new: &[u8])
     ensures { λ _. ⌜ now (memory .exit) ≡ mergedAt (now (memory .entry)) start size offset (now (new .entry)) ⌝ }
 {

@@ -1,17 +1,18 @@
-// Flags of blocks: 256 places are one block, and a block is flagged where one of its places is sought.
+// Flags of blocks: 256 public definitions in a row are one block, and a block is flagged if a public definition in it
+// is inside the absolute content at hand.
 ghost use mathlib.Core.Path.{_≡_};
 ghost use Prim.Native.Nat.{_<_, _≤_, _^_};
 ghost use lib.ListN.{getD, set};
 ghost use Rattle.segment_parts.specs.symbols_by_offset.Flags.{FlagsBlock, FlagsAlong, FlagsInside, Clears};
 use tables::links::number_at;
 
-// All flagged blocks lie from `low` up to `high`, which is not one of them.
+// Bounds of the flagged blocks: all of them lie from `low` on and below `high`.
 pub struct Blocks {
     pub low: usize,
     pub high: usize,
 }
 
-// The flag of a block, 0 where there is none.
+// The flag of a block, 0 past the end of the flags.
 pub fn flag_at(flags: &[u8], b: usize) -> u8
     ensures { λ r. ⌜ r ≡ getD (now (flags .entry)) b 0 ⌝ }
 {
@@ -21,6 +22,7 @@ pub fn flag_at(flags: &[u8], b: usize) -> u8
     0
 }
 
+// Puts the flag of a block; past the end of the flags nothing changes.
 fn put_flag(flags: &mut [u8], b: usize, flag: u8)
     ensures { λ _. ⌜ now (flags .exit) ≡ set (now (flags .entry)) b flag ⌝ }
 {
@@ -29,6 +31,7 @@ fn put_flag(flags: &mut [u8], b: usize, flag: u8)
     }
 }
 
+// The lower bound once block b is flagged too.
 fn lower(low: usize, b: usize) -> usize
     ensures { λ r. ⌜ (r ≤ low) × (r ≤ b) ⌝ }
 {
@@ -38,6 +41,7 @@ fn lower(low: usize, b: usize) -> usize
     low
 }
 
+// The upper bound once block b is flagged too.
 fn higher(high: usize, b: usize) -> usize
     requires { ⌜ b < 2 ^ 32 ⌝ }
     ensures { λ r. ⌜ (high ≤ r) × ((b < r) × (high ≤ 2 ^ 32 → r ≤ 2 ^ 32)) ⌝ }
@@ -48,6 +52,7 @@ fn higher(high: usize, b: usize) -> usize
     high
 }
 
+// Flags block b, and widens the bounds so that they include it.
 fn flag_block(flags: &mut [u8], s: Blocks, b: usize) -> Blocks
     requires { ⌜ b < 2 ^ 32 ⌝ }
     ensures { λ r. ⌜ FlagsBlock b (now (flags .entry)) s (now (flags .exit)) r ⌝ }
@@ -59,7 +64,7 @@ fn flag_block(flags: &mut [u8], s: Blocks, b: usize) -> Blocks
     }
 }
 
-// The blocks of all places from a link on.
+// Flags the blocks of all public definitions that are met from a link on.
 fn flag_along(link: u32, next: &[u32], before: Blocks, flags: &mut [u8]) -> Blocks
     ensures { λ r. ⌜ FlagsAlong link (now (next .entry)) (now (flags .entry)) before (now (flags .exit)) r ⌝ }
 {
@@ -74,6 +79,7 @@ fn flag_along(link: u32, next: &[u32], before: Blocks, flags: &mut [u8]) -> Bloc
     s
 }
 
+// The link to the first public definition with offset v, 0 past the end of the heads.
 fn head_at(first: &[u32], v: usize) -> u32
     ensures { λ r. ⌜ r ≡ getD (now (first .entry)) v 0 ⌝ }
 {
@@ -83,7 +89,7 @@ fn head_at(first: &[u32], v: usize) -> u32
     0
 }
 
-// The blocks of all places whose key is inside `len` numbers from `at` on.
+// Flags the blocks of all public definitions with an offset inside the `len` numbers from `at` on.
 pub fn flag_inside(at: usize, len: usize, first: &[u32], next: &[u32], flags: &mut [u8]) -> Blocks
     requires { ⌜ (at < 65536) × (len < 65536) ⌝ }
     ensures { λ r. ⌜ FlagsInside at len (now (first .entry)) (now (next .entry)) (now (flags .entry)) (now (flags .exit)) r ⌝ }
@@ -100,7 +106,7 @@ pub fn flag_inside(at: usize, len: usize, first: &[u32], next: &[u32], flags: &m
     s
 }
 
-// No flag is left.
+// Sets the flags within the bounds to 0 again, so that no flag is left for the next content.
 pub fn clear_blocks(flags: &mut [u8], s: Blocks)
     ensures { λ _. ⌜ Clears s (now (flags .entry)) (now (flags .exit)) ⌝ }
 {

@@ -1,4 +1,4 @@
-// The symbols of an absolute content: those of the public definitions of id 0 that lie inside it, in the order in which they stand.
+// The symbols of an absolute content: the public definitions of id 0 with an offset inside it, in file order.
 ghost use mathlib.Core.Path.{_≡_};
 ghost use mathlib.Core.Bool.{_&&_};
 ghost use Prim.Native.Nat.{_+_, _<_, _≤_, _^_};
@@ -15,6 +15,7 @@ use crate::symbols_by_offset::flags::flag_inside;
 use tables::fill::Fill;
 use tables::links::number_at;
 
+// The offset of public definition j, 0 past the end of the keys.
 fn key_at(keys: &[u16], j: usize) -> usize
     ensures { λ r. ⌜ r ≡ getD (now (keys .entry)) j 0 ⌝ }
 {
@@ -24,6 +25,7 @@ fn key_at(keys: &[u16], j: usize) -> usize
     0
 }
 
+// Whether v is one of the `len` numbers from `at` on.
 fn is_inside(at: usize, len: usize, v: usize) -> bool
     ensures { λ r. ⌜ r ≡ (leb at v && ltb v (at + len)) ⌝ }
 {
@@ -33,7 +35,8 @@ fn is_inside(at: usize, len: usize, v: usize) -> bool
     v - at < len
 }
 
-// The one of a place, if its key is inside: most are not, and are passed without reading the library.
+// Puts the symbol of public definition j, if its offset is inside the content of `len` bytes at `at`. Most offsets are
+// not, and their definitions are passed over without reading the library.
 fn name_place(
     library: &[u8],
     at: usize,
@@ -54,7 +57,9 @@ fn name_place(
     f
 }
 
-// Those of the flagged blocks; a block without a flag is passed at once.
+// Puts the symbols of the public definitions inside the content, going over the flagged blocks; a block
+// without a flag is passed over at once. `keys` and `places` have the offsets of the n public definitions of
+// id 0 and their places in the library.
 fn name_blocks(
     library: &[u8],
     at: usize,
@@ -88,7 +93,9 @@ fn name_blocks(
     f
 }
 
-// Follows the links of each offset inside, and then goes over the blocks that were met. No flag is left.
+// Puts the symbols of an absolute content of `len` bytes at `at` behind the filled rows of `m`. The public definitions
+// of id 0 are given by offset and place (`keys`, of which n count, `places`), linked by offset (`first`, `next`). Links
+// meet them out of file order, so that they only flag blocks, which are then gone over; `flags` is lent and left clear.
 pub fn name_inside(
     library: &[u8],
     at: usize,

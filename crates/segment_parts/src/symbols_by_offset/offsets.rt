@@ -1,4 +1,4 @@
-// The public definitions of id 0: the offset of each, and where it is read again.
+// The public definitions of id 0 in a module: the offset of each, and the place in the library at which it is read again.
 ghost use Rattle.omf51.specs.Module.{definitionsAt};
 ghost use Rattle.library.specs.Gathered.{itemsAt};
 ghost use Rattle.module_index.specs.gather.Places.{PublicIs, noDefinition};
@@ -37,7 +37,8 @@ fn gather_offsets(library: &[u8], from: usize, keys: &mut [u16], places: &mut [u
     }
 }
 
-// Links them by offset.
+// Indexes the public definitions of id 0, from a place on, and answers how many there are: the offset of each goes into
+// `keys`, its place in the library into `places`; `first` and `next` link the public definitions of one offset.
 pub fn index_offsets(
     library: &[u8],
     from: usize,

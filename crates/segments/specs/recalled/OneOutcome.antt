@@ -1,4 +1,4 @@
--- Whether a part lies within has one answer, by the contract alone. Assumes nothing.
+-- Whether a part lies within a list has one answer, by the contract alone. Assumes nothing.
 use Prim.Native.Nat.{ℕ, _+_}
 use mathlib.Core.Path.{_≡_}
 use lib.Dec.{leb}

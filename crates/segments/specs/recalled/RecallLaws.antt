@@ -76,7 +76,8 @@ module _ (gs : List Collected) (segments references symbols bytes masks : List �
       (r .seat)
       (bytes-stand bytes (row .pattern) (g .bytes) (stands-in (r .bytes) (f .bytes-are)))
       (bytes-stand masks (row .pattern) (g .masks) (stands-in (r .masks) (f .masks-are)))
-      (rows-stand referenceLayout references (row .references) (allReferences gs) (referenceAt [] 0) (g .references) (omega arith) (f .references-room) (r .references .within) (stands-long (r .references)) (λ k h. own-reference r references k (referenceAt [] 0) (f .references-room) (f .references-are) h))
+      (rows-stand referenceLayout references (row .references) (allReferences gs) (referenceAt [] 0) (g .references) (omega arith)
+      (f .references-room) (r .references .within) (stands-long (r .references)) (λ k h. own-reference r references k (referenceAt [] 0) (f .references-room) (f .references-are) h))
       (rows-stand symbolLayout symbols (row .symbols) (allSymbols gs) (symbolAt [] 0) (g .symbols) (omega arith) (f .symbols-room) (r .symbols .within) (stands-long (r .symbols)) (λ k h. own-symbol r symbols k (symbolAt [] 0) (f .symbols-room) (f .symbols-are) h))
 
   pub recalled-all : recalled segments references symbols bytes masks (length gs) ≡ gs

@@ -1,4 +1,4 @@
--- A part of the rows, row by row. Assumes nothing.
+-- A part of the rows in memory, read row by row. Assumes nothing.
 use Prim.Native.Nat.{ℕ, _+_, _-_, _/_, _≤_, _<_}
 use mathlib.Core.Path.{_≡_, sym, ap}
 use mathlib.Core.Bool.{Bool, true, false, not, false≢true}

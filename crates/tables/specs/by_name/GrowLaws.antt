@@ -1,4 +1,4 @@
--- A table of named things, after one more, and after one was changed. Assumes nothing.
+-- A table of named things, after one more thing came, and after one thing was changed. Assumes nothing.
 use Prim.Native.Nat.{ℕ, suc, _+_, _-_, _*_, _<_, _≤_}
 use mathlib.Core.Path.{_≡_, refl, sym, ap, subst, _∙_}
 use mathlib.Core.Bool.{Bool, true, false, false≢true}

@@ -1,4 +1,4 @@
--- Keys and names: when two are one, and which bucket they are in. Assumes nothing.
+-- Keys and names: when two of them are the same, and which bucket they are in. Assumes nothing.
 use Prim.Native.Nat.{ℕ, _+_, _*_, _%_, _<_, _≤_}
 use mathlib.Core.Path.{_≡_, refl, sym}
 use mathlib.Core.Bool.{true, false, false≢true}

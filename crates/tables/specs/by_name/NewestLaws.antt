@@ -1,4 +1,4 @@
--- The newest that passes a test. Assumes nothing.
+-- Laws of the newest thing that passes a test. Assumes nothing.
 use Prim.Native.Nat.{ℕ, suc, _+_, _-_, _≤_}
 use mathlib.Core.Path.{_≡_, refl, sym, ap, subst, _∙_}
 use mathlib.Core.Bool.{Bool, true, false, false≢true, _||_}

@@ -1,4 +1,5 @@
--- ONE THING is taken in by a step that adds what has a new key and name: the cases of the code. Assumes nothing.
+-- ONE THING is taken into a table by a step that adds only things with a new key and name:
+-- the cases of the code. Assumes nothing.
 use Prim.Native.Nat.{ℕ, _+_, _≤_}
 use mathlib.Core.Path.{_≡_, refl, sym, ap, subst, _∙_}
 use mathlib.Core.Bool.{Bool, true, false}

@@ -1,4 +1,4 @@
--- What is found, and what heads are left, has one outcome, by the contract alone. Assumes nothing.
+-- Looking up a row, and setting heads, has one outcome, by the contract alone. Assumes nothing.
 use Prim.Native.Nat.{ℕ}
 use mathlib.Core.Path.{_≡_}
 use mathlib.Core.List.{List}

@@ -1,4 +1,5 @@
--- What makes a sheet's rows ones that are found: they are read back, and have the key, the name and the link where it is looked for.
+-- What a layout of named rows needs so that rows are found: a row is read back as it was put, and its key, name and
+-- link stand where a search looks for them.
 use Prim.Native.Nat.{ℕ, _-_, _≤_}
 use mathlib.Core.Path.{_≡_}
 use lib.ListN.{getD}

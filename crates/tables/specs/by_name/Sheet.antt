@@ -1,5 +1,6 @@
--- Things that have a key and a name, kept as rows in the order in which they came. Each row has two links: to the newest
--- row before it of its key's bucket, and to the newest before it of the bucket of its key and name together.
+-- Tables of named things: each thing has a key and a name, and is kept as a row, in the order in which things
+-- came. A row has two links: to the newest earlier row in its key's bucket, and to the newest earlier row in
+-- the bucket of its key and name together.
 use Prim.Native.Nat.{ℕ, _+_, _*_, _%_}
 use mathlib.Core.Bool.{Bool, _&&_}
 use mathlib.Core.List.{List, [], _∷_, _++_}
@@ -10,28 +11,30 @@ use Rattle.lent.specs.Parts.{bytesOf, sameName}
 use Rattle.lent.specs.Rows.{Layout}
 use Rattle.tables.specs.by_name.Newest.{newest}
 
--- what such a thing has, and the row that it makes with its two links
+-- how a kind of thing is kept in such a table: its key, its name, and the row that it makes with its two links
 pub record Sheet (A R : Type 0) : Type 0 where
   pub layout : Layout R
   pub key : A → ℕ
   pub name : A → Part
   pub row : A → ℕ → ℕ → R
 
--- how many buckets there are of each kind
+-- how many buckets of keys there are
 abbrev pub keyBuckets : ℕ
 keyBuckets = 65536
 
+-- how many buckets of key and name together there are
 abbrev pub nameBuckets : ℕ
 nameBuckets = 65536
 
--- the bucket of a key: its low 16 bits; and of a key and a name: a number from the key and the name's bytes, spread so that
--- few others share it
+-- the bucket of a key: its low 16 bits
 abbrev pub keyBucket : ℕ → ℕ
 keyBucket key = key % keyBuckets
 
+-- a number h after the bytes of a name were mixed in, so that few names share a bucket
 abbrev pub spread : ℕ → List ℕ → ℕ
 spread h bytes = fold (λ k byte. (k * 31 + byte) % nameBuckets) h bytes
 
+-- the bucket of a key and a name together
 unfoldable pub nameBucket : ℕ → List ℕ → ℕ
 nameBucket key bytes = spread (key % nameBuckets) bytes
 

@@ -1,4 +1,5 @@
--- The rows of linked things: one more, which stands where, and one that is changed. Assumes nothing.
+-- The rows of a table of named things: after one more thing, which row stands where, and after
+-- one thing was changed. Assumes nothing.
 use Prim.Native.Nat.{ℕ, zero, suc, _+_, _<_}
 use mathlib.Core.Path.{_≡_, refl, sym, ap, _∙_}
 use mathlib.Core.Bool.{Bool, true, false}

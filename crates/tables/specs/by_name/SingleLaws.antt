@@ -1,4 +1,4 @@
--- Things no two of which have one key and one name: one more, one changed, all changed. Assumes nothing.
+-- Things of which no two have the same key and name: after one more, after one or all were changed. Assumes nothing.
 use Prim.Native.Nat.{ℕ, zero, suc, _+_, _-_, _<_, _≤_}
 use mathlib.Core.Path.{_≡_, refl, sym, ap, _∙_}
 use mathlib.Core.Bool.{Bool, true, false, false≢true, _||_}

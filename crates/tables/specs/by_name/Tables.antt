@@ -15,13 +15,13 @@ use Rattle.tables.specs.fill.Filling.{Filling}
 use Rattle.tables.specs.by_name.Newest.{newest}
 use Rattle.tables.specs.by_name.Sheet.{Sheet, keyBuckets, nameBuckets, keyBucket, isNamed, inKey, bucketOf, inName, linked}
 
--- row j of memory has this key and name: they are its first three numbers
+-- row j of the memory m has this key and name, as its first three numbers say
 abbrev pub rowIs : List ℕ → ℕ → List ℕ → ℕ → Part → ℕ → Bool
 rowIs library width m key name j =
     let n = cellOf width m j in eqb (n 0) key && sameName library (record { at = n 1; len = n 2 }) name
 
--- from a link on: the link to the first row that is met and has this key and name, or 0. The last number of a row leads on;
--- one that does not lead to an earlier row ends the way, so that whoever follows them comes to an end
+-- the link to the first row with this key and name that is met when the links are followed from `link` on, or 0. The last
+-- number of a row is the link onwards; a link that does not lead to an earlier row ends the way, so that n steps are enough
 unfoldable pub followedFor : List ℕ → ℕ → List ℕ → ℕ → Part → ℕ → ℕ → ℕ
 followedFor library width m key name zero link = 0
 followedFor library width m key name (suc n) link =
@@ -35,11 +35,11 @@ followedFor library width m key name (suc n) link =
 abbrev pub followed : List ℕ → ℕ → List ℕ → ℕ → Part → ℕ → ℕ
 followed library width m key name link = followedFor library width m key name link link
 
--- the heads of two buckets, one of each kind, lead to a row
+-- the heads after those of two buckets, one of each kind, were made links to a row
 abbrev pub headsWith : List ℕ → ℕ → ℕ → ℕ → List ℕ
 headsWith heads key bucket number = set (set heads (keyBucket key) number) (keyBuckets + bucket) number
 
--- what is lent for rows, the heads of the buckets, those of keys first, and how far memory is filled
+-- the memory lent for rows, the heads of the buckets (buckets of keys first), and how far the memory is filled
 pub record Table : Type 0 where
   pub memory : List ℕ
   pub heads : List ℕ

@@ -1,4 +1,4 @@
--- What is looked at of a row, made of its numbers. Assumes nothing.
+-- What a search looks at in a row (its tag), from the row's numbers. Assumes nothing.
 use Prim.Native.Nat.{ℕ, _+_, _-_, _*_, _<_, _≤_}
 use mathlib.Core.Path.{_≡_, refl, sym, ap, _∙_}
 use mathlib.Core.Logic.{_⊎_, inl, inr}

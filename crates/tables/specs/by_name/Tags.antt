@@ -1,4 +1,4 @@
--- What is looked at of a row when one is sought, and heads made from rows.
+-- What a search looks at in a row (its tag), and the heads that are made from rows.
 use Prim.Native.Nat.{ℕ, zero, suc, _+_, _-_, _/_, _≤_, _<_}
 use mathlib.Core.Bool.{Bool, _&&_, not}
 use mathlib.Core.List.{List}
@@ -13,16 +13,17 @@ use Rattle.tables.specs.by_name.Tables.{headsWith}
 abbrev pub tagAt : ℕ → List ℕ → ℕ → Tag
 tagAt width m i = let n = cellOf width m i in record { key = n 0; name = record { at = n 1; len = n 2 }; next = n (width - 1) }
 
--- a name of a length can't have so many bytes; one that is no part of the library has none
+-- a name of this length can't have the bytes wanted, by their number alone; no bytes are wanted of any length, since a
+-- name that passes the library's end has none
 abbrev pub otherLength : ℕ → ℕ → Bool
 otherLength len wanted = not (eqb wanted 0) && not (eqb len wanted)
 
--- so many rows are whole, and if there is one it is wide enough for all of that
+-- so many rows are whole in memory, and if there is one, a row is wide enough for a key and a name
 pub record Whole (width : ℕ) (m : List ℕ) (rows : ℕ) : Type 0 where
   pub whole : rows ≤ length m / width
   pub wide : 0 < rows → 3 ≤ width
 
--- heads after the first n rows were gone over
+-- the heads after the first n rows in memory were gone over
 unfoldable pub headedBy : List ℕ → ℕ → List ℕ → List ℕ → ℕ → List ℕ
 headedBy library width m heads zero = heads
 headedBy library width m heads (suc n) =

@@ -1,4 +1,4 @@
--- Lent memory that is filled with rows: what it holds while there is room, and that there are too many once there is none.
+-- Lent memory that is filled with rows: what it holds while there is room, and that there are too many rows once there is none.
 use Prim.Native.Nat.{ℕ, _+_, _*_, _≤_, _<_}
 use mathlib.Core.Path.{_≡_}
 use mathlib.Core.Bool.{true, false}
@@ -20,25 +20,25 @@ oneMore f width len =
     else if leb (f .rows * width + width) len then record { rows = f .rows + 1; over = false }
     else noMore f
 
--- memory after one row more: it is put behind those before, if there is room
+-- the memory after one row more, which is put behind the rows before it, if there is room
 unfoldable pub putMore : {R : Type 0} → Layout R → Fill → R → List ℕ → List ℕ
 putMore l f r m = if oneMore f (l .width) (length m) .over then m else putRow (l .width) m (f .rows) (l .cells r)
 
--- memory as it is while there is room
+-- the memory holds exactly these rows, and then zeros
 pub record Holds {R : Type 0} (l : Layout R) (rows : List R) (m : List ℕ) (f : Fill) : Type 0 where
   pub number : f .rows ≡ length rows
   pub room : length rows * l .width ≤ length m
   pub memory : m ≡ padded (length m) (joined (l .cells) rows)
 
--- either it holds the rows, or there are too many of them
+-- either the memory holds the rows, or there are too many of them for it
 pub record Filling {R : Type 0} (l : Layout R) (rows : List R) (m : List ℕ) (f : Fill) : Type 0 where
   pub fits : f .over ≡ false → Holds l rows m f
   pub over : f .over ≡ true → length m < length rows * l .width
 
--- memory that held some rows, or was too small for them, holds the new ones behind them, or is too small
+-- if the memory held some rows, or was too small for them, then it holds the new rows behind them, or is too small for all
 abbrev pub Adds : {R : Type 0} → Layout R → List R → List ℕ → Fill → List ℕ → Fill → Type 0
 Adds {R} l new m f n g = (rows : List R) → Filling l rows m f → Filling l (rows ++ new) n g
 
--- whoever adds what is left has added all
+-- adding the rows that are left, from here on, comes to adding all of them from the start
 abbrev pub Leads : {R : Type 0} → Layout R → List R → List ℕ → Fill → List R → List ℕ → Fill → Type 0
 Leads l left m f all m₀ f₀ = (n : List ℕ) (g : Fill) → Adds l left m f n g → Adds l all m₀ f₀ n g

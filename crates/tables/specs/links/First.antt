@@ -1,4 +1,4 @@
--- The first number from one up to another that passes a test; as a link, one more than it, or 0 where there is none.
+-- The first number between two bounds that passes a test; as a link, it is one more, or 0 where there is none.
 use Prim.Native.Nat.{ℕ, zero, suc, _+_, _-_}
 use mathlib.Core.Bool.{Bool}
 use mathlib.Core.Option.{Option, none, some}
@@ -8,7 +8,7 @@ unfoldable pub firstOf : (ℕ → Bool) → ℕ → ℕ → Option ℕ
 firstOf p zero at = none
 firstOf p (suc n) at = if p at then some at else firstOf p n (at + 1)
 
--- from `low` up to `high`, which is not tried
+-- the first number from `low` on and below `high` that passes the test
 abbrev pub firstIn : (ℕ → Bool) → ℕ → ℕ → Option ℕ
 firstIn p low high = firstOf p (high - low) low
 

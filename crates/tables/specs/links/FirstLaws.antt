@@ -1,4 +1,4 @@
--- A search for the first, step by step. Assumes nothing.
+-- A search for the first number that passes a test, step by step. Assumes nothing.
 use Prim.Native.Nat.{ℕ, suc, _+_, _-_, _≤_, _<_}
 use mathlib.Core.Path.{_≡_, _∙_}
 use mathlib.Core.Bool.{Bool, true, false}

@@ -1,4 +1,4 @@
--- The index of a list of keys: the first place of each key, and for each place the next of its key, as links.
+-- The index of a list of keys: the first place of each key, and for each place the next place of the same key, as links.
 use Prim.Native.Nat.{ℕ, _+_, _<_, _≤_}
 use mathlib.Core.Path.{_≡_}
 use mathlib.Core.List.{List}
@@ -9,11 +9,11 @@ use Rattle.tables.specs.links.First.{firstIn, linkTo}
 abbrev pub keyAt : List ℕ → ℕ → ℕ
 keyAt keys i = getD keys i 0
 
--- the link to the first place of a key from a place on
+-- the link to the first place of a key at or after the place `from`
 abbrev pub linkFrom : List ℕ → ℕ → ℕ → ℕ
 linkFrom keys key from = linkTo (firstIn (λ j. eqb (keyAt keys j) key) from (length keys))
 
--- tables in which the places from `i` on are linked; keys are below `bound`
+-- tables in which the places from i on are linked; all keys are below `bound`
 pub record LinkedIn (bound : ℕ) (keys : List ℕ) (i : ℕ) (first next : List ℕ) : Type 0 where
   pub heads : bound ≤ length first
   pub room : length keys ≤ length next
@@ -23,14 +23,14 @@ pub record LinkedIn (bound : ℕ) (keys : List ℕ) (i : ℕ) (first next : List
 abbrev pub Linked : List ℕ → ℕ → List ℕ → List ℕ → Type 0
 Linked keys i first next = LinkedIn 65536 keys i first next
 
--- tables with room, in which nothing is linked
+-- tables that are long enough for these keys, and in which nothing is linked
 pub record Ready (keys first next : List ℕ) : Type 0 where
   pub few : length keys < 4294967296
   pub heads : 65536 ≤ length first
   pub room : length keys ≤ length next
   pub clear : (key : ℕ) → key < 65536 → getD first key 0 ≡ 0
 
--- the heads of the first n of these keys are 0, the others as they were
+-- the heads of the first n keys are 0, and all other heads are as they were
 pub record ClearedTo (keys : List ℕ) (n : ℕ) (before after : List ℕ) : Type 0 where
   pub long : length after ≡ length before
   pub those : (j : ℕ) → j < n → getD after (keyAt keys j) 0 ≡ 0

@@ -1,4 +1,4 @@
--- One place more is linked; and heads are 0 again after all. Assumes nothing.
+-- Laws of the index: one place more is linked; the heads of all keys are 0 again after they were cleared. Assumes nothing.
 use Prim.Native.Nat.{ℕ, zero, suc, _+_, _<_, _≤_}
 use mathlib.Core.Path.{_≡_, refl, sym, ap, subst, _∙_}
 use mathlib.Core.Bool.{Bool, true, false}

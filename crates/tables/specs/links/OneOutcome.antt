@@ -1,4 +1,5 @@
--- What is looked up and what is cleared has one outcome, by the contract alone; tables of links are one as far as they are followed. Assumes nothing.
+-- Looking up and clearing has one outcome, by the contract alone; two tables of links agree
+-- wherever they are followed. Assumes nothing.
 use Prim.Native.Nat.{ℕ, zero, suc, _<_, _≤_}
 use mathlib.Core.Path.{_≡_, refl, sym, _∙_}
 use mathlib.Core.Bool.{Bool, true, false}

@@ -28,7 +28,8 @@ use borrow.Author.Needs.{needs}
 use Rattle.collect.proofs.absolute.store_absolutes.Statement.{statement}
 use Rattle.collect.proofs.absolute.store_absolutes.Tie as tie
 
-record Inv (library : List ℕ) (own : Bool) (number : ℕ) (table first next places keys : List ℕ) (n : ℕ) (entries heads onward apart₀ flags₀ apart flags : List ℕ) (c₀ : CollectCounts) (l₀ l : CollectLists) (last here : ℕ) (c : CollectCounts) : Type 0 where
+record Inv (library : List ℕ) (own : Bool) (number : ℕ) (table first next places keys : List ℕ) (n : ℕ)
+    (entries heads onward apart₀ flags₀ apart flags : List ℕ) (c₀ : CollectCounts) (l₀ l : CollectLists) (last here : ℕ) (c : CollectCounts) : Type 0 where
   long : SameLengths l₀ l
   apart-long : length apart ≡ length apart₀
   flags-long : length flags ≡ length flags₀
@@ -38,71 +39,115 @@ record Inv (library : List ℕ) (own : Bool) (number : ℕ) (table first next pl
       → Storing (SectionIs library places) next rules library m number gs last here l c
 
 abbrev Inv-loop : tie.InvT-loop
-Inv-loop library own number table first next places keys n entries heads onward segments₀ references₀ symbols₀ bytes₀ masks₀ apart₀ flags₀ last₀ here₀ c₀ segments references symbols bytes masks apart flags last here c =
-    Inv library own number table first next places keys n entries heads onward apart₀ flags₀ apart flags c₀ (lists segments₀ references₀ symbols₀ bytes₀ masks₀) (lists segments references symbols bytes masks) last here c
+Inv-loop library own number table first next places keys n entries heads onward segments₀ references₀ symbols₀ bytes₀ masks₀ apart₀ flags₀ last₀
+    here₀ c₀ segments references symbols bytes masks apart flags last here c =
+    Inv library own number table first next places keys n entries heads onward apart₀ flags₀ apart flags c₀
+    (lists segments₀ references₀ symbols₀ bytes₀ masks₀) (lists segments references symbols bytes masks) last here c
 
 abbrev μ-loop : tie.MeasureT-loop
-μ-loop library own number table first next places keys n entries heads onward segments₀ references₀ symbols₀ bytes₀ masks₀ apart₀ flags₀ last₀ here₀ c₀ segments references symbols bytes masks apart flags last here c = 2 ^ 32 - last
+μ-loop library own number table first next places keys n entries heads onward segments₀ references₀ symbols₀ bytes₀ masks₀ apart₀ flags₀ last₀ here₀
+    c₀ segments references symbols bytes masks apart flags last here c = 2 ^ 32 - last
+
+-- The ladder: places of the code that the answers cite, each as it is seen from a later place.
+abbrev after-shared-slice-known4 : tie.After-number-at Inv-loop μ-loop → tie.After-shared-slice-known4 Inv-loop μ-loop
+after-shared-slice-known4 c = c .before .before .before .before .before .before .before .before .before .before .before .before .before
+
+abbrev at-in-loop-from-enum-told : tie.After-enum-told Inv-loop μ-loop → tie.In-loop Inv-loop μ-loop
+at-in-loop-from-enum-told c = c .before .before .before .before
+
+abbrev after-content : tie.After-store-absolute-arg7 Inv-loop μ-loop → tie.After-content Inv-loop μ-loop
+after-content c = c .before .before .before .before .before .before .before .before
+
+abbrev at-in-loop-from-store-absolute-arg7 : tie.After-store-absolute-arg7 Inv-loop μ-loop → tie.In-loop Inv-loop μ-loop
+at-in-loop-from-store-absolute-arg7 c = after-content c .before .before .before .before
+
+abbrev at-loop : tie.After-store-absolute Inv-loop μ-loop → tie.At-loop Inv-loop μ-loop
+at-loop c = at-in-loop-from-store-absolute-arg7 (c .before) .before
+
+abbrev at-entry : tie.After-store-absolute Inv-loop μ-loop → tie.Start Inv-loop μ-loop
+at-entry c = after-shared-slice-known4 (at-loop c .before) .before .before .before .before
+
+abbrev after-store-absolute-from-slice-known14 : tie.After-slice-known14 Inv-loop μ-loop → tie.After-store-absolute Inv-loop μ-loop
+after-store-absolute-from-slice-known14 c = c .before .before .before .before .before .before .before .before .before .before .before .before .before .before
+
+abbrev after-store-absolute-from-enum-told2 : tie.After-enum-told2 Inv-loop μ-loop → tie.After-store-absolute Inv-loop μ-loop
+after-store-absolute-from-enum-told2 c = after-store-absolute-from-slice-known14 (c .before .before)
+
+abbrev after-store-absolute-from-number-at3 : tie.After-number-at3 Inv-loop μ-loop → tie.After-store-absolute Inv-loop μ-loop
+after-store-absolute-from-number-at3 c = after-store-absolute-from-slice-known14 (c .before .before .before .before)
 
 -- once a content is stored: it is the one that stands there
 abbrev Kept : Type 0
 Kept = tie.After-store-absolute Inv-loop μ-loop
 
-stored-here : (c : Kept) (rules : Rules) (m : Module) (gs : List Collected) → c .before .before .before .before .before .before .before .before .before .before .before .before .before .before .before .before .before .before .before .before .before .before .before .before .before .before .before .before .before .before .before .before .args .own ≡ ownBy rules
-    → ByOffset (c .before .before .before .before .before .before .before .before .before .before .before .before .before .before .before .before .before .before .before .before .before .before .before .before .before .before .before .before .before .before .before .before .args .library .now) m (c .before .before .before .before .before .before .before .before .before .before .before .before .before .before .before .before .before .before .before .before .before .before .before .before .before .before .before .before .before .before .before .before .args .table .now) (c .before .before .before .before .before .before .before .before .before .before .before .before .before .before .before .before .before .before .before .before .before .before .before .before .before .before .before .before .before .before .before .before .args .first .now) (c .before .before .before .before .before .before .before .before .before .before .before .before .before .before .before .before .before .before .before .before .before .before .before .before .before .before .before .before .before .before .before .before .args .next .now) (c .before .before .before .before .before .before .before .before .before .before .before .before .before .before .before .before .before .before .before .before .before .before .before .before .before .before .before .before .before .before .before .before .args .places .now) (c .before .before .before .before .before .before .before .before .before .before .before .before .before .before .before .before .before .before .before .before .before .before .before .before .before .before .before .before .before .before .before .before .args .keys .now) (c .before .before .before .before .before .before .before .before .before .before .before .before .before .before .before .before .before .before .before .before .before .before .before .before .before .before .before .before .before .before .before .before .args .n) (c .before .before .before .before .before .before .before .before .before .before .before .before .before .before .before .before .before .before .before .before .before .before .before .before .before .before .before .before .before .before .before .before .args .entries .now) (c .before .before .before .before .before .before .before .before .before .before .before .before .before .before .before .before .before .before .before .before .before .before .before .before .before .before .before .before .before .before .before .before .args .heads .now) (c .before .before .before .before .before .before .before .before .before .before .before .before .before .before .before .before .before .before .before .before .before .before .before .before .before .before .before .before .before .before .before .before .args .onward .now) (c .before .before .before .before .before .before .before .before .before .before .before .before .before .before .before .before .before .before .before .before .before .before .before .before .before .before .before .before .before .before .before .before .args .flags .now)
-    → (s : Section) → SectionIs (c .before .before .before .before .before .before .before .before .before .before .before .before .before .before .before .before .before .before .before .before .before .before .before .before .before .before .before .before .before .before .before .before .args .library .now) (c .before .before .before .before .before .before .before .before .before .before .before .before .before .before .before .before .before .before .before .before .before .before .before .before .before .before .before .before .before .before .before .before .args .places .now) (c .before .before .before .before .before .before .before .before .before .before .before .before .before .before .loop .here - 1) s → Stores gs (lists (c .before .before .before .before .before .before .before .before .before .before .before .before .before .before .loop .segments) (c .before .before .before .before .before .before .before .before .before .before .before .before .before .before .loop .references) (c .before .before .before .before .before .before .before .before .before .before .before .before .before .before .loop .symbols) (c .before .before .before .before .before .before .before .before .before .before .before .before .before .before .loop .bytes) (c .before .before .before .before .before .before .before .before .before .before .before .before .before .before .loop .masks)) (c .before .before .before .before .before .before .before .before .before .before .before .before .before .before .loop .c)
-    → After (gs ++ one (absoluteSegment rules (c .before .before .before .before .before .before .before .before .before .before .before .before .before .before .before .before .before .before .before .before .before .before .before .before .before .before .before .before .before .before .before .before .args .library .now) m (c .before .before .before .before .before .before .before .before .before .before .before .before .before .before .before .before .before .before .before .before .before .before .before .before .before .before .before .before .before .before .before .before .args .number) s)) (lists (c .store-absolute .last .1 .1 .1 .1 .1 .1 .1 .1 .1 .1 .1 .1 .0) (c .store-absolute .last .1 .1 .1 .1 .1 .1 .1 .1 .1 .1 .1 .1 .1 .0) (c .store-absolute .last .1 .1 .1 .1 .1 .1 .1 .1 .1 .1 .1 .1 .1 .1 .0) (c .store-absolute .last .1 .1 .1 .1 .1 .1 .1 .1 .1 .1 .1 .1 .1 .1 .1 .0) (c .store-absolute .last .1 .1 .1 .1 .1 .1 .1 .1 .1 .1 .1 .1 .1 .1 .1 .1 .0)) (c .store-absolute .result)
+stored-here : (c : Kept) (rules : Rules) (m : Module) (gs : List Collected) → at-entry c .args .own ≡ ownBy rules
+    → ByOffset (at-entry c .args .library .now) m (at-entry c .args .table .now) (at-entry c .args .first .now) (at-entry c .args .next .now)
+    (at-entry c .args .places .now) (at-entry c .args .keys .now) (at-entry c .args .n) (at-entry c .args .entries .now)
+    (at-entry c .args .heads .now) (at-entry c .args .onward .now) (at-entry c .args .flags .now)
+    → (s : Section) → SectionIs (at-entry c .args .library .now) (at-entry c .args .places .now) (at-loop c .loop .here - 1) s → Stores gs
+    (lists (at-loop c .loop .segments) (at-loop c .loop .references) (at-loop c .loop .symbols) (at-loop c .loop .bytes) (at-loop c .loop .masks)) (at-loop c .loop .c)
+    → After (gs ++ one (absoluteSegment rules (at-entry c .args .library .now) m (at-entry c .args .number) s))
+    (lists (c .store-absolute .last .1 .1 .1 .1 .1 .1 .1 .1 .1 .1 .1 .1 .0) (c .store-absolute .last .1 .1 .1 .1 .1 .1 .1 .1 .1 .1 .1 .1 .1 .0)
+    (c .store-absolute .last .1 .1 .1 .1 .1 .1 .1 .1 .1 .1 .1 .1 .1 .1 .0)
+    (c .store-absolute .last .1 .1 .1 .1 .1 .1 .1 .1 .1 .1 .1 .1 .1 .1 .1 .0) (c .store-absolute .last .1 .1 .1 .1 .1 .1 .1 .1 .1 .1 .1 .1 .1 .1 .1 .1 .0)) (c .store-absolute .result)
 stored-here c rules m gs o x s i stores =
-    let a = c .before .before .before .before .before .before .before .before .before .before .before .before .before .before .before .before .before .before .before .before .before .before .before .before .before .before .before .before .before .before .before .before .args in
+    let content = after-content (c .before) in
+    let a = at-entry c .args in
     let lib = a .library .now in
     let r = c .store-absolute in
-    let after = lists (r .last .1 .1 .1 .1 .1 .1 .1 .1 .1 .1 .1 .1 .0) (r .last .1 .1 .1 .1 .1 .1 .1 .1 .1 .1 .1 .1 .1 .0) (r .last .1 .1 .1 .1 .1 .1 .1 .1 .1 .1 .1 .1 .1 .1 .0) (r .last .1 .1 .1 .1 .1 .1 .1 .1 .1 .1 .1 .1 .1 .1 .1 .0) (r .last .1 .1 .1 .1 .1 .1 .1 .1 .1 .1 .1 .1 .1 .1 .1 .1 .0) in
-    let same = section-met lib (sym (c .before .before .before .before .before .before .before .before .before .before .before .next-content .ensures) ∙ c .before .before .before .before .before .before .before .before .before .content .given .1) (ap (λ p. sectionIn lib (nextContent lib p)) (c .before .before .before .before .before .before .before .before .before .before .before .before .number-at2 .ensures) ∙ i) in
+    let after = lists (r .last .1 .1 .1 .1 .1 .1 .1 .1 .1 .1 .1 .1 .0) (r .last .1 .1 .1 .1 .1 .1 .1 .1 .1 .1 .1 .1 .1 .0)
+    (r .last .1 .1 .1 .1 .1 .1 .1 .1 .1 .1 .1 .1 .1 .1 .0) (r .last .1 .1 .1 .1 .1 .1 .1 .1 .1 .1 .1 .1 .1 .1 .1 .0) (r .last .1 .1 .1 .1 .1 .1 .1 .1 .1 .1 .1 .1 .1 .1 .1 .1 .0) in
+    let same = section-met lib (sym (content .before .before .next-content .ensures) ∙ content .content .given .1)
+    (ap (λ p. sectionIn lib (nextContent lib p)) (content .before .before .before .number-at2 .ensures) ∙ i) in
     let p = x .publics in
     subst (λ g. After (gs ++ one g) after (r .result))
-    (ap (λ own. absoluteOf lib (m .definitions) (a .number) own (c .before .before .before .before .before .before .before .before .before .content .given .0 .0) (fixupsLeft lib (c .before .before .before .before .before .before .before .before .before .content .given .0 .1 .0)) (publicsOf m absoluteId)) o ∙ sym (absolute-by rules lib m (a .number) _) ∙ ap (absoluteSegment rules lib m (a .number)) same)
-    (r .ensures .extends (m .definitions) (publicsOf m absoluteId) (x .tells) (record { standing = p .standing; linked = p .linked; wide = omega (arith, p .wide, c .before .before .before .before .before .before .before .before .before .before .before .before .before .before .loop .inv .flags-long) }) gs stores)
+    (ap (λ own. absoluteOf lib (m .definitions) (a .number) own (content .content .given .0 .0) (fixupsLeft lib (content .content .given .0 .1 .0))
+    (publicsOf m absoluteId)) o ∙ sym (absolute-by rules lib m (a .number) _) ∙ ap (absoluteSegment rules lib m (a .number)) same)
+    (r .ensures .extends (m .definitions) (publicsOf m absoluteId) (x .tells)
+    (record { standing = p .standing; linked = p .linked; wide = omega (arith, p .wide, at-loop c .loop .inv .flags-long) }) gs stores)
 
 loop-holds : tie.Need-loop-holds Inv-loop μ-loop
 loop-holds c =
-    let a = c .before .before .before .before .before .before .before .before .before .before .before .before .before .before .before .before .before .args in
+    let entry = after-shared-slice-known4 c .before .before .before .before in
+    let a = entry .args in
     let lib = a .library .now in
     let l = lists (a .segments .now) (a .references .now) (a .symbols .now) (a .bytes .now) (a .masks .now) in
     record {
       long = same-lengths l;
       apart-long = refl;
       flags-long = refl;
-      clear = c .before .before .before .before .before .before .before .before .before .before .before .before .before .before .before .before .before .pre .1 .1;
-      small = rw (c .number-at .ensures) (omega (arith, c .before .before .before .before .before .before .before .before .before .before .before .before .before .before .shared-slice-known3 .given 0));
-      storing = λ rules m gs o x s. absolutes-start (SectionIs lib (a .places .now)) (a .next .now) rules lib m (a .number) gs (subst (λ k. Follows (SectionIs lib (a .places .now)) (a .next .now) 0 k (sectionsOf m absoluteId)) (sym (c .number-at .ensures)) (x .sections 0 (omega arith))) s;
+      clear = entry .pre .1 .1;
+      small = rw (c .number-at .ensures) (omega (arith, after-shared-slice-known4 c .before .shared-slice-known3 .given 0));
+      storing = λ rules m gs o x s. absolutes-start (SectionIs lib (a .places .now)) (a .next .now) rules lib m (a .number) gs
+          (subst (λ k. Follows (SectionIs lib (a .places .now)) (a .next .now) 0 k (sectionsOf m absoluteId)) (sym (c .number-at .ensures)) (x .sections 0 (omega arith))) s;
     }
 
 same-length : tie.Need-same-length Inv-loop μ-loop
-same-length c = c .before .before .before .before .before .loop .inv .long .segments
+same-length c = at-in-loop-from-enum-told c .before .loop .inv .long .segments
 
 same-length-2 : tie.Need-same-length-2 Inv-loop μ-loop
-same-length-2 c = c .before .before .before .before .before .loop .inv .long .references
+same-length-2 c = at-in-loop-from-enum-told c .before .loop .inv .long .references
 
 same-length-3 : tie.Need-same-length-3 Inv-loop μ-loop
-same-length-3 c = c .before .before .before .before .before .loop .inv .long .symbols
+same-length-3 c = at-in-loop-from-enum-told c .before .loop .inv .long .symbols
 
 same-length-4 : tie.Need-same-length-4 Inv-loop μ-loop
-same-length-4 c = c .before .before .before .before .before .loop .inv .long .bytes
+same-length-4 c = at-in-loop-from-enum-told c .before .loop .inv .long .bytes
 
 same-length-5 : tie.Need-same-length-5 Inv-loop μ-loop
-same-length-5 c = c .before .before .before .before .before .loop .inv .long .masks
+same-length-5 c = at-in-loop-from-enum-told c .before .loop .inv .long .masks
 
 same-length-6 : tie.Need-same-length-6 Inv-loop μ-loop
-same-length-6 c = c .before .before .before .before .before .loop .inv .apart-long
+same-length-6 c = at-in-loop-from-enum-told c .before .loop .inv .apart-long
 
 same-length-7 : tie.Need-same-length-7 Inv-loop μ-loop
-same-length-7 c = c .before .before .before .before .before .loop .inv .flags-long
+same-length-7 c = at-in-loop-from-enum-told c .before .loop .inv .flags-long
 
 returns : tie.Need-returns Inv-loop μ-loop
 returns c =
-    let a = c .before .before .before .before .before .before .before .before .before .before .before .before .before .before .before .before .before .before .before .before .before .before .before .args in
+    let a = after-shared-slice-known4 (at-in-loop-from-enum-told c .before .before) .before .before .before .before .args in
     let lib = a .library .now in
-    let l = c .before .before .before .before .before .loop in
+    let l = at-in-loop-from-enum-told c .before .loop in
     record {
       long = l .inv .long;
       apart-long = l .inv .apart-long;
@@ -110,76 +155,102 @@ returns c =
       clear = l .inv .clear;
       extends = λ rules m o x gs s.
           let w = l .inv .storing rules m gs o x s in
-          none-met lib (sym (c .before .before .next-content .ensures) ∙ c .enum-told .given .1) (ap (λ p. sectionIn lib (nextContent lib p)) (c .before .before .before .number-at2 .ensures) ∙ follows-step (SectionIs lib (a .places .now)) (a .next .now) (l .last) (l .here) (w .left) (omega arith) (w .follows) .stands);
+          none-met lib (sym (c .before .before .next-content .ensures) ∙ c .enum-told .given .1)
+          (ap (λ p. sectionIn lib (nextContent lib p)) (c .before .before .before .number-at2 .ensures) ∙ follows-step
+          (SectionIs lib (a .places .now)) (a .next .now) (l .last) (l .here) (w .left) (omega arith) (w .follows) .stands);
     }
 
 store-absolute-requires : tie.Need-store-absolute-requires Inv-loop μ-loop
 store-absolute-requires c κs =
-    let a = c .before .before .before .before .before .before .before .before .before .before .before .before .before .before .before .before .before .before .before .before .before .before .before .before .before .before .before .before .before .before .before .args in
-    let l = c .before .before .before .before .before .before .before .before .before .before .before .before .before .loop in
-    let g = content-goes (a .library .now) (c .before .before .before .before .before .before .before .before .before .before .before .number-at2 .result) (sym (c .before .before .before .before .before .before .before .before .before .before .next-content .ensures) ∙ c .before .before .before .before .before .before .before .before .content .given .1) in
-    (c .before .before .before .before .before .before .before .before .before .before .before .before .before .before .before .before .before .before .before .before .before .before .before .before .before .before .before .before .before .before .before .pre .0, (omega (arith, l .inv .apart-long, c .before .before .before .before .before .before .before .before .before .before .before .before .before .before .before .before .before .before .before .before .before .before .before .before .before .before .before .before .before .before .before .pre .1 .0), (record { within = g .data-inside; short = g .data-small (λ i. omega (arith, c .before .before .before .before .before .before .before .before .before .before .before .before .before .before .before .before .before .before .before .before .before .before .before .before .before .before .before .before .before .before .shared-slice-known .given i)); low = g .offset-small (λ i. omega (arith, c .before .before .before .before .before .before .before .before .before .before .before .before .before .before .before .before .before .before .before .before .before .before .before .before .before .before .before .before .before .before .shared-slice-known .given i)) }, l .inv .clear)))
+    let content = after-content c in
+    let shared-slice-known4 = after-shared-slice-known4 (at-in-loop-from-store-absolute-arg7 c .before .before) in
+    let shared-slice-known = shared-slice-known4 .before .before .before in
+    let entry = shared-slice-known .before in
+    let a = entry .args in
+    let l = at-in-loop-from-store-absolute-arg7 c .before .loop in
+    let g = content-goes (a .library .now) (content .before .before .before .number-at2 .result) (sym (content .before .before .next-content .ensures) ∙ content .content .given .1) in (
+      entry .pre .0,
+      (
+        omega (arith, l .inv .apart-long, entry .pre .1 .0),
+        (
+          record {
+            within = g .data-inside;
+            short = g .data-small (λ i. omega (arith, shared-slice-known .shared-slice-known .given i));
+            low = g .offset-small (λ i. omega (arith, shared-slice-known .shared-slice-known .given i));
+          },
+          l .inv .clear,
+        ),
+      ),
+    )
 
 same-length-8 : tie.Need-same-length-8 Inv-loop μ-loop
-same-length-8 c = c .before .before .before .before .before .before .before .before .before .before .before .before .before .before .before .before .store-absolute .ensures .long .segments ∙ c .before .before .before .before .before .before .before .before .before .before .before .before .before .before .before .before .before .before .before .before .before .before .before .before .before .before .before .before .before .before .loop .inv .long .segments
+same-length-8 c = after-store-absolute-from-enum-told2 c .store-absolute .ensures .long .segments ∙ at-loop (after-store-absolute-from-enum-told2 c) .loop .inv .long .segments
 
 same-length-9 : tie.Need-same-length-9 Inv-loop μ-loop
-same-length-9 c = c .before .before .before .before .before .before .before .before .before .before .before .before .before .before .before .before .store-absolute .ensures .long .references ∙ c .before .before .before .before .before .before .before .before .before .before .before .before .before .before .before .before .before .before .before .before .before .before .before .before .before .before .before .before .before .before .loop .inv .long .references
+same-length-9 c = after-store-absolute-from-enum-told2 c .store-absolute .ensures .long .references ∙ at-loop (after-store-absolute-from-enum-told2 c) .loop .inv .long .references
 
 same-length-10 : tie.Need-same-length-10 Inv-loop μ-loop
-same-length-10 c = c .before .before .before .before .before .before .before .before .before .before .before .before .before .before .before .before .store-absolute .ensures .long .symbols ∙ c .before .before .before .before .before .before .before .before .before .before .before .before .before .before .before .before .before .before .before .before .before .before .before .before .before .before .before .before .before .before .loop .inv .long .symbols
+same-length-10 c = after-store-absolute-from-enum-told2 c .store-absolute .ensures .long .symbols ∙ at-loop (after-store-absolute-from-enum-told2 c) .loop .inv .long .symbols
 
 same-length-11 : tie.Need-same-length-11 Inv-loop μ-loop
-same-length-11 c = c .before .before .before .before .before .before .before .before .before .before .before .before .before .before .before .before .store-absolute .ensures .long .bytes ∙ c .before .before .before .before .before .before .before .before .before .before .before .before .before .before .before .before .before .before .before .before .before .before .before .before .before .before .before .before .before .before .loop .inv .long .bytes
+same-length-11 c = after-store-absolute-from-enum-told2 c .store-absolute .ensures .long .bytes ∙ at-loop (after-store-absolute-from-enum-told2 c) .loop .inv .long .bytes
 
 same-length-12 : tie.Need-same-length-12 Inv-loop μ-loop
-same-length-12 c = c .before .before .before .before .before .before .before .before .before .before .before .before .before .before .before .before .store-absolute .ensures .long .masks ∙ c .before .before .before .before .before .before .before .before .before .before .before .before .before .before .before .before .before .before .before .before .before .before .before .before .before .before .before .before .before .before .loop .inv .long .masks
+same-length-12 c = after-store-absolute-from-enum-told2 c .store-absolute .ensures .long .masks ∙ at-loop (after-store-absolute-from-enum-told2 c) .loop .inv .long .masks
 
 same-length-13 : tie.Need-same-length-13 Inv-loop μ-loop
-same-length-13 c = c .before .before .before .before .before .before .before .before .before .before .before .before .before .before .before .before .store-absolute .ensures .apart-long ∙ c .before .before .before .before .before .before .before .before .before .before .before .before .before .before .before .before .before .before .before .before .before .before .before .before .before .before .before .before .before .before .loop .inv .apart-long
+same-length-13 c = after-store-absolute-from-enum-told2 c .store-absolute .ensures .apart-long ∙ at-loop (after-store-absolute-from-enum-told2 c) .loop .inv .apart-long
 
 same-length-14 : tie.Need-same-length-14 Inv-loop μ-loop
-same-length-14 c = c .before .before .before .before .before .before .before .before .before .before .before .before .before .before .before .before .store-absolute .ensures .flags-long ∙ c .before .before .before .before .before .before .before .before .before .before .before .before .before .before .before .before .before .before .before .before .before .before .before .before .before .before .before .before .before .before .loop .inv .flags-long
+same-length-14 c = after-store-absolute-from-enum-told2 c .store-absolute .ensures .flags-long ∙ at-loop (after-store-absolute-from-enum-told2 c) .loop .inv .flags-long
 
 returns-2 : tie.Need-returns-2 Inv-loop μ-loop
 returns-2 c =
-    let a = c .before .before .before .before .before .before .before .before .before .before .before .before .before .before .before .before .before .before .before .before .before .before .before .before .before .before .before .before .before .before .before .before .before .before .before .before .before .before .before .before .before .before .before .before .before .before .before .before .args in
+    let store-absolute = after-store-absolute-from-enum-told2 c in
+    let a = at-entry store-absolute .args in
     let lib = a .library .now in
-    let l = c .before .before .before .before .before .before .before .before .before .before .before .before .before .before .before .before .before .before .before .before .before .before .before .before .before .before .before .before .before .before .loop in
-    let s = c .before .before .before .before .before .before .before .before .before .before .before .before .before .before .before .before .store-absolute in
+    let l = at-loop store-absolute .loop in
+    let s = store-absolute .store-absolute in
     let now-lists = lists (l .segments) (l .references) (l .symbols) (l .bytes) (l .masks) in
-    let after = lists (s .last .1 .1 .1 .1 .1 .1 .1 .1 .1 .1 .1 .1 .0) (s .last .1 .1 .1 .1 .1 .1 .1 .1 .1 .1 .1 .1 .1 .0) (s .last .1 .1 .1 .1 .1 .1 .1 .1 .1 .1 .1 .1 .1 .1 .0) (s .last .1 .1 .1 .1 .1 .1 .1 .1 .1 .1 .1 .1 .1 .1 .1 .0) (s .last .1 .1 .1 .1 .1 .1 .1 .1 .1 .1 .1 .1 .1 .1 .1 .1 .0) in
+    let after = lists (s .last .1 .1 .1 .1 .1 .1 .1 .1 .1 .1 .1 .1 .0) (s .last .1 .1 .1 .1 .1 .1 .1 .1 .1 .1 .1 .1 .1 .0)
+    (s .last .1 .1 .1 .1 .1 .1 .1 .1 .1 .1 .1 .1 .1 .1 .0) (s .last .1 .1 .1 .1 .1 .1 .1 .1 .1 .1 .1 .1 .1 .1 .1 .0) (s .last .1 .1 .1 .1 .1 .1 .1 .1 .1 .1 .1 .1 .1 .1 .1 .1 .0) in
     record {
       long = lengths-on (l .inv .long) (s .ensures .long);
       apart-long = s .ensures .apart-long ∙ l .inv .apart-long;
       flags-long = s .ensures .flags-long ∙ l .inv .flags-long;
       clear = s .ensures .clear;
-      extends = λ rules m o x gs stores. absolutes-lack (SectionIs lib (a .places .now)) (a .next .now) rules lib m (a .number) gs (l .last) (l .here) now-lists after (l .c) (s .result) (omega (arith, c .before .before .before .before .before .before .before .before .before .before .before .before .before .before .before .before .before .before .before .before .before .before .before .before .before .before .before .before .before .loop-test .taken)) (l .inv .storing rules m gs o x stores)
-          (λ section i hs t. stored-here (c .before .before .before .before .before .before .before .before .before .before .before .before .before .before .before .before) rules m hs o x section i t) (c .enum-told2 .given .1);
+      extends = λ rules m o x gs stores. absolutes-lack (SectionIs lib (a .places .now)) (a .next .now) rules lib m (a .number) gs (l .last)
+          (l .here) now-lists after (l .c) (s .result) (omega (arith, at-in-loop-from-store-absolute-arg7 (store-absolute .before) .loop-test .taken)) (l .inv .storing rules m gs o x stores)
+          (λ section i hs t. stored-here store-absolute rules m hs o x section i t) (c .enum-told2 .given .1);
     }
 
 sub-number-at-2 : tie.Need-sub-number-at-2 Inv-loop μ-loop
-sub-number-at-2 c = omega (arith, c .before .before .before .before .before .before .before .before .before .before .before .before .before .before .before .before .before .before .before .before .before .before .before .before .before .before .before .before .before .before .loop-test .taken)
+sub-number-at-2 c = omega (arith, at-in-loop-from-store-absolute-arg7 (after-store-absolute-from-slice-known14 (c .before .before .before) .before) .loop-test .taken)
 
 loop-less : tie.Need-loop-less Inv-loop μ-loop
-loop-less c = omega (arith, c .before .before .before .before .before .before .before .before .before .before .before .before .before .before .before .before .before .before .before .before .before .before .before .before .before .before .before .before .before .before .before .before .loop .inv .small, c .before .before .before .before .before .before .before .before .before .before .before .before .before .before .before .before .before .before .before .before .before .before .before .before .before .before .before .before .before .before .before .loop-test .taken)
+loop-less c = omega (arith, at-loop (after-store-absolute-from-number-at3 c) .loop .inv .small, at-in-loop-from-store-absolute-arg7 (after-store-absolute-from-number-at3 c .before) .loop-test .taken)
 
 loop-again : tie.Need-loop-again Inv-loop μ-loop
 loop-again c =
-    let a = c .before .before .before .before .before .before .before .before .before .before .before .before .before .before .before .before .before .before .before .before .before .before .before .before .before .before .before .before .before .before .before .before .before .before .before .before .before .before .before .before .before .before .before .before .before .before .before .before .before .before .args in
+    let store-absolute = after-store-absolute-from-number-at3 c in
+    let loop = at-loop store-absolute in
+    let a = at-entry store-absolute .args in
     let lib = a .library .now in
-    let l = c .before .before .before .before .before .before .before .before .before .before .before .before .before .before .before .before .before .before .before .before .before .before .before .before .before .before .before .before .before .before .before .before .loop in
-    let s = c .before .before .before .before .before .before .before .before .before .before .before .before .before .before .before .before .before .before .store-absolute in
+    let l = loop .loop in
+    let s = store-absolute .store-absolute in
     let now-lists = lists (l .segments) (l .references) (l .symbols) (l .bytes) (l .masks) in
-    let after = lists (s .last .1 .1 .1 .1 .1 .1 .1 .1 .1 .1 .1 .1 .0) (s .last .1 .1 .1 .1 .1 .1 .1 .1 .1 .1 .1 .1 .1 .0) (s .last .1 .1 .1 .1 .1 .1 .1 .1 .1 .1 .1 .1 .1 .1 .0) (s .last .1 .1 .1 .1 .1 .1 .1 .1 .1 .1 .1 .1 .1 .1 .1 .0) (s .last .1 .1 .1 .1 .1 .1 .1 .1 .1 .1 .1 .1 .1 .1 .1 .1 .0) in
+    let after = lists (s .last .1 .1 .1 .1 .1 .1 .1 .1 .1 .1 .1 .1 .0) (s .last .1 .1 .1 .1 .1 .1 .1 .1 .1 .1 .1 .1 .1 .0)
+    (s .last .1 .1 .1 .1 .1 .1 .1 .1 .1 .1 .1 .1 .1 .1 .0) (s .last .1 .1 .1 .1 .1 .1 .1 .1 .1 .1 .1 .1 .1 .1 .1 .0) (s .last .1 .1 .1 .1 .1 .1 .1 .1 .1 .1 .1 .1 .1 .1 .1 .1 .0) in
     record {
       long = lengths-on (l .inv .long) (s .ensures .long);
       apart-long = s .ensures .apart-long ∙ l .inv .apart-long;
       flags-long = s .ensures .flags-long ∙ l .inv .flags-long;
       clear = s .ensures .clear;
-      small = rw (c .number-at3 .ensures) (omega (arith, c .before .before .before .before .before .before .before .before .before .before .before .before .before .before .before .before .before .before .before .before .before .before .before .before .before .before .before .before .before .before .before .before .before .before .before .before .before .before .before .before .before .before .before .before .before .before .shared-slice-known4 .given (l .here - 1)));
-      storing = λ rules m gs o x stores. rw (c .number-at3 .ensures) (absolutes-on (SectionIs lib (a .places .now)) (a .next .now) rules lib m (a .number) gs (l .last) (l .here) now-lists after (l .c) (s .result) (omega (arith, c .before .before .before .before .before .before .before .before .before .before .before .before .before .before .before .before .before .before .before .before .before .before .before .before .before .before .before .before .before .before .before .loop-test .taken)) (l .inv .storing rules m gs o x stores)
-          (λ section i hs t. stored-here (c .before .before .before .before .before .before .before .before .before .before .before .before .before .before .before .before .before .before) rules m hs o x section i t) (c .before .before .stored .given .1));
+      small = rw (c .number-at3 .ensures) (omega (arith, after-shared-slice-known4 (loop .before) .shared-slice-known4 .given (l .here - 1)));
+      storing = λ rules m gs o x stores. rw (c .number-at3 .ensures)
+          (absolutes-on (SectionIs lib (a .places .now)) (a .next .now) rules lib m (a .number) gs (l .last) (l .here) now-lists after (l .c)
+          (s .result) (omega (arith, at-in-loop-from-store-absolute-arg7 (store-absolute .before) .loop-test .taken)) (l .inv .storing rules m gs o x stores)
+          (λ section i hs t. stored-here store-absolute rules m hs o x section i t) (c .before .before .stored .given .1));
     }
 
 same-length-15 : tie.Need-same-length-15 Inv-loop μ-loop
@@ -205,14 +276,15 @@ same-length-21 c = c .before .loop .inv .flags-long
 
 returns-3 : tie.Need-returns-3 Inv-loop μ-loop
 returns-3 c =
-    let a = c .before .before .before .before .before .before .before .before .before .before .before .before .before .before .before .before .before .before .before .args in
+    let a = after-shared-slice-known4 (c .before .before) .before .before .before .before .args in
     let l = c .before .loop in
     record {
       long = l .inv .long;
       apart-long = l .inv .apart-long;
       flags-long = l .inv .flags-long;
       clear = l .inv .clear;
-      extends = λ rules m o x gs s. absolutes-end (SectionIs (a .library .now) (a .places .now)) (a .next .now) rules (a .library .now) m (a .number) gs (l .last) (l .here) (omega arith) (l .inv .storing rules m gs o x s);
+      extends = λ rules m o x gs s. absolutes-end (SectionIs (a .library .now) (a .places .now)) (a .next .now) rules (a .library .now) m (a .number)
+          gs (l .last) (l .here) (omega arith) (l .inv .storing rules m gs o x s);
     }
 
 pub store-absolutes-spec : {M : Type 1} → statement M

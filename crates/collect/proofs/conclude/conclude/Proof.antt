@@ -12,11 +12,30 @@ use borrow.Author.Needs.{needs}
 use Rattle.collect.proofs.conclude.conclude.Statement.{statement}
 use Rattle.collect.proofs.conclude.conclude.Tie as tie
 
+-- The ladder: places of the code that the answers cite, each as it is seen from a later place.
+abbrev at-entry : tie.After-scan-arg → tie.Start
+at-entry c = c .before .before .before .before .before .before .before .before .before .before .before
+
+abbrev after-references : tie.After-slice-known11 → tie.After-references
+after-references c = c .before .before .before .before .before .before .before
+
+abbrev after-clear-all : tie.After-slice-known11 → tie.After-clear-all
+after-clear-all c = after-references c .before .before .before
+
+abbrev after-segments2 : tie.After-bytes2 → tie.After-segments2
+after-segments2 c = c .before .before .before .before .before .before
+
+abbrev after-bytes2 : tie.After-slice-known17 → tie.After-bytes2
+after-bytes2 c = c .before .before .before
+
+abbrev after-table : tie.After-slice-known17 → tie.After-table
+after-table c = after-segments2 (after-bytes2 c) .before .before .before .before .before .before .before .before .before .before .before
+
 same-length : tie.Need-same-length
-same-length c = c .before .before .before .before .before .before .before .before .before .segments .given
+same-length c = after-references c .before .before .segments .given
 
 same-length-2 : tie.Need-same-length-2
-same-length-2 c = c .before .before .before .before .before .before .before .references .given
+same-length-2 c = after-references c .references .given
 
 same-length-3 : tie.Need-same-length-3
 same-length-3 c = c .before .before .before .before .before .symbols .given
@@ -29,51 +48,69 @@ same-length-5 c = c .before .masks .given
 
 returns : tie.Need-returns
 returns c =
-    let a = c .before .before .before .before .before .before .before .before .before .before .before .before .before .before .before .before .before .before .before .before .before .before .before .before .before .args in
+    let clear-all = after-clear-all c in
+    let entry = clear-all .before .before .before .before .before .before .before .before .before .before .before .before .before .before .before in
+    let a = entry .args in
     let lib = a .library .now in
     let after = lists (a .segments .now) (a .references .now) (a .symbols .now) (a .bytes .now) (a .masks .now) in
     let modules = itemsAt lib (moduleAt lib) (a .from) in
-    record { concludes = λ rules l n s. lacks-is rules lib modules l after (c .before .before .before .before .before .before .before .before .before .before .before .before .before .before .before .before .before .before .before .before .before .before .before .before .before .pre .1) n (subst (After (collect rules lib modules) after) (c .before .before .before .before .before .before .before .before .before .before .before .before .before .before .before .before .enum-told .given .1) s) (c .before .before .before .before .before .before .before .before .before .before .clear-all .ensures) }
+    record {
+      concludes = λ rules l n s. lacks-is rules lib modules l after (entry .pre .1) n
+          (subst (After (collect rules lib modules) after) (clear-all .before .before .before .before .before .before .enum-told .given .1) s) (clear-all .clear-all .ensures);
+    }
 
 scan-requires : tie.Need-scan-requires
-scan-requires c κs = c .before .before .before .before .before .before .before .before .before .before .before .pre .0
+scan-requires c κs = at-entry c .pre .0
 
 same-length-6 : tie.Need-same-length-6
-same-length-6 c = c .before .before .before .before .before .before .before .before .before .before .before .before .before .before .before .before .before .before .before .before .table .given
+same-length-6 c = after-table c .table .given
 
 same-length-7 : tie.Need-same-length-7
-same-length-7 c = c .before .before .before .before .before .before .before .before .before .segments2 .given
+same-length-7 c = after-segments2 (after-bytes2 c) .segments2 .given
 
 same-length-8 : tie.Need-same-length-8
-same-length-8 c = c .before .before .before .before .before .before .before .references2 .given
+same-length-8 c = after-bytes2 c .before .before .before .before .references2 .given
 
 same-length-9 : tie.Need-same-length-9
-same-length-9 c = c .before .before .before .before .before .symbols2 .given
+same-length-9 c = after-bytes2 c .before .before .symbols2 .given
 
 same-length-10 : tie.Need-same-length-10
-same-length-10 c = c .before .before .before .bytes2 .given
+same-length-10 c = after-bytes2 c .bytes2 .given
 
 same-length-11 : tie.Need-same-length-11
 same-length-11 c = c .before .masks2 .given
 
 returns-2 : tie.Need-returns-2
 returns-2 c =
-    let a = c .before .before .before .before .before .before .before .before .before .before .before .before .before .before .before .before .before .before .before .before .before .before .before .before .before .before .before .before .before .before .before .before .before .args in
+    let segments2 = after-segments2 (after-bytes2 c) in
+    let table = after-table c in
+    let entry = at-entry (table .before .before) in
+    let a = entry .args in
     let lib = a .library .now in
     let after = lists (a .segments .now) (a .references .now) (a .symbols .now) (a .bytes .now) (a .masks .now) in
     let modules = itemsAt lib (moduleAt lib) (a .from) in
-    record { concludes = λ rules l n s. refused-is rules lib modules l after (c .before .before .before .before .before .before .before .before .before .before .before .before .before .before .before .before .before .before .before .before .before .before .before .before .before .before .before .before .before .before .before .before .before .pre .1) n (subst (After (collect rules lib modules) after) (c .before .before .before .before .before .before .before .before .before .before .before .before .before .before .before .before .before .before .before .before .before .before .before .before .stored .given .1) s) (told {o = collectRefusal modules} (sym (c .before .before .before .before .before .before .before .before .before .before .before .before .before .before .before .before .before .before .before .before .before .scan .ensures .says) ∙ c .before .before .before .before .before .before .before .before .before .before .before .before .before .before .before .before .before .verdict .given .1)) (c .before .before .before .before .before .before .before .before .before .before .clear-all2 .ensures) }
+    record {
+      concludes = λ rules l n s. refused-is rules lib modules l after (entry .pre .1) n
+          (subst (After (collect rules lib modules) after) (table .before .before .before .before .stored .given .1) s)
+          (told {o = collectRefusal modules} (sym (table .before .scan .ensures .says) ∙
+          segments2 .before .before .before .before .before .before .before .before .verdict .given .1)) (segments2 .before .clear-all2 .ensures);
+    }
 
 same-length-12 : tie.Need-same-length-12
 same-length-12 c = c .before .before .before .table .given
 
 returns-3 : tie.Need-returns-3
 returns-3 c =
-    let a = c .before .before .before .before .before .before .before .before .before .before .before .before .before .before .before .before .args in
+    let entry = at-entry (c .before .before .before .before .before) in
+    let a = entry .args in
     let lib = a .library .now in
     let after = lists (a .segments .now) (a .references .now) (a .symbols .now) (a .bytes .now) (a .masks .now) in
     let modules = itemsAt lib (moduleAt lib) (a .from) in
-    record { concludes = λ rules l n s. done-is rules lib modules l after (c .before .before .before .before .before .before .before .before .before .before .before .before .before .before .before .before .pre .1) n (subst (After (collect rules lib modules) after) (c .before .before .before .before .before .before .before .stored .given .1) s) (told {o = collectRefusal modules} (sym (c .before .before .before .before .scan .ensures .says) ∙ c .enum-told2 .given .1)) }
+    record {
+      concludes = λ rules l n s. done-is rules lib modules l after (entry .pre .1) n
+          (subst (After (collect rules lib modules) after) (c .before .before .before .before .before .before .before .stored .given .1) s)
+          (told {o = collectRefusal modules} (sym (c .before .before .before .before .scan .ensures .says) ∙ c .enum-told2 .given .1));
+    }
 
 pub conclude-spec : {M : Type 1} → statement M
 conclude-spec =

@@ -3,17 +3,27 @@ use native.Mathlib.Omega.{arith}
 use Rattle.collect.proofs.entry.store.Statement.{statement}
 use Rattle.collect.proofs.entry.store.Tie as tie
 
+-- The ladder: places of the code that the answers cite, each as it is seen from a later place.
+abbrev after-references : tie.After-slice-known12 → tie.After-references
+after-references c = c .before .before .before .before .before .before .before
+
+abbrev after-references2 : tie.After-slice-known18 → tie.After-references2
+after-references2 c = c .before .before .before .before .before .before .before
+
 store-short-requires : tie.Need-store-short-requires
-store-short-requires c κs = (omega (arith, c .before .before .before .before .before .before .if1 .taken), c .before .before .before .before .before .before .before .before .before .before .before .before .before .before .pre .1)
+store-short-requires c κs = (
+  omega (arith, c .before .before .before .before .before .before .if1 .taken),
+  c .before .before .before .before .before .before .before .before .before .before .before .before .before .before .pre .1,
+)
 
 same-length : tie.Need-same-length
-same-length c = c .before .before .before .before .before .before .before .before .before .before .before .table .given
+same-length c = after-references c .before .before .before .before .table .given
 
 same-length-2 : tie.Need-same-length-2
-same-length-2 c = c .before .before .before .before .before .before .before .before .before .segments .given
+same-length-2 c = after-references c .before .before .segments .given
 
 same-length-3 : tie.Need-same-length-3
-same-length-3 c = c .before .before .before .before .before .before .before .references .given
+same-length-3 c = after-references c .references .given
 
 same-length-4 : tie.Need-same-length-4
 same-length-4 c = c .before .before .before .before .before .symbols .given
@@ -25,19 +35,19 @@ same-length-6 : tie.Need-same-length-6
 same-length-6 c = c .before .masks .given
 
 returns : tie.Need-returns
-returns c = c .before .before .before .before .before .before .before .before .before .before .before .before .store-short .ensures
+returns c = after-references c .before .before .before .before .before .store-short .ensures
 
 store-long-requires : tie.Need-store-long-requires
 store-long-requires c κs = c .before .before .before .before .before .before .before .before .before .before .before .before .before .before .pre
 
 same-length-7 : tie.Need-same-length-7
-same-length-7 c = c .before .before .before .before .before .before .before .before .before .before .before .table2 .given
+same-length-7 c = after-references2 c .before .before .before .before .table2 .given
 
 same-length-8 : tie.Need-same-length-8
-same-length-8 c = c .before .before .before .before .before .before .before .before .before .segments2 .given
+same-length-8 c = after-references2 c .before .before .segments2 .given
 
 same-length-9 : tie.Need-same-length-9
-same-length-9 c = c .before .before .before .before .before .before .before .references2 .given
+same-length-9 c = after-references2 c .references2 .given
 
 same-length-10 : tie.Need-same-length-10
 same-length-10 c = c .before .before .before .before .before .symbols2 .given
@@ -49,7 +59,7 @@ same-length-12 : tie.Need-same-length-12
 same-length-12 c = c .before .masks2 .given
 
 returns-2 : tie.Need-returns-2
-returns-2 c = c .before .before .before .before .before .before .before .before .before .before .before .before .store-long .ensures
+returns-2 c = after-references2 c .before .before .before .before .before .store-long .ensures
 
 pub store-spec : {M : Type 1} → statement M
 store-spec =

@@ -24,7 +24,8 @@ use borrow.Author.Needs.{needs}
 use Rattle.collect.proofs.kept.store_keeps.Statement.{statement}
 use Rattle.collect.proofs.kept.store_keeps.Tie as tie
 
-record Inv (library : List ℕ) (from : ℕ) (table first next places heads onward entries apart₀ apart : List ℕ) (c₀ : CollectCounts) (l₀ l : CollectLists) (at : Cursor) (c : CollectCounts) : Type 0 where
+record Inv (library : List ℕ) (from : ℕ) (table first next places heads onward entries apart₀ apart : List ℕ) (c₀ : CollectCounts)
+    (l₀ l : CollectLists) (at : Cursor) (c : CollectCounts) : Type 0 where
   long : SameLengths l₀ l
   apart-long : length apart ≡ length apart₀
   progress : (m : Module) (gs : List Collected) → m .definitions ≡ itemsAt library (definitionsAt library) from → Indexed library m table first next places heads onward entries → Stores gs l₀ c₀
@@ -35,18 +36,40 @@ Inv-loop library from table first next places heads onward entries segments₀ r
     Inv library from table first next places heads onward entries apart₀ apart c₀ (lists segments₀ references₀ symbols₀ bytes₀ masks₀) (lists segments references symbols bytes masks) at c
 
 abbrev μ-loop : tie.MeasureT-loop
-μ-loop library from table first next places heads onward entries segments₀ references₀ symbols₀ bytes₀ masks₀ apart₀ number at₀ c₀ segments references symbols bytes masks apart at c = length (definitionsLeft library at)
+μ-loop library from table first next places heads onward entries segments₀ references₀ symbols₀ bytes₀ masks₀ apart₀ number at₀ c₀ segments
+    references symbols bytes masks apart at c = length (definitionsLeft library at)
+
+-- The ladder: places of the code that the answers cite, each as it is seen from a later place.
+abbrev at-entry : tie.After-start Inv-loop μ-loop → tie.Start Inv-loop μ-loop
+at-entry c = c .before .before .before .before .before .before .before .before .before .before .before .before .before .before .before
+
+abbrev at-loop : tie.After-known-told Inv-loop μ-loop → tie.At-loop Inv-loop μ-loop
+at-loop c = c .before .before .before .before
+
+abbrev after-store-definition : tie.After-slice-known12 Inv-loop μ-loop → tie.After-store-definition Inv-loop μ-loop
+after-store-definition c = c .before .before .before .before .before .before .before .before .before .before .before .before
+
+abbrev at-then1 : tie.After-slice-known12 Inv-loop μ-loop → tie.Then1 Inv-loop μ-loop
+at-then1 c = after-store-definition c .before .before .before .before .before .before .before
+
+abbrev after-known-told : tie.After-enum-told Inv-loop μ-loop → tie.After-known-told Inv-loop μ-loop
+after-known-told c = at-then1 (c .before .before) .before .before
+
+abbrev after-is-kept : tie.After-known-told2 Inv-loop μ-loop → tie.After-is-kept Inv-loop μ-loop
+after-is-kept c = at-then1 (c .before .before .before) .before
 
 -- the next definition, once it is known
 abbrev Told : Type 0
 Told = tie.After-known-told Inv-loop μ-loop
 
-yields : (c : Told) → definitionsLeft (now (c .before .before .before .before .before .before .before .before .before .before .before .before .before .before .before .before .before .before .before .before .args .library)) (c .before .before .before .before .loop .at) ≡ c .before .definition .given .0 .0 ∷ definitionsLeft (now (c .before .before .before .before .before .before .before .before .before .before .before .before .before .before .before .before .before .before .before .before .args .library)) (c .before .definition .given .0 .1 .0)
-yields c = let lib = c .before .before .before .before .before .before .before .before .before .before .before .before .before .before .before .before .before .before .before .before .args .library .now in next-definition-yields lib (c .before .before .before .before .loop .at) ∙ ap (definitionsAfter lib) (sym (c .before .before .before .next-definition .ensures) ∙ c .before .definition .given .1)
+yields : (c : Told) → definitionsLeft (now (at-entry (at-loop c .before) .args .library)) (at-loop c .loop .at) ≡ c .before .definition .given .0 .0
+    ∷ definitionsLeft (now (at-entry (at-loop c .before) .args .library)) (c .before .definition .given .0 .1 .0)
+yields c = let lib = at-entry (at-loop c .before) .args .library .now in next-definition-yields lib (at-loop c .loop .at) ∙ ap (definitionsAfter lib)
+    (sym (c .before .before .before .next-definition .ensures) ∙ c .before .definition .given .1)
 
 loop-holds : tie.Need-loop-holds Inv-loop μ-loop
 loop-holds c =
-    let a = c .before .before .before .before .before .before .before .before .before .before .before .before .before .before .before .args in
+    let a = at-entry c .args in
     let lib = a .library .now in
     let l = lists (a .segments .now) (a .references .now) (a .symbols .now) (a .bytes .now) (a .masks .now) in
     let n = a .before .segments in
@@ -55,65 +78,80 @@ loop-holds c =
       apart-long = refl;
       progress = λ m gs e x s.
           let z : 0 ≡ n - n = omega arith in
-          subst (λ rest. Progress gs (keptSegments lib m n) rest l (a .before)) (keeps-start lib m n (ap (definitionsLeft lib) (c .start .ensures) ∙ definitions-start lib (a .from) ∙ sym e) ∙ ap (λ j. keptRest lib m n j (definitionsLeft lib (c .start .result))) z) (progress-starts gs (keptSegments lib m n) s);
+          subst (λ rest. Progress gs (keptSegments lib m n) rest l (a .before))
+          (keeps-start lib m n (ap (definitionsLeft lib) (c .start .ensures) ∙ definitions-start lib (a .from) ∙ sym e) ∙ ap
+          (λ j. keptRest lib m n j (definitionsLeft lib (c .start .result))) z) (progress-starts gs (keptSegments lib m n) s);
     }
 
 store-definition-requires : tie.Need-store-definition-requires Inv-loop μ-loop
 store-definition-requires c κs =
-    let l = c .before .before .before .before .before .before .before .before .before .before .before .before .loop in
-    (c .before .before .before .before .before .before .before .before .before .before .before .before .before .before .before .before .before .before .before .before .before .before .before .before .before .before .before .before .pre .0, omega (arith, l .inv .apart-long, c .before .before .before .before .before .before .before .before .before .before .before .before .before .before .before .before .before .before .before .before .before .before .before .before .before .before .before .before .pre .1))
+    let loop = at-loop (c .before .before .before .before .before .before .before .before) in
+    let entry = at-entry (loop .before) in
+    let l = loop .loop in
+    (entry .pre .0, omega (arith, l .inv .apart-long, entry .pre .1))
 
 same-length : tie.Need-same-length Inv-loop μ-loop
-same-length c = let s = c .before .before .before .before .before .before .before .before .before .before .before .before .before .before .store-definition .ensures in s .long .segments ∙ c .before .before .before .before .before .before .before .before .before .before .before .before .before .before .before .before .before .before .before .before .before .before .before .before .before .before .before .loop .inv .long .segments
+same-length c = let s = after-store-definition (c .before .before) .store-definition .ensures in s .long .segments ∙ at-loop (after-known-told c) .loop .inv .long .segments
 
 same-length-2 : tie.Need-same-length-2 Inv-loop μ-loop
-same-length-2 c = let s = c .before .before .before .before .before .before .before .before .before .before .before .before .before .before .store-definition .ensures in s .long .references ∙ c .before .before .before .before .before .before .before .before .before .before .before .before .before .before .before .before .before .before .before .before .before .before .before .before .before .before .before .loop .inv .long .references
+same-length-2 c = let s = after-store-definition (c .before .before) .store-definition .ensures in s .long .references ∙ at-loop (after-known-told c) .loop .inv .long .references
 
 same-length-3 : tie.Need-same-length-3 Inv-loop μ-loop
-same-length-3 c = let s = c .before .before .before .before .before .before .before .before .before .before .before .before .before .before .store-definition .ensures in s .long .symbols ∙ c .before .before .before .before .before .before .before .before .before .before .before .before .before .before .before .before .before .before .before .before .before .before .before .before .before .before .before .loop .inv .long .symbols
+same-length-3 c = let s = after-store-definition (c .before .before) .store-definition .ensures in s .long .symbols ∙ at-loop (after-known-told c) .loop .inv .long .symbols
 
 same-length-4 : tie.Need-same-length-4 Inv-loop μ-loop
-same-length-4 c = let s = c .before .before .before .before .before .before .before .before .before .before .before .before .before .before .store-definition .ensures in s .long .bytes ∙ c .before .before .before .before .before .before .before .before .before .before .before .before .before .before .before .before .before .before .before .before .before .before .before .before .before .before .before .loop .inv .long .bytes
+same-length-4 c = let s = after-store-definition (c .before .before) .store-definition .ensures in s .long .bytes ∙ at-loop (after-known-told c) .loop .inv .long .bytes
 
 same-length-5 : tie.Need-same-length-5 Inv-loop μ-loop
-same-length-5 c = let s = c .before .before .before .before .before .before .before .before .before .before .before .before .before .before .store-definition .ensures in s .long .masks ∙ c .before .before .before .before .before .before .before .before .before .before .before .before .before .before .before .before .before .before .before .before .before .before .before .before .before .before .before .loop .inv .long .masks
+same-length-5 c = let s = after-store-definition (c .before .before) .store-definition .ensures in s .long .masks ∙ at-loop (after-known-told c) .loop .inv .long .masks
 
 same-length-6 : tie.Need-same-length-6 Inv-loop μ-loop
-same-length-6 c = let s = c .before .before .before .before .before .before .before .before .before .before .before .before .before .before .store-definition .ensures in s .apart-long ∙ c .before .before .before .before .before .before .before .before .before .before .before .before .before .before .before .before .before .before .before .before .before .before .before .before .before .before .before .loop .inv .apart-long
+same-length-6 c = let s = after-store-definition (c .before .before) .store-definition .ensures in s .apart-long ∙ at-loop (after-known-told c) .loop .inv .apart-long
 
 returns : tie.Need-returns Inv-loop μ-loop
 returns c =
-    let number = c .before .before .before .before .before .before .before .before .before .before .before .before .before .before .before .before .before .before .before .before .before .before .before .before .before .before .before .before .before .before .before .before .before .before .before .before .before .before .before .before .before .before .before .args .before .segments in
-    let a = c .before .before .before .before .before .before .before .before .before .before .before .before .before .before .before .before .before .before .before .before .before .before .before .before .before .before .before .before .before .before .before .before .before .before .before .before .before .before .before .before .before .before .before .args in
+    let then1 = at-then1 (c .before .before) in
+    let loop = at-loop (after-known-told c) in
+    let entry = at-entry (loop .before) in
+    let number = entry .args .before .segments in
+    let a = entry .args in
     let lib = a .library .now in
-    let l = c .before .before .before .before .before .before .before .before .before .before .before .before .before .before .before .before .before .before .before .before .before .before .before .before .before .before .before .loop in
-    let s = c .before .before .before .before .before .before .before .before .before .before .before .before .before .before .store-definition in
+    let l = loop .loop in
+    let s = after-store-definition (c .before .before) .store-definition in
     let now-lists = lists (l .segments) (l .references) (l .symbols) (l .bytes) (l .masks) in
-    let after = lists (s .last .1 .1 .1 .1 .1 .1 .1 .1 .1 .1 .1 .0) (s .last .1 .1 .1 .1 .1 .1 .1 .1 .1 .1 .1 .1 .0) (s .last .1 .1 .1 .1 .1 .1 .1 .1 .1 .1 .1 .1 .1 .0) (s .last .1 .1 .1 .1 .1 .1 .1 .1 .1 .1 .1 .1 .1 .1 .0) (s .last .1 .1 .1 .1 .1 .1 .1 .1 .1 .1 .1 .1 .1 .1 .1 .0) in
+    let after = lists (s .last .1 .1 .1 .1 .1 .1 .1 .1 .1 .1 .1 .0) (s .last .1 .1 .1 .1 .1 .1 .1 .1 .1 .1 .1 .1 .0)
+    (s .last .1 .1 .1 .1 .1 .1 .1 .1 .1 .1 .1 .1 .1 .0) (s .last .1 .1 .1 .1 .1 .1 .1 .1 .1 .1 .1 .1 .1 .1 .0) (s .last .1 .1 .1 .1 .1 .1 .1 .1 .1 .1 .1 .1 .1 .1 .1 .0) in
     record {
       long = lengths-on (l .inv .long) (s .ensures .long);
       apart-long = s .ensures .apart-long ∙ l .inv .apart-long;
       extends = λ m e x gs stores.
-          keeps-lack lib m number gs now-lists after (l .c) (s .result) (yields (c .before .before .before .before .before .before .before .before .before .before .before .before .before .before .before .before .before .before .before .before .before .before .before)) (sym (c .before .before .before .before .before .before .before .before .before .before .before .before .before .before .before .before .before .before .before .before .before .before .is-kept .ensures) ∙ c .before .before .before .before .before .before .before .before .before .before .before .before .before .before .before .before .before .before .before .before .before .if1 .taken) (stored-count stores) (l .inv .progress m gs e x stores) (s .ensures .extends m x) (c .enum-told .given .1);
+          keeps-lack lib m number gs now-lists after (l .c) (s .result) (yields (after-known-told c))
+          (sym (then1 .before .is-kept .ensures) ∙ then1 .if1 .taken) (stored-count stores) (l .inv .progress m gs e x stores) (s .ensures .extends m x) (c .enum-told .given .1);
     }
 
 loop-less : tie.Need-loop-less Inv-loop μ-loop
-loop-less c = rw (yields (c .before .before .before .before .before .before .before .before .before .before .before .before .before .before .before .before .before .before .before .before .before .before .before .before)) (omega arith)
+loop-less c = rw (yields (after-is-kept c .before)) (omega arith)
 
 loop-again : tie.Need-loop-again Inv-loop μ-loop
 loop-again c =
-    let number = c .before .before .before .before .before .before .before .before .before .before .before .before .before .before .before .before .before .before .before .before .before .before .before .before .before .before .before .before .before .before .before .before .before .before .before .before .before .before .before .before .before .before .before .before .args .before .segments in
-    let a = c .before .before .before .before .before .before .before .before .before .before .before .before .before .before .before .before .before .before .before .before .before .before .before .before .before .before .before .before .before .before .before .before .before .before .before .before .before .before .before .before .before .before .before .before .args in
+    let is-kept = after-is-kept c in
+    let loop = at-loop (is-kept .before) in
+    let entry = at-entry (loop .before) in
+    let number = entry .args .before .segments in
+    let a = entry .args in
     let lib = a .library .now in
-    let l = c .before .before .before .before .before .before .before .before .before .before .before .before .before .before .before .before .before .before .before .before .before .before .before .before .before .before .before .before .loop in
-    let s = c .before .before .before .before .before .before .before .before .before .before .before .before .before .before .before .store-definition in
+    let l = loop .loop in
+    let s = after-store-definition (c .before .before .before) .store-definition in
     let now-lists = lists (l .segments) (l .references) (l .symbols) (l .bytes) (l .masks) in
-    let after = lists (s .last .1 .1 .1 .1 .1 .1 .1 .1 .1 .1 .1 .0) (s .last .1 .1 .1 .1 .1 .1 .1 .1 .1 .1 .1 .1 .0) (s .last .1 .1 .1 .1 .1 .1 .1 .1 .1 .1 .1 .1 .1 .0) (s .last .1 .1 .1 .1 .1 .1 .1 .1 .1 .1 .1 .1 .1 .1 .0) (s .last .1 .1 .1 .1 .1 .1 .1 .1 .1 .1 .1 .1 .1 .1 .1 .0) in
+    let after = lists (s .last .1 .1 .1 .1 .1 .1 .1 .1 .1 .1 .1 .0) (s .last .1 .1 .1 .1 .1 .1 .1 .1 .1 .1 .1 .1 .0)
+    (s .last .1 .1 .1 .1 .1 .1 .1 .1 .1 .1 .1 .1 .1 .0) (s .last .1 .1 .1 .1 .1 .1 .1 .1 .1 .1 .1 .1 .1 .1 .0) (s .last .1 .1 .1 .1 .1 .1 .1 .1 .1 .1 .1 .1 .1 .1 .1 .0) in
     record {
       long = lengths-on (l .inv .long) (s .ensures .long);
       apart-long = s .ensures .apart-long ∙ l .inv .apart-long;
       progress = λ m gs e x stores.
-          keeps-on lib m number gs now-lists after (l .c) (s .result) (yields (c .before .before .before .before .before .before .before .before .before .before .before .before .before .before .before .before .before .before .before .before .before .before .before .before)) (sym (c .before .before .before .before .before .before .before .before .before .before .before .before .before .before .before .before .before .before .before .before .before .before .before .is-kept .ensures) ∙ c .before .before .before .before .before .before .before .before .before .before .before .before .before .before .before .before .before .before .before .before .before .before .if1 .taken) (stored-count stores) (l .inv .progress m gs e x stores) (s .ensures .extends m x) (c .before .stored .given .1);
+          keeps-on lib m number gs now-lists after (l .c) (s .result) (yields (is-kept .before))
+          (sym (is-kept .is-kept .ensures) ∙ at-then1 (c .before .before .before) .if1 .taken) (stored-count stores)
+          (l .inv .progress m gs e x stores) (s .ensures .extends m x) (c .before .stored .given .1);
     }
 
 loop-less-2 : tie.Need-loop-less-2 Inv-loop μ-loop
@@ -121,14 +159,17 @@ loop-less-2 c = rw (yields (c .before .before)) (omega arith)
 
 loop-again-2 : tie.Need-loop-again-2 Inv-loop μ-loop
 loop-again-2 c =
-    let number = c .before .before .before .before .before .before .before .before .before .before .before .before .before .before .before .before .before .before .before .before .before .before .args .before .segments in
-    let lib = c .before .before .before .before .before .before .before .before .before .before .before .before .before .before .before .before .before .before .before .before .before .before .args .library .now in
-    let l = c .before .before .before .before .before .before .loop in
+    let loop = at-loop (c .before .before) in
+    let entry = at-entry (loop .before) in
+    let number = entry .args .before .segments in
+    let lib = entry .args .library .now in
+    let l = loop .loop in
     let now-lists = lists (l .segments) (l .references) (l .symbols) (l .bytes) (l .masks) in
     record {
       long = l .inv .long;
       apart-long = l .inv .apart-long;
-      progress = λ m gs e x s. subst (λ rest. Progress gs (keptSegments lib m number) rest now-lists (l .c)) (rest-passed lib m number (l .c .segments - number) (yields (c .before .before)) (sym (c .before .is-kept .ensures) ∙ c .if1 .left)) (l .inv .progress m gs e x s);
+      progress = λ m gs e x s. subst (λ rest. Progress gs (keptSegments lib m number) rest now-lists (l .c))
+          (rest-passed lib m number (l .c .segments - number) (yields (c .before .before)) (sym (c .before .is-kept .ensures) ∙ c .if1 .left)) (l .inv .progress m gs e x s);
     }
 
 same-length-7 : tie.Need-same-length-7 Inv-loop μ-loop
@@ -151,8 +192,9 @@ same-length-12 c = c .before .before .before .loop .inv .apart-long
 
 returns-2 : tie.Need-returns-2 Inv-loop μ-loop
 returns-2 c =
-    let number = c .before .before .before .before .before .before .before .before .before .before .before .before .before .before .before .before .before .before .before .args .before .segments in
-    let lib = c .before .before .before .before .before .before .before .before .before .before .before .before .before .before .before .before .before .before .before .args .library .now in
+    let entry = at-entry (c .before .before .before .before) in
+    let number = entry .args .before .segments in
+    let lib = entry .args .library .now in
     let l = c .before .before .before .loop in
     let now-lists = lists (l .segments) (l .references) (l .symbols) (l .bytes) (l .masks) in
     let none = next-definition-yields lib (l .at) ∙ ap (definitionsAfter lib) (sym (c .before .before .next-definition .ensures) ∙ c .enum-told2 .given .1) in

@@ -25,33 +25,49 @@ Inv-loop library from at₀ count₀ at count = Inv library from at count
 abbrev μ-loop : tie.MeasureT-loop
 μ-loop library from at₀ count₀ at count = length library - at
 
+-- The ladder: places of the code that the answers cite, each as it is seen from a later place.
+abbrev at-entry : tie.After-module-at Inv-loop μ-loop → tie.Start Inv-loop μ-loop
+at-entry c = c .before .before .before
+
+abbrev after-module-at : tie.After-known-told Inv-loop μ-loop → tie.After-module-at Inv-loop μ-loop
+after-module-at c = c .before .before .before
+
 -- the module at the place, once it is known
-stands : (c : tie.After-module-at Inv-loop μ-loop) {r : ModuleAt} → c .module-at .result ≡ r → placesAt (now (c .before .before .before .args .library)) (c .before .loop .at) ≡ placesRead r
+stands : (c : tie.After-module-at Inv-loop μ-loop) {r : ModuleAt} → c .module-at .result ≡ r → placesAt (now (at-entry c .args .library)) (c .before .loop .at) ≡ placesRead r
 stands c e = sym (c .module-at .ensures) ∙ ap placesRead e
 
 loop-holds : tie.Need-loop-holds Inv-loop μ-loop
 loop-holds c = let a = c .before .args in record { few = omega arith; same = count-all (many (a .library .now) (moduleAt (a .library .now)) (a .from)) }
 
 add-count : tie.Need-add-count Inv-loop μ-loop
-add-count c = omega (arith, c .before .before .before .before .loop .inv .few, module-moved (c .before .before .before .before .before .before .args .library .now) (c .before .before .before .before .loop .at) (stands (c .before .before .before) (c .before .places .given .1)))
+add-count c =
+    let module-at = after-module-at c in
+    let loop = module-at .before in
+    omega (arith, loop .loop .inv .few, module-moved (at-entry module-at .args .library .now) (loop .loop .at) (stands module-at (c .before .places .given .1)))
 
 loop-less : tie.Need-loop-less Inv-loop μ-loop
-loop-less c = omega (arith, module-moved (c .before .before .before .before .before .before .args .library .now) (c .before .before .before .before .loop .at) (stands (c .before .before .before) (c .before .places .given .1)))
+loop-less c =
+    let module-at = after-module-at c in
+    omega (arith, module-moved (at-entry module-at .args .library .now) (module-at .before .loop .at) (stands module-at (c .before .places .given .1)))
 
 loop-again : tie.Need-loop-again Inv-loop μ-loop
 loop-again c =
-    let l = c .before .before .before .before .loop in
-    let e = stands (c .before .before .before) (c .before .places .given .1) in
+    let module-at = after-module-at c in
+    let entry = at-entry module-at in
+    let l = module-at .before .loop in
+    let e = stands module-at (c .before .places .given .1) in
     record {
-      few = omega (arith, l .inv .few, module-moved (c .before .before .before .before .before .before .args .library .now) (l .at) e);
-      same = sym (count-turn (c .before .before .before .before .before .before .args .library .now) (l .at) (l .count) e) ∙ l .inv .same;
+      few = omega (arith, l .inv .few, module-moved (entry .args .library .now) (l .at) e);
+      same = sym (count-turn (entry .args .library .now) (l .at) (l .count) e) ∙ l .inv .same;
     }
 
 returns : tie.Need-returns Inv-loop μ-loop
-returns c = let l = c .before .before .before .loop in sym (count-ends (c .before .before .before .before .before .args .library .now) (l .at) (l .count) (stands (c .before .before) (c .enum-told .given .1))) ∙ l .inv .same
+returns c = let l = c .before .before .before .loop in sym
+    (count-ends (at-entry (c .before .before) .args .library .now) (l .at) (l .count) (stands (c .before .before) (c .enum-told .given .1))) ∙ l .inv .same
 
 returns-2 : tie.Need-returns-2 Inv-loop μ-loop
-returns-2 c = let l = c .before .before .before .before .loop in sym (count-refuses (c .before .before .before .before .before .before .args .library .now) (l .at) (l .count) (stands (c .before .before .before) (c .before .r .given .1))) ∙ l .inv .same
+returns-2 c = let l = c .before .before .before .before .loop in sym
+    (count-refuses (at-entry (c .before .before .before) .args .library .now) (l .at) (l .count) (stands (c .before .before .before) (c .before .r .given .1))) ∙ l .inv .same
 
 pub count-spec : {M : Type 1} → statement M
 count-spec =

@@ -13,14 +13,17 @@ use borrow.Author.Needs.{needs}
 use Rattle.library.proofs.file.type_end.Statement.{statement}
 use Rattle.library.proofs.file.type_end.Tie as tie
 
-framed : (c : tie.After-record-at) {r : Framed} → c .record-at .result ≡ r → expected (now (c .before .before .args .library)) (oneType (c .before .before .args .kind)) (c .before .before .args .at) ≡ frameRead r
+framed : (c : tie.After-record-at) {r : Framed} → c .record-at .result ≡ r → expected (now (c .before .before .args .library))
+    (oneType (c .before .before .args .kind)) (c .before .before .args .at) ≡ frameRead r
 framed c e = sym (c .record-at .ensures) ∙ ap frameRead e
 
-ended : (c : tie.After-record-at) {r : Framed} → c .record-at .result ≡ r → endOf (frameRead r) ≡ typeEnd (now (c .before .before .args .library)) (c .before .before .args .kind) (c .before .before .args .at)
+ended : (c : tie.After-record-at) {r : Framed} → c .record-at .result ≡ r → endOf (frameRead r) ≡ typeEnd (now (c .before .before .args .library))
+    (c .before .before .args .kind) (c .before .before .args .at)
 ended c e = let a = c .before .before .args in sym (type-known (a .library .now) (a .kind) (a .at) (framed c e))
 
 add-t9 : tie.Need-add-t9
-add-t9 c = let a = c .before .before .before .before .before .before .args in omega (arith, read-fits (a .library .now) (oneType (a .kind)) (a .at) (framed (c .before .before .before .before) (c .before .before .f .given .1)))
+add-t9 c = let a = c .before .before .before .before .before .before .args in omega
+    (arith, read-fits (a .library .now) (oneType (a .kind)) (a .at) (framed (c .before .before .before .before) (c .before .before .f .given .1)))
 
 returns : tie.Need-returns
 returns c = ended (c .before .before .before .before) (c .before .before .f .given .1)

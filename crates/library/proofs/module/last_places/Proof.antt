@@ -16,18 +16,22 @@ ended c e = sym (c .named-at .ensures) ∙ ap nameRead e
 returns : tie.Need-returns
 returns c =
     let a = c .before .before .before .before .before .before .before .args in
-    sym (last-same (a .library .now) (a .name) (a .definitions) (a .contents) (a .at) (ended (c .before .before .before .before .before) (c .before .before .before .last .given .1)) (sym (c .before .same-name .ensures) ∙ c .if1 .taken))
+    sym (last-same (a .library .now) (a .name) (a .definitions) (a .contents) (a .at)
+    (ended (c .before .before .before .before .before) (c .before .before .before .last .given .1)) (sym (c .before .same-name .ensures) ∙ c .if1 .taken))
 
 returns-2 : tie.Need-returns-2
 returns-2 c =
     let a = c .before .before .before .before .before .before .before .args in
-    sym (last-differs (a .library .now) (a .name) (a .definitions) (a .contents) (a .at) (ended (c .before .before .before .before .before) (c .before .before .before .last .given .1)) (sym (c .before .same-name .ensures) ∙ c .if1 .left))
+    sym (last-differs (a .library .now) (a .name) (a .definitions) (a .contents) (a .at)
+    (ended (c .before .before .before .before .before) (c .before .before .before .last .given .1)) (sym (c .before .same-name .ensures) ∙ c .if1 .left))
 
 returns-3 : tie.Need-returns-3
-returns-3 c = let a = c .before .before .before .before .args in sym (last-known (a .library .now) (a .name) (a .definitions) (a .contents) (a .at) (ended (c .before .before) (c .enum-told .given .1)))
+returns-3 c = let a = c .before .before .before .before .args in sym
+    (last-known (a .library .now) (a .name) (a .definitions) (a .contents) (a .at) (ended (c .before .before) (c .enum-told .given .1)))
 
 returns-4 : tie.Need-returns-4
-returns-4 c = let a = c .before .before .before .before .before .args in sym (last-known (a .library .now) (a .name) (a .definitions) (a .contents) (a .at) (ended (c .before .before .before) (c .before .r .given .1)))
+returns-4 c = let a = c .before .before .before .before .before .args in sym
+    (last-known (a .library .now) (a .name) (a .definitions) (a .contents) (a .at) (ended (c .before .before .before) (c .before .r .given .1)))
 
 pub last-places-spec : {M : Type 1} → statement M
 last-places-spec =

@@ -14,7 +14,8 @@ headed : (c : tie.After-named-at) {r : Named} → c .named-at .result ≡ r → 
 headed c e = sym (c .named-at .ensures) ∙ ap nameRead e
 
 returns : tie.Need-returns
-returns c = let a = c .before .before .before .before .before .before .args in c .rest-places .ensures ∙ sym (head-known (a .library .now) (a .at) (headed (c .before .before .before .before) (c .before .before .name .given .1)))
+returns c = let a = c .before .before .before .before .before .before .args in c .rest-places .ensures ∙ sym
+    (head-known (a .library .now) (a .at) (headed (c .before .before .before .before) (c .before .before .name .given .1)))
 
 returns-2 : tie.Need-returns-2
 returns-2 c = let a = c .before .before .before .before .args in sym (head-known (a .library .now) (a .at) (headed (c .before .before) (c .enum-told .given .1)))

@@ -9,25 +9,35 @@ use borrow.Author.Needs.{needs}
 use Rattle.library.proofs.module.rest_places.Statement.{statement}
 use Rattle.library.proofs.module.rest_places.Tie as tie
 
+-- The ladder: places of the code that the answers cite, each as it is seen from a later place.
+abbrev after-skip : tie.After-skip-sections → tie.After-skip
+after-skip c = c .before .before .before .before
+
 -- where the definitions end, once it is known
 defined : (c : tie.After-skip) {e : End} → c .skip .result ≡ e → allEnd Definitions (now (c .before .before .args .library)) (c .before .before .args .definitions) ≡ e
 defined c e = sym (c .skip .ensures) ∙ e
 
 returns : tie.Need-returns
 returns c =
-    let a = c .before .before .before .before .before .before .before .before .before .before .args in
+    let skip = after-skip (c .before .before .before .before) in
+    let a = skip .before .before .args in
     c .last-places .ensures
-    ∙ sym (contents-known (a .library .now) (a .name) (a .definitions) (defined (c .before .before .before .before .before .before .before .before) (c .before .before .before .before .before .before .contents .given .1)) (sym (c .before .before .before .before .skip-sections .ensures) ∙ c .before .before .at .given .1))
+    ∙ sym (contents-known (a .library .now) (a .name) (a .definitions)
+    (defined skip (c .before .before .before .before .before .before .contents .given .1)) (sym (c .before .before .before .before .skip-sections .ensures) ∙ c .before .before .at .given .1))
 
 returns-2 : tie.Need-returns-2
 returns-2 c =
-    let a = c .before .before .before .before .before .before .before .before .args in
-    sym (contents-known (a .library .now) (a .name) (a .definitions) (defined (c .before .before .before .before .before .before) (c .before .before .before .before .contents .given .1)) (sym (c .before .before .skip-sections .ensures) ∙ c .enum-told .given .1))
+    let skip = after-skip (c .before .before) in
+    let a = skip .before .before .args in
+    sym (contents-known (a .library .now) (a .name) (a .definitions) (defined skip (c .before .before .before .before .contents .given .1))
+    (sym (c .before .before .skip-sections .ensures) ∙ c .enum-told .given .1))
 
 returns-3 : tie.Need-returns-3
 returns-3 c =
-    let a = c .before .before .before .before .before .before .before .before .before .args in
-    sym (contents-known (a .library .now) (a .name) (a .definitions) (defined (c .before .before .before .before .before .before .before) (c .before .before .before .before .before .contents .given .1)) (sym (c .before .before .before .skip-sections .ensures) ∙ c .before .r .given .1))
+    let skip = after-skip (c .before .before .before) in
+    let a = skip .before .before .args in
+    sym (contents-known (a .library .now) (a .name) (a .definitions) (defined skip (c .before .before .before .before .before .contents .given .1))
+    (sym (c .before .before .before .skip-sections .ensures) ∙ c .before .r .given .1))
 
 returns-4 : tie.Need-returns-4
 returns-4 c = let a = c .before .before .before .before .args in sym (rest-known (a .library .now) (a .name) (a .definitions) (defined (c .before .before) (c .enum-told2 .given .1)))

@@ -13,28 +13,36 @@ use borrow.Author.Needs.{needs}
 use Rattle.library.proofs.repeat.content_end.Statement.{statement}
 use Rattle.library.proofs.repeat.content_end.Tie as tie
 
+-- The ladder: places of the code that the answers cite, each as it is seen from a later place.
+abbrev after-record-at : tie.After-known-told → tie.After-record-at
+after-record-at c = c .before .before .before
+
 -- the record at the place, once it is known
 framed : (c : tie.After-record-at) {r : Framed} → c .record-at .result ≡ r → expected (now (c .before .before .args .library)) fills (c .before .before .args .at) ≡ frameRead r
 framed c e = sym (c .record-at .ensures) ∙ ap frameRead e
 
-fits : (c : tie.After-known-told) → Fits (now (c .before .before .before .before .before .args .library)) (c .before .before .before .before .before .args .at) (c .before .f .given .0 .0) (c .before .f .given .0 .0 .end + 1)
-fits c = let a = c .before .before .before .before .before .args in read-fits (a .library .now) fills (a .at) (framed (c .before .before .before) (c .before .f .given .1))
+fits : (c : tie.After-known-told) → Fits (now (after-record-at c .before .before .args .library)) (after-record-at c .before .before .args .at)
+    (c .before .f .given .0 .0) (c .before .f .given .0 .0 .end + 1)
+fits c = let a = after-record-at c .before .before .args in read-fits (a .library .now) fills (a .at) (framed (after-record-at c) (c .before .f .given .1))
 
 sub-if1 : tie.Need-sub-if1
 sub-if1 c = omega (arith, fits c)
 
 returns : tie.Need-returns
 returns c =
-    let a = c .before .before .before .before .before .before .before .args in
-    sym (content-cut (a .library .now) (a .at) (framed (c .before .before .before .before .before) (c .before .before .before .f .given .1)) (c .before .id-size .ensures .0) (omega (arith, fits (c .before .before))))
+    let record-at = after-record-at (c .before .before) in
+    let a = record-at .before .before .args in
+    sym (content-cut (a .library .now) (a .at) (framed record-at (c .before .before .before .f .given .1)) (c .before .id-size .ensures .0) (omega (arith, fits (c .before .before))))
 
 add-skip : tie.Need-add-skip
 add-skip c = omega (arith, fits (c .before .before))
 
 returns-2 : tie.Need-returns-2
 returns-2 c =
-    let a = c .before .before .before .before .before .before .before .before .args in
-    c .skip .ensures ∙ sym (content-whole (a .library .now) (a .at) (framed (c .before .before .before .before .before .before) (c .before .before .before .before .f .given .1)) (c .before .before .id-size .ensures .0) (omega (arith, fits (c .before .before .before))))
+    let record-at = after-record-at (c .before .before .before) in
+    let a = record-at .before .before .args in
+    c .skip .ensures ∙ sym (content-whole (a .library .now) (a .at) (framed record-at (c .before .before .before .before .f .given .1))
+    (c .before .before .id-size .ensures .0) (omega (arith, fits (c .before .before .before))))
 
 returns-3 : tie.Need-returns-3
 returns-3 c = let a = c .before .before .before .before .args in sym (content-halts (a .library .now) (a .at) (framed (c .before .before) (c .enum-told .given .1)))

@@ -13,34 +13,44 @@ use borrow.Author.Needs.{needs}
 use Rattle.library.proofs.repeat.record_end.Statement.{statement}
 use Rattle.library.proofs.repeat.record_end.Tie as tie
 
+-- The ladder: places of the code that the answers cite, each as it is seen from a later place.
+abbrev at-entry : tie.After-record-at → tie.Start
+at-entry c = c .before .before .before
+
+abbrev after-record-at : tie.After-struct-known → tie.After-record-at
+after-record-at c = c .before .before .before .before
+
 -- the record at the place, once it is known
 framed : (c : tie.After-record-at) {r : Framed} → c .record-at .result ≡ r
-    → expected (now (c .before .before .before .args .library)) (allows (allowedFor (c .before .before .before .args .what))) (c .before .before .before .args .at) ≡ frameRead r
+    → expected (now (at-entry c .args .library)) (allows (allowedFor (at-entry c .args .what))) (at-entry c .args .at) ≡ frameRead r
 framed c e =
-    let a = c .before .before .before .args in
+    let a = at-entry c .args in
     ap (λ w. expected (a .library .now) (allows w) (a .at)) (sym (c .before .allowed-for .ensures)) ∙ sym (c .record-at .ensures) ∙ ap frameRead e
 
 add-next : tie.Need-add-next
 add-next c =
-    let a = c .before .before .before .before .before .before .before .args in
-    omega (arith, read-fits (a .library .now) (allows (allowedFor (a .what))) (a .at) (framed (c .before .before .before .before) (c .before .before .f .given .1)))
+    let a = at-entry (after-record-at c) .args in
+    omega (arith, read-fits (a .library .now) (allows (allowedFor (a .what))) (a .at) (framed (after-record-at c) (c .before .before .f .given .1)))
 
 returns : tie.Need-returns
 returns c =
-    let a = c .before .before .before .before .before .before .before .before .before .before .before .args in
+    let record-at = after-record-at (c .before .before .before .before) in
+    let a = at-entry record-at .args in
     c .own-end .ensures ∙ ap (ownEnd _) (c .before .entry-end .ensures)
-    ∙ sym (record-holds (a .what) (a .library .now) (a .at) (framed (c .before .before .before .before .before .before .before .before) (c .before .before .before .before .before .before .f .given .1)) (sym (c .before .before .before .holds .ensures) ∙ c .before .before .if1 .taken))
+    ∙ sym (record-holds (a .what) (a .library .now) (a .at) (framed record-at (c .before .before .before .before .before .before .f .given .1))
+    (sym (c .before .before .before .holds .ensures) ∙ c .before .before .if1 .taken))
 
 returns-2 : tie.Need-returns-2
 returns-2 c =
-    let a = c .before .before .before .before .before .before .before .before .before .args in
-    sym (record-skipped (a .what) (a .library .now) (a .at) (framed (c .before .before .before .before .before .before) (c .before .before .before .before .f .given .1)) (sym (c .before .holds .ensures) ∙ c .if1 .left))
+    let record-at = after-record-at (c .before .before) in
+    let a = at-entry record-at .args in
+    sym (record-skipped (a .what) (a .library .now) (a .at) (framed record-at (c .before .before .before .before .f .given .1)) (sym (c .before .holds .ensures) ∙ c .if1 .left))
 
 returns-3 : tie.Need-returns-3
-returns-3 c = let a = c .before .before .before .before .before .args in sym (record-halts (a .what) (a .library .now) (a .at) (framed (c .before .before) (c .enum-told .given .1)))
+returns-3 c = let a = at-entry (c .before .before) .args in sym (record-halts (a .what) (a .library .now) (a .at) (framed (c .before .before) (c .enum-told .given .1)))
 
 returns-4 : tie.Need-returns-4
-returns-4 c = let a = c .before .before .before .before .before .before .args in sym (record-refuses (a .what) (a .library .now) (a .at) (framed (c .before .before .before) (c .before .r .given .1)))
+returns-4 c = let a = at-entry (c .before .before .before) .args in sym (record-refuses (a .what) (a .library .now) (a .at) (framed (c .before .before .before) (c .before .r .given .1)))
 
 pub record-end-spec : {M : Type 1} → statement M
 record-end-spec =

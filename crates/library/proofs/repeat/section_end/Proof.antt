@@ -13,22 +13,28 @@ use borrow.Author.Needs.{needs}
 use Rattle.library.proofs.repeat.section_end.Statement.{statement}
 use Rattle.library.proofs.repeat.section_end.Tie as tie
 
+-- The ladder: places of the code that the answers cite, each as it is seen from a later place.
+abbrev at-entry : tie.After-record-at → tie.Start
+at-entry c = c .before .before .before .before .before
+
 -- the record at the place, once it is known
-framed : (c : tie.After-record-at) {r : Framed} → c .record-at .result ≡ r → expected (now (c .before .before .before .before .before .args .library)) isIdle (c .before .before .before .before .before .args .at) ≡ frameRead r
+framed : (c : tie.After-record-at) {r : Framed} → c .record-at .result ≡ r → expected (now (at-entry c .args .library)) isIdle (at-entry c .args .at) ≡ frameRead r
 framed c e = sym (c .record-at .ensures) ∙ ap frameRead e
 
-idle : (c : tie.After-record-at) {r : Framed} → c .record-at .result ≡ r → endOf (sectionsAt (now (c .before .before .before .before .before .args .library)) (c .before .before .before .before .before .args .at)) ≡ endOf (frameRead r)
+idle : (c : tie.After-record-at) {r : Framed} → c .record-at .result ≡ r → endOf (sectionsAt (now (at-entry c .args .library)) (at-entry c .args .at)) ≡ endOf (frameRead r)
 idle c e =
-    let a = c .before .before .before .before .before .args in
+    let a = at-entry c .args in
     section-idle (a .library .now) (a .at) (ap fills (sym (c .before .before .before .byte-at .ensures)) ∙ sym (c .before .before .fills .ensures) ∙ c .before .if1 .left) (framed c e)
 
 returns : tie.Need-returns
 returns c =
     let a = c .before .before .before .before .before .args in
-    c .content-end .ensures ∙ sym (section-content (a .library .now) (a .at) (ap fills (sym (c .before .before .before .byte-at .ensures)) ∙ sym (c .before .before .fills .ensures) ∙ c .before .if1 .taken))
+    c .content-end .ensures ∙ sym (section-content (a .library .now) (a .at)
+    (ap fills (sym (c .before .before .before .byte-at .ensures)) ∙ sym (c .before .before .fills .ensures) ∙ c .before .if1 .taken))
 
 add-t10 : tie.Need-add-t10
-add-t10 c = let a = c .before .before .before .before .before .before .before .before .before .args in omega (arith, read-fits (a .library .now) isIdle (a .at) (framed (c .before .before .before .before) (c .before .before .f .given .1)))
+add-t10 c = let a = at-entry (c .before .before .before .before) .args in omega
+    (arith, read-fits (a .library .now) isIdle (a .at) (framed (c .before .before .before .before) (c .before .before .f .given .1)))
 
 returns-2 : tie.Need-returns-2
 returns-2 c = sym (idle (c .before .before .before .before) (c .before .before .f .given .1))

@@ -15,17 +15,30 @@ Inv-loop library from at₀ at = sectionsEnd library at ≡ sectionsEnd library 
 abbrev μ-loop : tie.MeasureT-loop
 μ-loop library from at₀ at = length library - at
 
+-- The ladder: places of the code that the answers cite, each as it is seen from a later place.
+abbrev after-section-end : tie.After-known-told Inv-loop μ-loop → tie.After-section-end Inv-loop μ-loop
+after-section-end c = c .before .before .before
+
 loop-less : tie.Need-loop-less Inv-loop μ-loop
-loop-less c = omega (arith, section-moved (c .before .before .before .before .before .before .args .library .now) (c .before .before .before .before .loop .at) (sym (c .before .before .before .section-end .ensures) ∙ c .before .next .given .1))
+loop-less c =
+    let section-end = after-section-end c in
+    omega (arith, section-moved (section-end .before .before .before .args .library .now) (section-end .before .loop .at) (sym (section-end .section-end .ensures) ∙ c .before .next .given .1))
 
 loop-again : tie.Need-loop-again Inv-loop μ-loop
-loop-again c = sym (sections-turn (c .before .before .before .before .before .before .args .library .now) (c .before .before .before .before .loop .at) (sym (c .before .before .before .section-end .ensures) ∙ c .before .next .given .1)) ∙ c .before .before .before .before .loop .inv
+loop-again c =
+    let section-end = after-section-end c in
+    let loop = section-end .before in
+    sym (sections-turn (loop .before .before .args .library .now) (loop .loop .at) (sym (section-end .section-end .ensures) ∙ c .before .next .given .1)) ∙ loop .loop .inv
 
 returns : tie.Need-returns Inv-loop μ-loop
-returns c = sym (sections-turn (c .before .before .before .before .before .args .library .now) (c .before .before .before .loop .at) (sym (c .before .before .section-end .ensures) ∙ c .enum-told .given .1)) ∙ c .before .before .before .loop .inv
+returns c =
+    let loop = c .before .before .before in
+    sym (sections-turn (loop .before .before .args .library .now) (loop .loop .at) (sym (c .before .before .section-end .ensures) ∙ c .enum-told .given .1)) ∙ loop .loop .inv
 
 returns-2 : tie.Need-returns-2 Inv-loop μ-loop
-returns-2 c = sym (sections-turn (c .before .before .before .before .before .before .args .library .now) (c .before .before .before .before .loop .at) (sym (c .before .before .before .section-end .ensures) ∙ c .before .r .given .1)) ∙ c .before .before .before .before .loop .inv
+returns-2 c =
+    let loop = c .before .before .before .before in
+    sym (sections-turn (loop .before .before .args .library .now) (loop .loop .at) (sym (c .before .before .before .section-end .ensures) ∙ c .before .r .given .1)) ∙ loop .loop .inv
 
 pub skip-sections-spec : {M : Type 1} → statement M
 skip-sections-spec =

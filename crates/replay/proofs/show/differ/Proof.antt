@@ -6,10 +6,10 @@ use Rattle.replay.proofs.show.differ.Statement.{statement}
 use Rattle.replay.proofs.show.differ.Tie as tie
 
 abbrev Inv-loop : tie.InvT-loop
-Inv-loop passed header came i₀ t6 t7 i = Unit
+Inv-loop passed header came i₀ t6 t7 t8 i = Unit
 
 abbrev μ-loop : tie.MeasureT-loop
-μ-loop passed header came i₀ t6 t7 i = length came - i
+μ-loop passed header came i₀ t6 t7 t8 i = length came - i
 
 pub differ-spec : {M : Type 1} → statement M
 differ-spec =
@@ -24,11 +24,11 @@ differ-spec =
     (λ c. search needs)
     (λ c κs. search needs)
     (λ c κs. search needs)
-    (λ c κs. search needs)
     (λ c. search needs)
     (λ c. search needs)
     (λ c. search needs)
     (λ c κs. search needs)
+    (λ c. search needs)
     (λ c. search needs)
     (λ c. search needs)
     (λ c. search needs)

@@ -8,7 +8,7 @@ abbrev Inv-loop : tie.InvT-loop
 Inv-loop tally i₀ t3 t4 i = Unit
 
 abbrev μ-loop : tie.MeasureT-loop
-μ-loop tally i₀ t3 t4 i = 14 - i
+μ-loop tally i₀ t3 t4 i = 32 - i
 
 pub refusals-spec : {M : Type 1} → statement M
 refusals-spec =
@@ -17,6 +17,7 @@ refusals-spec =
     Inv-loop
     μ-loop
     (λ c. search needs)
+    (λ c κs. search needs)
     (λ c. search needs)
     (λ c κs. search needs)
     (λ c. search needs)

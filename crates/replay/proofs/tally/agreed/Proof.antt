@@ -8,7 +8,7 @@ abbrev Inv-loop : tie.InvT-loop
 Inv-loop tally n₀ i₀ n i = Unit
 
 abbrev μ-loop : tie.MeasureT-loop
-μ-loop tally n₀ i₀ n i = 14 - i
+μ-loop tally n₀ i₀ n i = 32 - i
 
 pub agreed-spec : {M : Type 1} → statement M
 agreed-spec =

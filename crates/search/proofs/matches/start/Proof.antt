@@ -12,9 +12,15 @@ use borrow.Author.Needs.{needs}
 use Rattle.search.proofs.matches.start.Statement.{statement}
 use Rattle.search.proofs.matches.start.Tie as tie
 
+-- The ladder: places of the code that the answers cite, each as it is seen from a later place.
+abbrev at-entry : tie.After-anchor → tie.Start
+at-entry c = c .before .before .before .before .before .before .before .before
+
 -- the anchor
-found : (c : tie.After-place) → Anchor (now (c .before .before .before .before .before .before .before .before .before .before .args .bytes)) (now (c .before .before .before .before .before .before .before .before .before .before .args .masks)) (c .place .given .0 .0)
-found c = subst (Anchored (now (c .before .before .before .before .before .before .before .before .before .before .args .bytes)) (now (c .before .before .before .before .before .before .before .before .before .before .args .masks))) (c .place .given .1) (c .before .before .anchor .ensures)
+found : (c : tie.After-place) → Anchor (now (at-entry (c .before .before) .args .bytes)) (now (at-entry (c .before .before) .args .masks)) (c .place .given .0 .0)
+found c =
+    let entry = at-entry (c .before .before) in
+    subst (Anchored (now (entry .args .bytes)) (now (entry .args .masks))) (c .place .given .1) (c .before .before .anchor .ensures)
 
 shared-slice-read-t15 : tie.Need-shared-slice-read-t15
 shared-slice-read-t15 c = omega (arith, found (c .before .before) .within)
@@ -26,20 +32,23 @@ mul-t17 : tie.Need-mul-t17
 mul-t17 c = omega (arith, found (c .before .before) .byte)
 
 shared-slice-read-t19 : tie.Need-shared-slice-read-t19
-shared-slice-read-t19 c = omega (arith, found (c .before .before .before) .byte, c .before .before .before .before .before .before .before .before .before .before .before .before .before .pre .room)
+shared-slice-read-t19 c = omega (arith, found (c .before .before .before) .byte, at-entry (c .before .before .before .before .before) .pre .room)
 
 returns : tie.Need-returns
 returns c =
-    let a = c .before .before .before .before .before .before .before .before .before .before .before .before .before .args in
-    let place = c .before .before .before .place .given .0 .0 in
+    let place-place = c .before .before .before in
+    let entry = at-entry (place-place .before .before) in
+    let a = entry .args in
+    let place = place-place .place .given .0 .0 in
     subst (λ (x : Seat). Started (a .image .now) x (a .bytes .now) (a .masks .now) (Along place (getD (a .first .now) (getD (a .bytes .now) place 0) 0)))
-    (sym (c .before .before .before .before .before .before .before .enum-told .given .1))
-    (started-along (a .image .now) (a .bytes .now) (a .masks .now) (a .first .now) place (c .before .before .before .before .before .before .before .before .before .before .before .before .before .pre) (found (c .before .before .before)))
+    (sym (place-place .before .before .before .before .enum-told .given .1))
+    (started-along (a .image .now) (a .bytes .now) (a .masks .now) (a .first .now) place (entry .pre) (found place-place))
 
 returns-2 : tie.Need-returns-2
 returns-2 c =
-    let a = c .before .before .before .before .before .before .before .before .before .before .args in
-    subst (λ (x : Seat). Started (a .image .now) x (a .bytes .now) (a .masks .now) (Plain 0)) (sym (c .before .before .before .before .enum-told .given .1)) (started-plain (a .image .now) (a .bytes .now) (a .masks .now))
+    let a = at-entry (c .before .before) .args in
+    subst (λ (x : Seat). Started (a .image .now) x (a .bytes .now) (a .masks .now) (Plain 0))
+    (sym (c .before .before .before .before .enum-told .given .1)) (started-plain (a .image .now) (a .bytes .now) (a .masks .now))
 
 returns-3 : tie.Need-returns-3
 returns-3 c =

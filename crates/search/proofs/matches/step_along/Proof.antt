@@ -23,6 +23,13 @@ Inv-loop image s bytes masks next anchor from link₀ link = Inv image s bytes m
 abbrev μ-loop : tie.MeasureT-loop
 μ-loop image s bytes masks next anchor from link₀ link = ahead image link
 
+-- The ladder: places of the code that the answers cite, each as it is seen from a later place.
+abbrev at-entry : tie.After-shared-slice-known5 Inv-loop μ-loop → tie.Start Inv-loop μ-loop
+at-entry c = c .before .before .before .before .before .before .before
+
+abbrev at-in-loop : tie.After-match-at Inv-loop μ-loop → tie.In-loop Inv-loop μ-loop
+at-in-loop c = c .before .before .before
+
 -- where the link leads
 here : (c : tie.In-loop Inv-loop μ-loop) → c .before .loop .link - 1 < length (now (c .before .before .before .before .before .before .args .image))
 here c = c .before .loop .inv .sound .leads .within (c .loop-test .taken)
@@ -40,48 +47,60 @@ mul-link : tie.Need-mul-link Inv-loop μ-loop
 mul-link c = omega (arith, here c)
 
 shared-slice-read-link : tie.Need-shared-slice-read-link Inv-loop μ-loop
-shared-slice-read-link c = omega (arith, here (c .before), c .before .before .before .before .before .before .before .pre .nexts .room)
+shared-slice-read-link c = omega (arith, here (c .before), at-entry c .pre .nexts .room)
 
 returns : tie.Need-returns Inv-loop μ-loop
 returns c =
-    let a = c .before .before .before .before .before .before .before .before .before .before .args in
-    let l = c .before .before .before .before .before .loop in
-    let h = c .before .before .before .before .loop-test .taken in
-    let n = c .before .before .before .before .before .before .before .before .before .before .pre .nexts in
+    let in-loop = at-in-loop (c .before) in
+    let entry = at-entry (c .before .before .before) in
+    let a = entry .args in
+    let l = in-loop .before .loop in
+    let h = in-loop .loop-test .taken in
+    let n = entry .pre .nexts in
     let e = sym (c .before .match-at .ensures) ∙ c .if2 .taken in
     record {
-      places = l .inv .same ∙ along-match (a .image .now) (a .s) (a .bytes .now) (a .masks .now) (a .next .now) (a .anchor) (l .link) n (l .inv .sound) h (omega (arith, c .before .before .if1 .taken)) e;
+      places = l .inv .same ∙ along-match (a .image .now) (a .s) (a .bytes .now) (a .masks .now) (a .next .now) (a .anchor) (l .link) n
+          (l .inv .sound) h (omega (arith, c .before .before .if1 .taken)) e;
       matched = e;
       sound = past-sound (a .image .now) (a .s) (a .bytes .now) (a .masks .now) (a .next .now) (a .anchor) (l .link) n (l .inv .sound) h;
     }
 
 loop-less : tie.Need-loop-less Inv-loop μ-loop
 loop-less c =
-    let a = c .before .before .before .before .before .before .before .before .before .before .args in
-    past-less (a .image .now) (a .s) (a .bytes .now) (a .masks .now) (a .next .now) (a .anchor) (c .before .before .before .before .before .loop .link) (c .before .before .before .before .before .before .before .before .before .before .pre .nexts) (c .before .before .before .before .before .loop .inv .sound) (c .before .before .before .before .loop-test .taken)
+    let in-loop = at-in-loop (c .before) in
+    let loop = in-loop .before in
+    let entry = at-entry (c .before .before .before) in
+    let a = entry .args in
+    past-less (a .image .now) (a .s) (a .bytes .now) (a .masks .now) (a .next .now) (a .anchor) (loop .loop .link) (entry .pre .nexts) (loop .loop .inv .sound) (in-loop .loop-test .taken)
 
 loop-again : tie.Need-loop-again Inv-loop μ-loop
 loop-again c =
-    let a = c .before .before .before .before .before .before .before .before .before .before .args in
-    let l = c .before .before .before .before .before .loop in
-    let h = c .before .before .before .before .loop-test .taken in
-    let n = c .before .before .before .before .before .before .before .before .before .before .pre .nexts in
+    let in-loop = at-in-loop (c .before) in
+    let entry = at-entry (c .before .before .before) in
+    let a = entry .args in
+    let l = in-loop .before .loop in
+    let h = in-loop .loop-test .taken in
+    let n = entry .pre .nexts in
     record {
       sound = past-sound (a .image .now) (a .s) (a .bytes .now) (a .masks .now) (a .next .now) (a .anchor) (l .link) n (l .inv .sound) h;
-      same = l .inv .same ∙ along-other (a .image .now) (a .s) (a .bytes .now) (a .masks .now) (a .next .now) (a .anchor) (l .link) n (l .inv .sound) h (omega (arith, c .before .before .if1 .taken)) (sym (c .before .match-at .ensures) ∙ c .if2 .left);
+      same = l .inv .same ∙ along-other (a .image .now) (a .s) (a .bytes .now) (a .masks .now) (a .next .now) (a .anchor) (l .link) n (l .inv .sound)
+          h (omega (arith, c .before .before .if1 .taken)) (sym (c .before .match-at .ensures) ∙ c .if2 .left);
     }
 
 loop-less-2 : tie.Need-loop-less-2 Inv-loop μ-loop
 loop-less-2 c =
-    let a = c .before .before .before .before .before .before .before .before .args in
-    past-less (a .image .now) (a .s) (a .bytes .now) (a .masks .now) (a .next .now) (a .anchor) (c .before .before .before .loop .link) (c .before .before .before .before .before .before .before .before .pre .nexts) (c .before .before .before .loop .inv .sound) (c .before .before .loop-test .taken)
+    let loop = c .before .before .before in
+    let entry = at-entry (c .before) in
+    let a = entry .args in
+    past-less (a .image .now) (a .s) (a .bytes .now) (a .masks .now) (a .next .now) (a .anchor) (loop .loop .link) (entry .pre .nexts) (loop .loop .inv .sound) (c .before .before .loop-test .taken)
 
 loop-again-2 : tie.Need-loop-again-2 Inv-loop μ-loop
 loop-again-2 c =
-    let a = c .before .before .before .before .before .before .before .before .args in
+    let entry = at-entry (c .before) in
+    let a = entry .args in
     let l = c .before .before .before .loop in
     let h = c .before .before .loop-test .taken in
-    let n = c .before .before .before .before .before .before .before .before .pre .nexts in
+    let n = entry .pre .nexts in
     record {
       sound = past-sound (a .image .now) (a .s) (a .bytes .now) (a .masks .now) (a .next .now) (a .anchor) (l .link) n (l .inv .sound) h;
       same = l .inv .same ∙ along-before (a .image .now) (a .s) (a .bytes .now) (a .masks .now) (a .next .now) (a .anchor) (l .link) n (l .inv .sound) h (omega (arith, c .if1 .left));
@@ -89,9 +108,10 @@ loop-again-2 c =
 
 returns-2 : tie.Need-returns-2 Inv-loop μ-loop
 returns-2 c =
-    let a = c .before .before .before .before .before .before .args in
+    let entry = c .before .before .before .before .before .before in
+    let a = entry .args in
     let l = c .before .loop in
-    l .inv .same ∙ along-end (a .image .now) (a .s) (a .bytes .now) (a .masks .now) (a .next .now) (a .anchor) (l .link) (c .before .before .before .before .before .before .pre .nexts) (l .inv .sound) (c .loop-test .left)
+    l .inv .same ∙ along-end (a .image .now) (a .s) (a .bytes .now) (a .masks .now) (a .next .now) (a .anchor) (l .link) (entry .pre .nexts) (l .inv .sound) (c .loop-test .left)
 
 pub step-along-spec : {M : Type 1} → statement M
 step-along-spec =

@@ -24,7 +24,9 @@ loop-holds : tie.Need-loop-holds Inv-loop μ-loop
 loop-holds c = record { within = omega arith; lacking = omega arith }
 
 returns : tie.Need-returns Inv-loop μ-loop
-returns c = let l = c .before .before .loop in reached (c .before .before .before .args .masks .now) (c .before .before .before .args .least) (l .i) (omega (arith, l .inv .lacking, c .if1 .taken))
+returns c =
+    let entry = c .before .before .before in
+    let l = c .before .before .loop in reached (entry .args .masks .now) (entry .args .least) (l .i) (omega (arith, l .inv .lacking, c .if1 .taken))
 
 sub-left : tie.Need-sub-left Inv-loop μ-loop
 sub-left c = omega (arith, c .before .before .if1 .left)
@@ -44,9 +46,10 @@ loop-again c =
 
 returns-2 : tie.Need-returns-2 Inv-loop μ-loop
 returns-2 c =
+    let entry = c .before .before in
     let l = c .before .loop in
-    let masks = c .before .before .args .masks .now in
-    weighed masks (c .before .before .args .least) (l .left) (omega (arith, l .inv .lacking, count-end masks (l .i) (omega (arith, c .loop-test .left))))
+    let masks = entry .args .masks .now in
+    weighed masks (entry .args .least) (l .left) (omega (arith, l .inv .lacking, count-end masks (l .i) (omega (arith, c .loop-test .left))))
 
 pub reaches-spec : {M : Type 1} → statement M
 reaches-spec =

@@ -26,71 +26,111 @@ use borrow.Author.Needs.{needs}
 use Rattle.collect.proofs.absolute.one.store_absolute.Statement.{statement}
 use Rattle.collect.proofs.absolute.one.store_absolute.Tie as tie
 
+-- The ladder: places of the code that the answers cite, each as it is seen from a later place.
+abbrev at-entry : tie.After-fits2 → tie.Start
+at-entry c = c .before .before .before .before .before .before .before .before .before .before .before .before .before .before
+
+abbrev after-merge-content : tie.After-filled-to2 → tie.After-merge-content
+after-merge-content c = c .before .before .before .before .before .before .before .before .before .before .before .before .before .before
+
+abbrev after-fits3 : tie.After-name-inside → tie.After-fits3
+after-fits3 c = after-merge-content (c .before) .before .before .before .before .before
+
+abbrev after-fits2 : tie.After-name-inside → tie.After-fits2
+after-fits2 c = after-fits3 c .before .before
+
+abbrev after-name-inside : tie.After-slice-known14 → tie.After-name-inside
+after-name-inside c = c .before .before .before .before .before .before .before .before .before
+
 returns : tie.Need-returns
 returns c =
-    let a = c .before .before .before .before .before .before .before .before .before .before .before .before .before .before .before .args in
+    let entry = at-entry (c .before) in
+    let a = entry .args in
     let fixups = fixupsLeft (a .library .now) (a .fixups) in
     let l = lists (a .segments .now) (a .references .now) (a .symbols .now) (a .bytes .now) (a .masks .now) in
     record {
       long = record { segments = refl; references = refl; symbols = refl; bytes = refl; masks = refl };
       apart-long = refl;
       flags-long = refl;
-      clear = c .before .before .before .before .before .before .before .before .before .before .before .before .before .before .before .pre .1 .1 .1;
-      extends = λ ds ps t p gs s. no-bytes-room gs (absoluteOf (a .library .now) ds (a .number) (a .own) (a .content) fixups ps) l (a .c) s (a .content .part .len) (whole-length (a .library .now) (a .content) (c .before .before .before .before .before .before .before .before .before .before .before .before .before .before .before .pre .1 .1 .0)) (masks-length (length (bytesOf (a .library .now) (a .content .part))) fixups)
+      clear = entry .pre .1 .1 .1;
+      extends = λ ds ps t p gs s. no-bytes-room gs (absoluteOf (a .library .now) ds (a .number) (a .own) (a .content) fixups ps) l (a .c) s
+          (a .content .part .len) (whole-length (a .library .now) (a .content) (entry .pre .1 .1 .0)) (masks-length (length (bytesOf (a .library .now) (a .content .part))) fixups)
           (leb-false (a .c .pattern + a .content .part .len) (length (a .bytes .now)) (sym (c .before .fits2 .ensures) ∙ not-true (c .before .fits2 .result) (c .if1 .taken)));
     }
 
 returns-2 : tie.Need-returns-2
 returns-2 c =
-    let a = c .before .before .before .before .before .before .before .before .before .before .before .before .before .before .before .before .before .args in
+    let entry = at-entry (c .before .before .before) in
+    let a = entry .args in
     let fixups = fixupsLeft (a .library .now) (a .fixups) in
     let l = lists (a .segments .now) (a .references .now) (a .symbols .now) (a .bytes .now) (a .masks .now) in
     record {
       long = record { segments = refl; references = refl; symbols = refl; bytes = refl; masks = refl };
       apart-long = refl;
       flags-long = refl;
-      clear = c .before .before .before .before .before .before .before .before .before .before .before .before .before .before .before .before .before .pre .1 .1 .1;
-      extends = λ ds ps t p gs s. no-masks-room gs (absoluteOf (a .library .now) ds (a .number) (a .own) (a .content) fixups ps) l (a .c) s (a .content .part .len) (whole-length (a .library .now) (a .content) (c .before .before .before .before .before .before .before .before .before .before .before .before .before .before .before .before .before .pre .1 .1 .0)) (masks-length (length (bytesOf (a .library .now) (a .content .part))) fixups)
+      clear = entry .pre .1 .1 .1;
+      extends = λ ds ps t p gs s. no-masks-room gs (absoluteOf (a .library .now) ds (a .number) (a .own) (a .content) fixups ps) l (a .c) s
+          (a .content .part .len) (whole-length (a .library .now) (a .content) (entry .pre .1 .1 .0)) (masks-length (length (bytesOf (a .library .now) (a .content .part))) fixups)
           (leb-false (a .c .pattern + a .content .part .len) (length (a .masks .now)) (sym (c .before .fits3 .ensures) ∙ not-true (c .before .fits3 .result) (c .if2 .taken)));
     }
 
 name-inside-requires : tie.Need-name-inside-requires
-name-inside-requires c κs = let w = c .before .before .before .before .before .before .before .before .before .before .before .before .before .before .before .before .before .before .before .before .before .before .before .before .before .before .before .before .before .before .before .before .before .before .before .pre .1 .1 in (w .0 .low, (w .0 .short, w .1))
+name-inside-requires c κs = let w = at-entry (after-merge-content c .before .before .before .before .before .before .before) .pre .1 .1 in (w .0 .low, (w .0 .short, w .1))
 
 add-finish : tie.Need-add-finish
 add-finish c =
-    let a = c .before .before .before .before .before .before .before .before .before .before .before .before .before .before .before .before .before .before .before .before .before .before .before .before .before .before .before .before .before .before .before .before .before .before .before .before .before .before .before .before .before .args in
-    omega (arith, leb-true (a .c .pattern + a .content .part .len) (length (a .bytes .now)) (sym (c .before .before .before .before .before .before .before .before .before .before .before .before .before .before .before .before .before .before .before .before .before .before .before .before .before .before .before .fits2 .ensures) ∙ not-false (c .before .before .before .before .before .before .before .before .before .before .before .before .before .before .before .before .before .before .before .before .before .before .before .before .before .before .before .fits2 .result) (c .before .before .before .before .before .before .before .before .before .before .before .before .before .before .before .before .before .before .before .before .before .before .before .before .before .before .if1 .left)), c .before .before .before .before .before .before .before .before .before .before .before .before .before .before .before .before .before .before .before .before .before .before .before .before .before .before .before .before .before .before .before .before .before .before .before .before .before .before .before .before .before .good .1 .1 .1 .1 .1 .1 .1 .1 .1 .1 .1 .1 .1 .1 .1 .0)
+    let fits2 = after-fits2 (c .before .before .before .before .before) in
+    let entry = at-entry fits2 in
+    let a = entry .args in
+    omega (
+      arith,
+      leb-true (a .c .pattern + a .content .part .len) (length (a .bytes .now))
+          (sym (fits2 .fits2 .ensures) ∙ not-false (fits2 .fits2 .result)
+          (after-fits3 (c .before .before .before .before .before) .before .if1 .left)),
+      entry .good .1 .1 .1 .1 .1 .1 .1 .1 .1 .1 .1 .1 .1 .1 .1 .0,
+    )
 
 same-length-4 : tie.Need-same-length-4
-same-length-4 c = ap length (c .before .before .before .before .before .before .before .before .before .before .before .before .before .before .before .before .before .before .before .before .before .before .before .before .merge-content .ensures .bytes-are) ∙ merged-at-length (c .before .before .before .before .before .before .before .before .before .before .before .before .before .before .before .before .before .before .before .before .before .before .before .before .before .before .before .before .before .before .before .before .before .before .before .before .before .before .before .before .before .before .before .before .before .args .bytes .now) (c .before .before .before .before .before .before .before .before .before .before .before .before .before .before .before .before .before .before .before .before .before .before .before .before .before .before .before .before .before .before .before .before .before .before .before .before .before .before .before .before .before .before .before .before .before .args .c .pattern) (c .before .before .before .before .before .before .before .before .before .before .before .before .before .before .before .before .before .before .before .before .before .before .before .before .before .before .before .before .before .before .before .before .before .before .before .before .before .before .before .before .before .before .before .before .before .args .content .part .len) 0 (bytesOf (c .before .before .before .before .before .before .before .before .before .before .before .before .before .before .before .before .before .before .before .before .before .before .before .before .before .before .before .before .before .before .before .before .before .before .before .before .before .before .before .before .before .before .before .before .before .args .library .now) (c .before .before .before .before .before .before .before .before .before .before .before .before .before .before .before .before .before .before .before .before .before .before .before .before .before .before .before .before .before .before .before .before .before .before .before .before .before .before .before .before .before .before .before .before .before .args .content .part))
+same-length-4 c =
+    let entry = at-entry (after-fits2 (after-name-inside c)) in
+    ap length (after-merge-content (after-name-inside c .before) .merge-content .ensures .bytes-are) ∙ merged-at-length (entry .args .bytes .now)
+    (entry .args .c .pattern) (entry .args .content .part .len) 0 (bytesOf (entry .args .library .now) (entry .args .content .part))
 
 same-length-5 : tie.Need-same-length-5
-same-length-5 c = ap length (c .before .before .before .before .before .before .before .before .before .before .before .before .before .before .before .before .before .before .before .before .before .before .before .before .merge-content .ensures .masks-are) ∙ merged-at-length (c .before .before .before .before .before .before .before .before .before .before .before .before .before .before .before .before .before .before .before .before .before .before .before .before .before .before .before .before .before .before .before .before .before .before .before .before .before .before .before .before .before .before .before .before .before .args .masks .now) (c .before .before .before .before .before .before .before .before .before .before .before .before .before .before .before .before .before .before .before .before .before .before .before .before .before .before .before .before .before .before .before .before .before .before .before .before .before .before .before .before .before .before .before .before .before .args .c .pattern) (c .before .before .before .before .before .before .before .before .before .before .before .before .before .before .before .before .before .before .before .before .before .before .before .before .before .before .before .before .before .before .before .before .before .before .before .before .before .before .before .before .before .before .before .before .before .args .content .part .len) 0 (masksOf (length (bytesOf (c .before .before .before .before .before .before .before .before .before .before .before .before .before .before .before .before .before .before .before .before .before .before .before .before .before .before .before .before .before .before .before .before .before .before .before .before .before .before .before .before .before .before .before .before .before .args .library .now) (c .before .before .before .before .before .before .before .before .before .before .before .before .before .before .before .before .before .before .before .before .before .before .before .before .before .before .before .before .before .before .before .before .before .before .before .before .before .before .before .before .before .before .before .before .before .args .content .part))) (fixupsLeft (c .before .before .before .before .before .before .before .before .before .before .before .before .before .before .before .before .before .before .before .before .before .before .before .before .before .before .before .before .before .before .before .before .before .before .before .before .before .before .before .before .before .before .before .before .before .args .library .now) (c .before .before .before .before .before .before .before .before .before .before .before .before .before .before .before .before .before .before .before .before .before .before .before .before .before .before .before .before .before .before .before .before .before .before .before .before .before .before .before .before .before .before .before .before .before .args .fixups)))
+same-length-5 c =
+    let entry = at-entry (after-fits2 (after-name-inside c)) in
+    ap length (after-merge-content (after-name-inside c .before) .merge-content .ensures .masks-are) ∙ merged-at-length (entry .args .masks .now)
+    (entry .args .c .pattern) (entry .args .content .part .len) 0
+    (masksOf (length (bytesOf (entry .args .library .now) (entry .args .content .part))) (fixupsLeft (entry .args .library .now) (entry .args .fixups)))
 
 same-length-6 : tie.Need-same-length-6
-same-length-6 c = c .before .before .before .before .before .before .before .before .before .before .before .before .before .before .before .before .before .before .before .before .before .before .before .before .merge-content .ensures .long
+same-length-6 c = after-merge-content (after-name-inside c .before) .merge-content .ensures .long
 
 same-length-7 : tie.Need-same-length-7
-same-length-7 c = c .before .before .before .before .before .before .before .before .before .name-inside .ensures .flags-long
+same-length-7 c = after-name-inside c .name-inside .ensures .flags-long
 
 returns-3 : tie.Need-returns-3
 returns-3 c =
-    let a = c .before .before .before .before .before .before .before .before .before .before .before .before .before .before .before .before .before .before .before .before .before .before .before .before .before .before .before .before .before .before .before .before .before .before .before .before .before .before .before .before .before .before .before .before .before .args in
+    let name-inside = after-name-inside c in
+    let merge-content = after-merge-content (name-inside .before) in
+    let fits3 = after-fits3 name-inside in
+    let fits2 = after-fits2 name-inside in
+    let entry = at-entry fits2 in
+    let a = entry .args in
     let lib = a .library .now in
     let size = a .content .part .len in
     let fixups = fixupsLeft lib (a .fixups) in
     let new = bytesOf lib (a .content .part) in
     let l = lists (a .segments .now) (a .references .now) (a .symbols .now) (a .bytes .now) (a .masks .now) in
-    let m = c .before .before .before .before .before .before .before .before .before .before .before .before .before .before .before .before .before .before .before .before .before .before .before .before .merge-content in
-    let r = c .before .before .before .before .before .before .before .before .before .before .before .before .before .before .before .refer in
-    let y = c .before .before .before .before .before .before .before .before .before .name-inside in
+    let m = merge-content .merge-content in
+    let r = name-inside .before .before .before .before .before .before .refer in
+    let y = name-inside .name-inside in
     let refs = r .last .1 .1 .1 .1 .1 .0 in
     let syms = y .last .1 .1 .1 .1 .1 .1 .1 .1 .1 .1 .0 in
     let bytes = m .last .1 .1 .1 .1 .0 in
     let masks = m .last .1 .1 .1 .1 .1 .0 in
     let end = a .c .pattern + size in
-    let wide = whole-length lib (a .content) (c .before .before .before .before .before .before .before .before .before .before .before .before .before .before .before .before .before .before .before .before .before .before .before .before .before .before .before .before .before .before .before .before .before .before .before .before .before .before .before .before .before .before .before .before .before .pre .1 .1 .0) in
+    let wide = whole-length lib (a .content) (entry .pre .1 .1 .0) in
     let even = masks-length (length new) fixups in
     record {
       long = record {
@@ -104,11 +144,18 @@ returns-3 c =
       flags-long = y .ensures .flags-long;
       clear = y .ensures .clear;
       extends = λ ds ps t p gs s.
-          rw (c .before .before .finish .ensures .0, c .before .before .finish .ensures .1) (stored-more gs (absoluteOf lib ds (a .number) (a .own) (a .content) fixups ps) l (a .c) s size wide even refs syms bytes masks (r .result) (y .result)
-          (subst (λ k. Adds referenceLayout (joined (leavesIn ds (a .number) 0) fixups) (a .references .now) k refs (r .result)) (c .before .before .before .before .before .before .before .before .before .before .before .before .before .before .before .before .filled-to .ensures) (r .ensures .adds ds t))
-          (subst (λ k. Adds symbolLayout (joined (symbolBy (Inside (a .content .offset) size (a .own))) ps) (a .symbols .now) k syms (y .result)) (c .before .before .before .before .before .before .before .before .before .before .filled-to2 .ensures) (y .ensures .adds ps p))
-          (copied-region (patternBytes gs) (a .bytes .now) (a .c .pattern) size (s .bytes) (sym (s .pattern)) (leb-true end (length (a .bytes .now)) (sym (c .before .before .before .before .before .before .before .before .before .before .before .before .before .before .before .before .before .before .before .before .before .before .before .before .before .before .before .before .before .before .before .fits2 .ensures) ∙ not-false (c .before .before .before .before .before .before .before .before .before .before .before .before .before .before .before .before .before .before .before .before .before .before .before .before .before .before .before .before .before .before .before .fits2 .result) (c .before .before .before .before .before .before .before .before .before .before .before .before .before .before .before .before .before .before .before .before .before .before .before .before .before .before .before .before .before .before .if1 .left))) new wide (m .ensures .bytes-are))
-          (copied-region (patternMasks gs) (a .masks .now) (a .c .pattern) size (s .masks) (s .even ∙ sym (s .pattern)) (leb-true end (length (a .masks .now)) (sym (c .before .before .before .before .before .before .before .before .before .before .before .before .before .before .before .before .before .before .before .before .before .before .before .before .before .before .before .before .before .fits3 .ensures) ∙ not-false (c .before .before .before .before .before .before .before .before .before .before .before .before .before .before .before .before .before .before .before .before .before .before .before .before .before .before .before .before .before .fits3 .result) (c .before .before .before .before .before .before .before .before .before .before .before .before .before .before .before .before .before .before .before .before .before .before .before .before .before .before .before .before .if2 .left))) (masksOf (length new) fixups) (even ∙ wide) (m .ensures .masks-are)));
+          rw (c .before .before .finish .ensures .0, c .before .before .finish .ensures .1)
+          (stored-more gs (absoluteOf lib ds (a .number) (a .own) (a .content) fixups ps) l (a .c) s size wide even refs syms bytes masks (r .result) (y .result)
+          (subst (λ k. Adds referenceLayout (joined (leavesIn ds (a .number) 0) fixups) (a .references .now) k refs (r .result))
+          (name-inside .before .before .before .before .before .before .before .filled-to .ensures) (r .ensures .adds ds t))
+          (subst (λ k. Adds symbolLayout (joined (symbolBy (Inside (a .content .offset) size (a .own))) ps) (a .symbols .now) k syms (y .result))
+          (name-inside .before .filled-to2 .ensures) (y .ensures .adds ps p))
+          (copied-region (patternBytes gs) (a .bytes .now) (a .c .pattern) size (s .bytes) (sym (s .pattern))
+          (leb-true end (length (a .bytes .now)) (sym (fits2 .fits2 .ensures) ∙ not-false (fits2 .fits2 .result) (fits3 .before .if1 .left))) new wide (m .ensures .bytes-are))
+          (copied-region (patternMasks gs) (a .masks .now) (a .c .pattern) size (s .masks) (s .even ∙ sym (s .pattern))
+          (leb-true end (length (a .masks .now))
+          (sym (fits3 .fits3 .ensures) ∙ not-false (fits3 .fits3 .result) (merge-content .before .before .before .before .if2 .left)))
+          (masksOf (length new) fixups) (even ∙ wide) (m .ensures .masks-are)));
     }
 
 pub store-absolute-spec : {M : Type 1} → statement M

@@ -56,23 +56,63 @@ ends Stop h = tt
 ends (Refused r) h = tt
 
 abbrev Inv-loop : tie.InvT-loop
-Inv-loop library from table₀ ids₀ places₀ first₀ next₀ keys₀ entries₀ heads₀ onward₀ segments₀ references₀ symbols₀ bytes₀ masks₀ apart₀ own at₀ c₀ table ids places first next keys entries heads onward segments references symbols bytes masks apart at c =
-    Long table₀ ids₀ places₀ first₀ next₀ keys₀ entries₀ heads₀ onward₀ table ids places first next keys entries heads onward × Inv library from own table ids places first next keys entries heads onward apart₀ apart (lists segments₀ references₀ symbols₀ bytes₀ masks₀) (lists segments references symbols bytes masks) at c
+Inv-loop library from table₀ ids₀ places₀ first₀ next₀ keys₀ entries₀ heads₀ onward₀ segments₀ references₀ symbols₀ bytes₀ masks₀ apart₀ own at₀ c₀
+    table ids places first next keys entries heads onward segments references symbols bytes masks apart at c =
+    Long table₀ ids₀ places₀ first₀ next₀ keys₀ entries₀ heads₀ onward₀ table ids places first next keys entries heads onward × Inv library from own
+    table ids places first next keys entries heads onward apart₀ apart (lists segments₀ references₀ symbols₀ bytes₀ masks₀) (lists segments references symbols bytes masks) at c
 
 abbrev μ-loop : tie.MeasureT-loop
-μ-loop library from table₀ ids₀ places₀ first₀ next₀ keys₀ entries₀ heads₀ onward₀ segments₀ references₀ symbols₀ bytes₀ masks₀ apart₀ own at₀ c₀ table ids places first next keys entries heads onward segments references symbols bytes masks apart at c = length library - at
+μ-loop library from table₀ ids₀ places₀ first₀ next₀ keys₀ entries₀ heads₀ onward₀ segments₀ references₀ symbols₀ bytes₀ masks₀ apart₀ own at₀ c₀
+    table ids places first next keys entries heads onward segments references symbols bytes masks apart at c = length library - at
+
+-- The ladder: places of the code that the answers cite, each as it is seen from a later place.
+abbrev after-slice-known4 : tie.After-none-yet Inv-loop μ-loop → tie.After-slice-known4 Inv-loop μ-loop
+after-slice-known4 c = c .before .before .before .before .before .before .before .before .before .before .before .before .before
+
+abbrev at-entry : tie.After-none-yet Inv-loop μ-loop → tie.Start Inv-loop μ-loop
+at-entry c = after-slice-known4 c .before .before .before .before .before
+
+abbrev at-loop : tie.After-known-told Inv-loop μ-loop → tie.At-loop Inv-loop μ-loop
+at-loop c = c .before .before .before .before
+
+abbrev after-known-told-from-store-module-arg15 : tie.After-store-module-arg15 Inv-loop μ-loop → tie.After-known-told Inv-loop μ-loop
+after-known-told-from-store-module-arg15 c = c .before .before .before .before .before .before .before .before .before .before .before .before .before .before .before
+
+abbrev after-references : tie.After-slice-known30 Inv-loop μ-loop → tie.After-references Inv-loop μ-loop
+after-references c = c .before .before .before .before .before .before .before .before .before
+
+abbrev after-heads : tie.After-slice-known30 Inv-loop μ-loop → tie.After-heads Inv-loop μ-loop
+after-heads c = after-references c .before .before .before .before .before .before
+
+abbrev after-entries : tie.After-slice-known30 Inv-loop μ-loop → tie.After-entries Inv-loop μ-loop
+after-entries c = after-heads c .before .before
+
+abbrev after-first : tie.After-slice-known30 Inv-loop μ-loop → tie.After-first Inv-loop μ-loop
+after-first c = after-entries c .before .before .before .before .before .before
+
+abbrev after-ids : tie.After-slice-known30 Inv-loop μ-loop → tie.After-ids Inv-loop μ-loop
+after-ids c = after-first c .before .before .before .before
+
+abbrev after-known-told-from-slice-known30 : tie.After-slice-known30 Inv-loop μ-loop → tie.After-known-told Inv-loop μ-loop
+after-known-told-from-slice-known30 c = after-known-told-from-store-module-arg15 (after-ids c .before .before .before .before)
+
+abbrev after-module-at : tie.After-enum-told Inv-loop μ-loop → tie.After-module-at Inv-loop μ-loop
+after-module-at c = after-known-told-from-slice-known30 (c .before .before) .before .before .before
+
+abbrev after-slice-known30 : tie.After-known-told2 Inv-loop μ-loop → tie.After-slice-known30 Inv-loop μ-loop
+after-slice-known30 c = c .before .before .before
 
 -- the module at the place, once it is known
 abbrev Told : Type 0
 Told = tie.After-known-told Inv-loop μ-loop
 
-stands : (c : Told) → placesAt (now (c .before .before .before .before .before .before .before .before .before .before .before .before .before .before .before .before .before .before .before .before .before .before .before .args .library)) (c .before .before .before .before .loop .at) ≡ placesRead (Whole (c .before .module .given .0 .0))
+stands : (c : Told) → placesAt (now (at-entry (at-loop c .before) .args .library)) (at-loop c .loop .at) ≡ placesRead (Whole (c .before .module .given .0 .0))
 stands c = sym (c .before .before .before .module-at .ensures) ∙ ap placesRead (c .before .module .given .1)
 
 loop-holds : tie.Need-loop-holds Inv-loop μ-loop
 loop-holds c =
-    let a = c .before .before .before .before .before .before .before .before .before .before .before .before .before .before .before .before .before .before .args in
-    let p = c .before .before .before .before .before .before .before .before .before .before .before .before .before .before .before .before .before .before .pre in
+    let a = at-entry c .args in
+    let p = at-entry c .pre in
     let l = lists (a .segments .now) (a .references .now) (a .symbols .now) (a .bytes .now) (a .masks .now) in
     let begun = subst (Stores [] l) (sym (c .none-yet .ensures)) (p .1) in (
       record { table-long = refl; ids-long = refl; places-long = refl; first-long = refl; next-long = refl; keys-long = refl; entries-long = refl; heads-long = refl; onward-long = refl },
@@ -134,103 +174,141 @@ same-length-15 c = c .before .before .loop .inv .1 .apart-long
 
 returns : tie.Need-returns Inv-loop μ-loop
 returns c =
-    let a = c .before .before .before .before .before .before .before .before .before .before .before .before .before .before .before .before .before .before .before .before .before .args in
+    let module-at = c .before in
+    let a = at-entry (module-at .before .before) .args in
     let lib = a .library .now in
-    let l = c .before .before .loop in
+    let l = module-at .before .loop in
     let i = l .inv .1 in
-    let none = modules-end lib (l .at) (c .before .module-at .result) (sym (c .before .module-at .ensures)) (ends (c .before .module-at .result) (c .match .keys2)) in
-    record { tells = i .tells; long = i .long; stored = collecting-ends (a .rules) lib none (i .collecting (a .rules) (c .before .before .before .before .is-own .ensures)) }
+    let none = modules-end lib (l .at) (module-at .module-at .result) (sym (module-at .module-at .ensures)) (ends (module-at .module-at .result) (c .match .keys2)) in
+    record { tells = i .tells; long = i .long; stored = collecting-ends (a .rules) lib none (i .collecting (a .rules) (module-at .before .before .before .is-own .ensures)) }
 
 store-module-requires : tie.Need-store-module-requires Inv-loop μ-loop
 store-module-requires c κs =
-    let i = c .before .before .before .before .before .before .before .before .before .before .before .before .before .before .before .before .before .before .before .loop .inv .1 in
-    let p = c .before .before .before .before .before .before .before .before .before .before .before .before .before .before .before .before .before .before .before .before .before .before .before .before .before .before .before .before .before .before .before .before .before .before .before .before .before .before .pre .0 in
-    record { tells = i .tells; contents = i .contents; publics = i .publics; masks = omega (arith, p .masks, i .apart-long); few-keys = omega (arith, p .few-keys, c .before .before .before .before .before .before .before .before .before .before .before .before .before .before .before .before .before .before .before .loop .inv .0 .keys-long); few = omega (arith, i .few, i .long .segments, c .before .before .before .before .before .before .before .before .before .before .before .before .before .before .before .before .before .before .before .before .before .before .before .before .before .before .before .before .before .before .before .before .before .before .before .before .before .before .good .1 .1 .1 .1 .1 .1 .1 .1 .1 .1 .1 .1 .0, c .before .before .before .before .before .before .before .before .before .before .before .before .before .before .before .before .before .before .before .before .before .before .before .before .before .before .before .before .before .before .before .before .before .before .before .before .before .before .good .0) }
+    let loop = at-loop (after-known-told-from-store-module-arg15 c) in
+    let entry = at-entry (loop .before) in
+    let i = loop .loop .inv .1 in
+    let p = entry .pre .0 in
+    record {
+      tells = i .tells;
+      contents = i .contents;
+      publics = i .publics;
+      masks = omega (arith, p .masks, i .apart-long);
+      few-keys = omega (arith, p .few-keys, loop .loop .inv .0 .keys-long);
+      few = omega (arith, i .few, i .long .segments, entry .good .1 .1 .1 .1 .1 .1 .1 .1 .1 .1 .1 .1 .0, entry .good .0);
+    }
 
 same-length-16 : tie.Need-same-length-16 Inv-loop μ-loop
-same-length-16 c = c .before .before .before .before .before .before .before .before .before .before .before .before .before .before .before .before .before .before .before .before .before .before .before .before .before .before .before .before .before .before .before .table .given ∙ c .before .before .before .before .before .before .before .before .before .before .before .before .before .before .before .before .before .before .before .before .before .before .before .before .before .before .before .before .before .before .before .before .before .before .before .before .before .before .before .before .before .before .before .before .before .before .before .before .before .before .before .before .loop .inv .0 .table-long
+same-length-16 c = after-ids (c .before .before) .before .before .table .given ∙ after-module-at c .before .loop .inv .0 .table-long
 
 same-length-17 : tie.Need-same-length-17 Inv-loop μ-loop
-same-length-17 c = c .before .before .before .before .before .before .before .before .before .before .before .before .before .before .before .before .before .before .before .before .before .before .before .before .before .before .before .before .before .ids .given ∙ c .before .before .before .before .before .before .before .before .before .before .before .before .before .before .before .before .before .before .before .before .before .before .before .before .before .before .before .before .before .before .before .before .before .before .before .before .before .before .before .before .before .before .before .before .before .before .before .before .before .before .before .before .loop .inv .0 .ids-long
+same-length-17 c = after-ids (c .before .before) .ids .given ∙ after-module-at c .before .loop .inv .0 .ids-long
 
 same-length-18 : tie.Need-same-length-18 Inv-loop μ-loop
-same-length-18 c = c .before .before .before .before .before .before .before .before .before .before .before .before .before .before .before .before .before .before .before .before .before .before .before .before .before .before .before .places .given ∙ c .before .before .before .before .before .before .before .before .before .before .before .before .before .before .before .before .before .before .before .before .before .before .before .before .before .before .before .before .before .before .before .before .before .before .before .before .before .before .before .before .before .before .before .before .before .before .before .before .before .before .before .before .loop .inv .0 .places-long
+same-length-18 c = after-first (c .before .before) .before .before .places .given ∙ after-module-at c .before .loop .inv .0 .places-long
 
 same-length-19 : tie.Need-same-length-19 Inv-loop μ-loop
-same-length-19 c = c .before .before .before .before .before .before .before .before .before .before .before .before .before .before .before .before .before .before .before .before .before .before .before .before .before .first .given ∙ c .before .before .before .before .before .before .before .before .before .before .before .before .before .before .before .before .before .before .before .before .before .before .before .before .before .before .before .before .before .before .before .before .before .before .before .before .before .before .before .before .before .before .before .before .before .before .before .before .before .before .before .before .loop .inv .0 .first-long
+same-length-19 c = after-first (c .before .before) .first .given ∙ after-module-at c .before .loop .inv .0 .first-long
 
 same-length-20 : tie.Need-same-length-20 Inv-loop μ-loop
-same-length-20 c = c .before .before .before .before .before .before .before .before .before .before .before .before .before .before .before .before .before .before .before .before .before .before .before .next .given ∙ c .before .before .before .before .before .before .before .before .before .before .before .before .before .before .before .before .before .before .before .before .before .before .before .before .before .before .before .before .before .before .before .before .before .before .before .before .before .before .before .before .before .before .before .before .before .before .before .before .before .before .before .before .loop .inv .0 .next-long
+same-length-20 c = after-entries (c .before .before) .before .before .before .before .next .given ∙ after-module-at c .before .loop .inv .0 .next-long
 
 same-length-21 : tie.Need-same-length-21 Inv-loop μ-loop
-same-length-21 c = c .before .before .before .before .before .before .before .before .before .before .before .before .before .before .before .before .before .before .before .before .before .keys .given ∙ c .before .before .before .before .before .before .before .before .before .before .before .before .before .before .before .before .before .before .before .before .before .before .before .before .before .before .before .before .before .before .before .before .before .before .before .before .before .before .before .before .before .before .before .before .before .before .before .before .before .before .before .before .loop .inv .0 .keys-long
+same-length-21 c = after-entries (c .before .before) .before .before .keys .given ∙ after-module-at c .before .loop .inv .0 .keys-long
 
 same-length-22 : tie.Need-same-length-22 Inv-loop μ-loop
-same-length-22 c = c .before .before .before .before .before .before .before .before .before .before .before .before .before .before .before .before .before .before .before .entries .given ∙ c .before .before .before .before .before .before .before .before .before .before .before .before .before .before .before .before .before .before .before .before .before .before .before .before .before .before .before .before .before .before .before .before .before .before .before .before .before .before .before .before .before .before .before .before .before .before .before .before .before .before .before .before .loop .inv .0 .entries-long
+same-length-22 c = after-entries (c .before .before) .entries .given ∙ after-module-at c .before .loop .inv .0 .entries-long
 
 same-length-23 : tie.Need-same-length-23 Inv-loop μ-loop
-same-length-23 c = c .before .before .before .before .before .before .before .before .before .before .before .before .before .before .before .before .before .heads .given ∙ c .before .before .before .before .before .before .before .before .before .before .before .before .before .before .before .before .before .before .before .before .before .before .before .before .before .before .before .before .before .before .before .before .before .before .before .before .before .before .before .before .before .before .before .before .before .before .before .before .before .before .before .before .loop .inv .0 .heads-long
+same-length-23 c = after-heads (c .before .before) .heads .given ∙ after-module-at c .before .loop .inv .0 .heads-long
 
 same-length-24 : tie.Need-same-length-24 Inv-loop μ-loop
-same-length-24 c = c .before .before .before .before .before .before .before .before .before .before .before .before .before .before .before .onward .given ∙ c .before .before .before .before .before .before .before .before .before .before .before .before .before .before .before .before .before .before .before .before .before .before .before .before .before .before .before .before .before .before .before .before .before .before .before .before .before .before .before .before .before .before .before .before .before .before .before .before .before .before .before .before .loop .inv .0 .onward-long
+same-length-24 c = after-references (c .before .before) .before .before .before .before .onward .given ∙ after-module-at c .before .loop .inv .0 .onward-long
 
 same-length-25 : tie.Need-same-length-25 Inv-loop μ-loop
-same-length-25 c = c .before .before .before .before .before .before .before .before .before .before .before .before .before .segments .given ∙ c .before .before .before .before .before .before .before .before .before .before .before .before .before .before .before .before .before .before .before .before .before .before .before .before .before .before .before .before .before .before .before .before .before .before .before .before .before .before .before .before .before .before .before .before .before .before .before .before .before .before .before .before .loop .inv .1 .long .segments
+same-length-25 c = after-references (c .before .before) .before .before .segments .given ∙ after-module-at c .before .loop .inv .1 .long .segments
 
 same-length-26 : tie.Need-same-length-26 Inv-loop μ-loop
-same-length-26 c = c .before .before .before .before .before .before .before .before .before .before .before .references .given ∙ c .before .before .before .before .before .before .before .before .before .before .before .before .before .before .before .before .before .before .before .before .before .before .before .before .before .before .before .before .before .before .before .before .before .before .before .before .before .before .before .before .before .before .before .before .before .before .before .before .before .before .before .before .loop .inv .1 .long .references
+same-length-26 c = after-references (c .before .before) .references .given ∙ after-module-at c .before .loop .inv .1 .long .references
 
 same-length-27 : tie.Need-same-length-27 Inv-loop μ-loop
-same-length-27 c = c .before .before .before .before .before .before .before .before .before .symbols .given ∙ c .before .before .before .before .before .before .before .before .before .before .before .before .before .before .before .before .before .before .before .before .before .before .before .before .before .before .before .before .before .before .before .before .before .before .before .before .before .before .before .before .before .before .before .before .before .before .before .before .before .before .before .before .loop .inv .1 .long .symbols
+same-length-27 c = c .before .before .before .before .before .before .before .before .before .symbols .given ∙ after-module-at c .before .loop .inv .1 .long .symbols
 
 same-length-28 : tie.Need-same-length-28 Inv-loop μ-loop
-same-length-28 c = c .before .before .before .before .before .before .before .bytes .given ∙ c .before .before .before .before .before .before .before .before .before .before .before .before .before .before .before .before .before .before .before .before .before .before .before .before .before .before .before .before .before .before .before .before .before .before .before .before .before .before .before .before .before .before .before .before .before .before .before .before .before .before .before .before .loop .inv .1 .long .bytes
+same-length-28 c = c .before .before .before .before .before .before .before .bytes .given ∙ after-module-at c .before .loop .inv .1 .long .bytes
 
 same-length-29 : tie.Need-same-length-29 Inv-loop μ-loop
-same-length-29 c = c .before .before .before .before .before .masks .given ∙ c .before .before .before .before .before .before .before .before .before .before .before .before .before .before .before .before .before .before .before .before .before .before .before .before .before .before .before .before .before .before .before .before .before .before .before .before .before .before .before .before .before .before .before .before .before .before .before .before .before .before .before .before .loop .inv .1 .long .masks
+same-length-29 c = c .before .before .before .before .before .masks .given ∙ after-module-at c .before .loop .inv .1 .long .masks
 
 same-length-30 : tie.Need-same-length-30 Inv-loop μ-loop
-same-length-30 c = c .before .before .before .apart .given ∙ c .before .before .before .before .before .before .before .before .before .before .before .before .before .before .before .before .before .before .before .before .before .before .before .before .before .before .before .before .before .before .before .before .before .before .before .before .before .before .before .before .before .before .before .before .before .before .before .before .before .before .before .before .loop .inv .1 .apart-long
+same-length-30 c = c .before .before .before .apart .given ∙ after-module-at c .before .loop .inv .1 .apart-long
 
 returns-2 : tie.Need-returns-2 Inv-loop μ-loop
 returns-2 c =
-    let a = c .before .before .before .before .before .before .before .before .before .before .before .before .before .before .before .before .before .before .before .before .before .before .before .before .before .before .before .before .before .before .before .before .before .before .before .before .before .before .before .before .before .before .before .before .before .before .before .before .before .before .before .before .before .before .before .before .before .before .before .before .before .before .before .before .before .before .before .before .before .before .before .args in
+    let known-told = after-known-told-from-slice-known30 (c .before .before) in
+    let module-at = after-module-at c in
+    let a = at-entry (module-at .before .before) .args in
     let lib = a .library .now in
-    let l = c .before .before .before .before .before .before .before .before .before .before .before .before .before .before .before .before .before .before .before .before .before .before .before .before .before .before .before .before .before .before .before .before .before .before .before .before .before .before .before .before .before .before .before .before .before .before .before .before .before .before .before .before .loop in
+    let l = module-at .before .loop in
     let i = l .inv .1 in
-    let s = c .before .before .before .before .before .before .before .before .before .before .before .before .before .before .before .before .before .before .before .before .before .before .before .before .before .before .before .before .before .before .before .before .store-module in
-    let o = c .before .before .before .before .before .before .before .before .before .before .before .before .before .before .before .before .before .before .before .before .before .before .before .before .before .before .before .before .before .before .before .before .before .before .before .before .before .before .before .before .before .before .before .before .before .before .before .before .before .before .before .before .before .before .is-own .ensures in
+    let s = after-ids (c .before .before) .before .before .before .store-module in
+    let o = module-at .before .before .before .is-own .ensures in
     let now-lists = lists (l .segments) (l .references) (l .symbols) (l .bytes) (l .masks) in
-    let after = lists (s .last .1 .1 .1 .1 .1 .1 .1 .1 .1 .1 .1 .1 .1 .0) (s .last .1 .1 .1 .1 .1 .1 .1 .1 .1 .1 .1 .1 .1 .1 .0) (s .last .1 .1 .1 .1 .1 .1 .1 .1 .1 .1 .1 .1 .1 .1 .1 .0) (s .last .1 .1 .1 .1 .1 .1 .1 .1 .1 .1 .1 .1 .1 .1 .1 .1 .0) (s .last .1 .1 .1 .1 .1 .1 .1 .1 .1 .1 .1 .1 .1 .1 .1 .1 .1 .0) in
-    let p = c .before .before .before .before .before .before .before .before .before .before .before .before .before .before .before .before .before .before .before .before .before .before .before .before .before .before .before .before .before .before .before .before .before .before .before .before .before .before .before .before .before .before .before .before .before .before .before .before .before .module .given .0 .0 in
+    let after = lists (s .last .1 .1 .1 .1 .1 .1 .1 .1 .1 .1 .1 .1 .1 .0) (s .last .1 .1 .1 .1 .1 .1 .1 .1 .1 .1 .1 .1 .1 .1 .0)
+    (s .last .1 .1 .1 .1 .1 .1 .1 .1 .1 .1 .1 .1 .1 .1 .1 .0) (s .last .1 .1 .1 .1 .1 .1 .1 .1 .1 .1 .1 .1 .1 .1 .1 .1 .0) (s .last .1 .1 .1 .1 .1 .1 .1 .1 .1 .1 .1 .1 .1 .1 .1 .1 .1 .0) in
+    let p = known-told .before .module .given .0 .0 in
     record {
       tells = s .ensures .tells;
       long = lengths-on (i .long) (s .ensures .long);
-      stored = collecting-lacks (a .rules) lib (itemsAt lib (moduleAt lib) (a .from)) now-lists after (l .c) (s .result) (moduleOf lib p) (modules-step lib (l .at) (stands (c .before .before .before .before .before .before .before .before .before .before .before .before .before .before .before .before .before .before .before .before .before .before .before .before .before .before .before .before .before .before .before .before .before .before .before .before .before .before .before .before .before .before .before .before .before .before .before .before))) (i .collecting (a .rules) o) (s .ensures .extends (a .rules) o) (c .enum-told .given .1);
+      stored = collecting-lacks (a .rules) lib (itemsAt lib (moduleAt lib) (a .from)) now-lists after (l .c) (s .result) (moduleOf lib p)
+          (modules-step lib (l .at) (stands known-told)) (i .collecting (a .rules) o) (s .ensures .extends (a .rules) o) (c .enum-told .given .1);
     }
 
 loop-less : tie.Need-loop-less Inv-loop μ-loop
-loop-less c = omega (arith, module-moved (c .before .before .before .before .before .before .before .before .before .before .before .before .before .before .before .before .before .before .before .before .before .before .before .before .before .before .before .before .before .before .before .before .before .before .before .before .before .before .before .before .before .before .before .before .before .before .before .before .before .before .before .before .before .before .before .before .before .before .before .before .before .before .before .before .before .before .before .before .before .before .before .before .args .library .now) (c .before .before .before .before .before .before .before .before .before .before .before .before .before .before .before .before .before .before .before .before .before .before .before .before .before .before .before .before .before .before .before .before .before .before .before .before .before .before .before .before .before .before .before .before .before .before .before .before .before .before .before .before .before .loop .at) (stands (c .before .before .before .before .before .before .before .before .before .before .before .before .before .before .before .before .before .before .before .before .before .before .before .before .before .before .before .before .before .before .before .before .before .before .before .before .before .before .before .before .before .before .before .before .before .before .before .before .before)))
+loop-less c =
+    let known-told = after-known-told-from-slice-known30 (after-slice-known30 c) in
+    let loop = at-loop known-told in
+    omega (arith, module-moved (at-entry (loop .before) .args .library .now) (loop .loop .at) (stands known-told))
 
 loop-again : tie.Need-loop-again Inv-loop μ-loop
 loop-again c =
-    let a = c .before .before .before .before .before .before .before .before .before .before .before .before .before .before .before .before .before .before .before .before .before .before .before .before .before .before .before .before .before .before .before .before .before .before .before .before .before .before .before .before .before .before .before .before .before .before .before .before .before .before .before .before .before .before .before .before .before .before .before .before .before .before .before .before .before .before .before .before .before .before .before .before .args in
+    let slice-known30 = after-slice-known30 c in
+    let entries = after-entries slice-known30 in
+    let first = after-first slice-known30 in
+    let ids = after-ids slice-known30 in
+    let known-told = after-known-told-from-slice-known30 slice-known30 in
+    let loop = at-loop known-told in
+    let is-own = loop .before .before in
+    let a = at-entry (loop .before) .args in
     let lib = a .library .now in
-    let l = c .before .before .before .before .before .before .before .before .before .before .before .before .before .before .before .before .before .before .before .before .before .before .before .before .before .before .before .before .before .before .before .before .before .before .before .before .before .before .before .before .before .before .before .before .before .before .before .before .before .before .before .before .before .loop in
+    let l = loop .loop in
     let i = l .inv .1 in
-    let s = c .before .before .before .before .before .before .before .before .before .before .before .before .before .before .before .before .before .before .before .before .before .before .before .before .before .before .before .before .before .before .before .before .before .store-module in
+    let s = ids .before .before .before .store-module in
     let now-lists = lists (l .segments) (l .references) (l .symbols) (l .bytes) (l .masks) in
-    let after = lists (s .last .1 .1 .1 .1 .1 .1 .1 .1 .1 .1 .1 .1 .1 .0) (s .last .1 .1 .1 .1 .1 .1 .1 .1 .1 .1 .1 .1 .1 .1 .0) (s .last .1 .1 .1 .1 .1 .1 .1 .1 .1 .1 .1 .1 .1 .1 .1 .0) (s .last .1 .1 .1 .1 .1 .1 .1 .1 .1 .1 .1 .1 .1 .1 .1 .1 .0) (s .last .1 .1 .1 .1 .1 .1 .1 .1 .1 .1 .1 .1 .1 .1 .1 .1 .1 .0) in
-    let p = c .before .before .before .before .before .before .before .before .before .before .before .before .before .before .before .before .before .before .before .before .before .before .before .before .before .before .before .before .before .before .before .before .before .before .before .before .before .before .before .before .before .before .before .before .before .before .before .before .before .before .module .given .0 .0 in
-    let on : (rules : Rules) → c .before .before .before .before .before .before .before .before .before .before .before .before .before .before .before .before .before .before .before .before .before .before .before .before .before .before .before .before .before .before .before .before .before .before .before .before .before .before .before .before .before .before .before .before .before .before .before .before .before .before .before .before .before .before .before .is-own .result ≡ ownBy rules → Collecting rules lib (itemsAt lib (moduleAt lib) (a .from)) (itemsAt lib (moduleAt lib) (p .next)) after (c .before .stored .given .0 .0) = λ rules o. collecting-on rules lib (itemsAt lib (moduleAt lib) (a .from)) now-lists after (l .c) (s .result) (moduleOf lib p) (modules-step lib (l .at) (stands (c .before .before .before .before .before .before .before .before .before .before .before .before .before .before .before .before .before .before .before .before .before .before .before .before .before .before .before .before .before .before .before .before .before .before .before .before .before .before .before .before .before .before .before .before .before .before .before .before .before))) (i .collecting rules o) (s .ensures .extends rules o) (c .before .stored .given .1) in (
-      record { table-long = c .before .before .before .before .before .before .before .before .before .before .before .before .before .before .before .before .before .before .before .before .before .before .before .before .before .before .before .before .before .before .before .before .table .given ∙ l .inv .0 .table-long; ids-long = c .before .before .before .before .before .before .before .before .before .before .before .before .before .before .before .before .before .before .before .before .before .before .before .before .before .before .before .before .before .before .ids .given ∙ l .inv .0 .ids-long; places-long = c .before .before .before .before .before .before .before .before .before .before .before .before .before .before .before .before .before .before .before .before .before .before .before .before .before .before .before .before .places .given ∙ l .inv .0 .places-long; first-long = c .before .before .before .before .before .before .before .before .before .before .before .before .before .before .before .before .before .before .before .before .before .before .before .before .before .before .first .given ∙ l .inv .0 .first-long; next-long = c .before .before .before .before .before .before .before .before .before .before .before .before .before .before .before .before .before .before .before .before .before .before .before .before .next .given ∙ l .inv .0 .next-long; keys-long = c .before .before .before .before .before .before .before .before .before .before .before .before .before .before .before .before .before .before .before .before .before .before .keys .given ∙ l .inv .0 .keys-long; entries-long = c .before .before .before .before .before .before .before .before .before .before .before .before .before .before .before .before .before .before .before .before .entries .given ∙ l .inv .0 .entries-long; heads-long = c .before .before .before .before .before .before .before .before .before .before .before .before .before .before .before .before .before .before .heads .given ∙ l .inv .0 .heads-long; onward-long = c .before .before .before .before .before .before .before .before .before .before .before .before .before .before .before .before .onward .given ∙ l .inv .0 .onward-long },
+    let after = lists (s .last .1 .1 .1 .1 .1 .1 .1 .1 .1 .1 .1 .1 .1 .0) (s .last .1 .1 .1 .1 .1 .1 .1 .1 .1 .1 .1 .1 .1 .1 .0)
+    (s .last .1 .1 .1 .1 .1 .1 .1 .1 .1 .1 .1 .1 .1 .1 .1 .0) (s .last .1 .1 .1 .1 .1 .1 .1 .1 .1 .1 .1 .1 .1 .1 .1 .1 .0) (s .last .1 .1 .1 .1 .1 .1 .1 .1 .1 .1 .1 .1 .1 .1 .1 .1 .1 .0) in
+    let p = known-told .before .module .given .0 .0 in
+    let on : (rules : Rules) → is-own .is-own .result ≡ ownBy rules → Collecting rules lib (itemsAt lib (moduleAt lib) (a .from))
+    (itemsAt lib (moduleAt lib) (p .next)) after (c .before .stored .given .0 .0) = λ rules o. collecting-on rules lib
+    (itemsAt lib (moduleAt lib) (a .from)) now-lists after (l .c) (s .result) (moduleOf lib p) (modules-step lib (l .at) (stands known-told))
+    (i .collecting rules o) (s .ensures .extends rules o) (c .before .stored .given .1) in (
+      record {
+        table-long = ids .before .before .table .given ∙ l .inv .0 .table-long;
+        ids-long = ids .ids .given ∙ l .inv .0 .ids-long;
+        places-long = first .before .before .places .given ∙ l .inv .0 .places-long;
+        first-long = first .first .given ∙ l .inv .0 .first-long;
+        next-long = entries .before .before .before .before .next .given ∙ l .inv .0 .next-long;
+        keys-long = entries .before .before .keys .given ∙ l .inv .0 .keys-long;
+        entries-long = entries .entries .given ∙ l .inv .0 .entries-long;
+        heads-long = after-heads slice-known30 .heads .given ∙ l .inv .0 .heads-long;
+        onward-long = after-references slice-known30 .before .before .before .before .onward .given ∙ l .inv .0 .onward-long;
+      },
       record {
         long = lengths-on (i .long) (s .ensures .long);
         apart-long = s .ensures .apart-long ∙ i .apart-long;
         tells = s .ensures .tells;
         contents = s .ensures .contents;
         publics = s .ensures .publics;
-        few = stored-few (on (a .rules) (c .before .before .before .before .before .before .before .before .before .before .before .before .before .before .before .before .before .before .before .before .before .before .before .before .before .before .before .before .before .before .before .before .before .before .before .before .before .before .before .before .before .before .before .before .before .before .before .before .before .before .before .before .before .before .before .is-own .ensures) .stored);
+        few = stored-few (on (a .rules) (is-own .is-own .ensures) .stored);
         collecting = on;
       },
     )

@@ -22,47 +22,78 @@ use borrow.Author.Needs.{needs}
 use Rattle.collect.proofs.kept.one.store_kept.Statement.{statement}
 use Rattle.collect.proofs.kept.one.store_kept.Tie as tie
 
+-- The ladder: places of the code that the answers cite, each as it is seen from a later place.
+abbrev at-entry : tie.After-fits2 → tie.Start
+at-entry c = c .before .before .before .before .before .before .before .before .before .before .before .before .before
+
+abbrev after-refer-along : tie.After-symbols → tie.After-refer-along
+after-refer-along c = c .before .before .before .before .before .before
+
+abbrev after-merge-along : tie.After-symbols → tie.After-merge-along
+after-merge-along c = after-refer-along c .before .before .before .before .before .before .before .before .before
+
+abbrev after-fits3 : tie.After-symbols → tie.After-fits3
+after-fits3 c = after-merge-along c .before .before .before .before .before
+
+abbrev after-symbols : tie.After-slice-known12 → tie.After-symbols
+after-symbols c = c .before .before .before .before .before .before
+
 returns : tie.Need-returns
 returns c =
-    let a = c .before .before .before .before .before .before .before .before .before .before .before .before .before .before .args in
+    let a = at-entry (c .before) .args in
     let l = lists (a .segments .now) (a .references .now) (a .symbols .now) (a .bytes .now) (a .masks .now) in
     record {
       long = record { segments = refl; references = refl; symbols = refl; bytes = refl; masks = refl };
       apart-long = refl;
-      extends = λ ds ss ps t f p gs s. no-bytes-room gs (keptOf (a .library .now) ds (a .number) (a .size) ss ps) l (a .c) s (a .size) (filled-length (a .size) (dataOf (a .library .now)) ss) (filled-length (a .size) (dataMasks (a .library .now)) ss ∙ sym (filled-length (a .size) (dataOf (a .library .now)) ss))
+      extends = λ ds ss ps t f p gs s. no-bytes-room gs (keptOf (a .library .now) ds (a .number) (a .size) ss ps) l (a .c) s (a .size)
+          (filled-length (a .size) (dataOf (a .library .now)) ss) (filled-length (a .size) (dataMasks (a .library .now)) ss ∙ sym (filled-length (a .size) (dataOf (a .library .now)) ss))
           (leb-false (a .c .pattern + a .size) (length (a .bytes .now)) (sym (c .before .fits2 .ensures) ∙ not-true (c .before .fits2 .result) (c .if1 .taken)));
     }
 
 returns-2 : tie.Need-returns-2
 returns-2 c =
-    let a = c .before .before .before .before .before .before .before .before .before .before .before .before .before .before .before .before .args in
+    let a = at-entry (c .before .before .before) .args in
     let l = lists (a .segments .now) (a .references .now) (a .symbols .now) (a .bytes .now) (a .masks .now) in
     record {
       long = record { segments = refl; references = refl; symbols = refl; bytes = refl; masks = refl };
       apart-long = refl;
-      extends = λ ds ss ps t f p gs s. no-masks-room gs (keptOf (a .library .now) ds (a .number) (a .size) ss ps) l (a .c) s (a .size) (filled-length (a .size) (dataOf (a .library .now)) ss) (filled-length (a .size) (dataMasks (a .library .now)) ss ∙ sym (filled-length (a .size) (dataOf (a .library .now)) ss))
+      extends = λ ds ss ps t f p gs s. no-masks-room gs (keptOf (a .library .now) ds (a .number) (a .size) ss ps) l (a .c) s (a .size)
+          (filled-length (a .size) (dataOf (a .library .now)) ss) (filled-length (a .size) (dataMasks (a .library .now)) ss ∙ sym (filled-length (a .size) (dataOf (a .library .now)) ss))
           (leb-false (a .c .pattern + a .size) (length (a .masks .now)) (sym (c .before .fits3 .ensures) ∙ not-true (c .before .fits3 .result) (c .if2 .taken)));
     }
 
 add-finish : tie.Need-add-finish
 add-finish c =
-    let a = c .before .before .before .before .before .before .before .before .before .before .before .before .before .before .before .before .before .before .before .before .before .before .before .before .before .before .before .before .before .before .before .before .before .before .before .before .before .args in
-    omega (arith, leb-true (a .c .pattern + a .size) (length (a .bytes .now)) (sym (c .before .before .before .before .before .before .before .before .before .before .before .before .before .before .before .before .before .before .before .before .before .before .before .before .fits2 .ensures) ∙ not-false (c .before .before .before .before .before .before .before .before .before .before .before .before .before .before .before .before .before .before .before .before .before .before .before .before .fits2 .result) (c .before .before .before .before .before .before .before .before .before .before .before .before .before .before .before .before .before .before .before .before .before .before .before .if1 .left)), c .before .before .before .before .before .before .before .before .before .before .before .before .before .before .before .before .before .before .before .before .before .before .before .before .before .before .before .before .before .before .before .before .before .before .before .before .before .good .1 .1 .1 .1 .1 .1 .1 .1 .1 .1 .1 .1 .1 .1 .0)
+    let fits3 = after-fits3 (c .before .before) in
+    let fits2 = fits3 .before .before in
+    let entry = at-entry fits2 in
+    let a = entry .args in
+    omega (
+      arith,
+      leb-true (a .c .pattern + a .size) (length (a .bytes .now))
+          (sym (fits2 .fits2 .ensures) ∙ not-false (fits2 .fits2 .result) (fits3 .before .if1 .left)),
+      entry .good .1 .1 .1 .1 .1 .1 .1 .1 .1 .1 .1 .1 .1 .1 .0,
+    )
 
 same-length-4 : tie.Need-same-length-4
-same-length-4 c = c .before .before .before .before .before .before .before .before .before .before .before .before .before .before .before .before .before .before .before .before .before .merge-along .ensures .bytes-long
+same-length-4 c = after-merge-along (after-symbols c) .merge-along .ensures .bytes-long
 
 same-length-5 : tie.Need-same-length-5
-same-length-5 c = c .before .before .before .before .before .before .before .before .before .before .before .before .before .before .before .before .before .before .before .before .before .merge-along .ensures .masks-long
+same-length-5 c = after-merge-along (after-symbols c) .merge-along .ensures .masks-long
 
 returns-3 : tie.Need-returns-3
 returns-3 c =
-    let a = c .before .before .before .before .before .before .before .before .before .before .before .before .before .before .before .before .before .before .before .before .before .before .before .before .before .before .before .before .before .before .before .before .before .before .before .before .before .before .before .before .before .args in
+    let symbols-place = after-symbols c in
+    let refer-along = after-refer-along symbols-place in
+    let merge-along = after-merge-along symbols-place in
+    let fits3 = after-fits3 symbols-place in
+    let fits2 = fits3 .before .before in
+    let a = at-entry fits2 .args in
     let lib = a .library .now in
     let l = lists (a .segments .now) (a .references .now) (a .symbols .now) (a .bytes .now) (a .masks .now) in
-    let m = c .before .before .before .before .before .before .before .before .before .before .before .before .before .before .before .before .before .before .before .before .before .merge-along in
-    let r = c .before .before .before .before .before .before .before .before .before .before .before .before .refer-along in
-    let y = c .before .before .before .before .before .before .before .name-along in
+    let m = merge-along .merge-along in
+    let r = refer-along .refer-along in
+    let y = symbols-place .before .name-along in
     let refs = r .last .1 .1 .1 .1 .1 .1 .0 in
     let syms = y .last .1 .1 .1 .1 .1 .0 in
     let bytes = m .last .1 .1 .1 .1 .1 .1 .0 in
@@ -79,11 +110,16 @@ returns-3 c =
       apart-long = m .ensures .apart-long;
       extends = λ ds ss ps t f p gs s.
           let wide = filled-length (a .size) (dataOf lib) ss in
-          rw (c .before .before .finish .ensures .0, c .before .before .finish .ensures .1) (stored-more gs (keptOf lib ds (a .number) (a .size) ss ps) l (a .c) s (a .size) wide (filled-length (a .size) (dataMasks lib) ss ∙ sym wide) refs syms bytes masks (r .result) (y .result)
-          (subst (λ k. Adds referenceLayout (joined (sectionLeaves ds (a .number)) ss) (a .references .now) k refs (r .result)) (c .before .before .before .before .before .before .before .before .before .before .before .before .before .filled-to .ensures) (r .ensures .adds ds ss t f))
-          (subst (λ k. Adds symbolLayout (joined (symbolBy All) ps) (a .symbols .now) k syms (y .result)) (c .before .before .before .before .before .before .before .before .filled-to2 .ensures) (y .ensures .adds ps p))
-          (filled-region (patternBytes gs) (a .bytes .now) (a .c .pattern) (a .size) (s .bytes) (sym (s .pattern)) (leb-true end (length (a .bytes .now)) (sym (c .before .before .before .before .before .before .before .before .before .before .before .before .before .before .before .before .before .before .before .before .before .before .before .before .before .before .before .before .fits2 .ensures) ∙ not-false (c .before .before .before .before .before .before .before .before .before .before .before .before .before .before .before .before .before .before .before .before .before .before .before .before .before .before .before .before .fits2 .result) (c .before .before .before .before .before .before .before .before .before .before .before .before .before .before .before .before .before .before .before .before .before .before .before .before .before .before .before .if1 .left))) (dataOf lib) ss (m .ensures .bytes-are ss f))
-          (filled-region (patternMasks gs) (a .masks .now) (a .c .pattern) (a .size) (s .masks) (s .even ∙ sym (s .pattern)) (leb-true end (length (a .masks .now)) (sym (c .before .before .before .before .before .before .before .before .before .before .before .before .before .before .before .before .before .before .before .before .before .before .before .before .before .before .fits3 .ensures) ∙ not-false (c .before .before .before .before .before .before .before .before .before .before .before .before .before .before .before .before .before .before .before .before .before .before .before .before .before .before .fits3 .result) (c .before .before .before .before .before .before .before .before .before .before .before .before .before .before .before .before .before .before .before .before .before .before .before .before .before .if2 .left))) (dataMasks lib) ss (m .ensures .masks-are ss f)));
+          rw (c .before .before .finish .ensures .0, c .before .before .finish .ensures .1)
+          (stored-more gs (keptOf lib ds (a .number) (a .size) ss ps) l (a .c) s (a .size) wide
+          (filled-length (a .size) (dataMasks lib) ss ∙ sym wide) refs syms bytes masks (r .result) (y .result)
+          (subst (λ k. Adds referenceLayout (joined (sectionLeaves ds (a .number)) ss) (a .references .now) k refs (r .result)) (refer-along .before .filled-to .ensures) (r .ensures .adds ds ss t f))
+          (subst (λ k. Adds symbolLayout (joined (symbolBy All) ps) (a .symbols .now) k syms (y .result)) (symbols-place .before .before .filled-to2 .ensures) (y .ensures .adds ps p))
+          (filled-region (patternBytes gs) (a .bytes .now) (a .c .pattern) (a .size) (s .bytes) (sym (s .pattern))
+          (leb-true end (length (a .bytes .now)) (sym (fits2 .fits2 .ensures) ∙ not-false (fits2 .fits2 .result) (fits3 .before .if1 .left))) (dataOf lib) ss (m .ensures .bytes-are ss f))
+          (filled-region (patternMasks gs) (a .masks .now) (a .c .pattern) (a .size) (s .masks) (s .even ∙ sym (s .pattern))
+          (leb-true end (length (a .masks .now))
+          (sym (fits3 .fits3 .ensures) ∙ not-false (fits3 .fits3 .result) (merge-along .before .before .before .before .if2 .left))) (dataMasks lib) ss (m .ensures .masks-are ss f)));
     }
 
 pub store-kept-spec : {M : Type 1} → statement M

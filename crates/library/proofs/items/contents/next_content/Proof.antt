@@ -53,6 +53,13 @@ Inv-loop library from at₀ at = Inv library from at
 abbrev μ-loop : tie.MeasureT-loop
 μ-loop library from at₀ at = length library - at
 
+-- The ladder: places of the code that the answers cite, each as it is seen from a later place.
+abbrev after-section-end : tie.After-known-told2 Inv-loop μ-loop → tie.After-section-end Inv-loop μ-loop
+after-section-end c = c .before .before .before .before .before .before .before
+
+abbrev at-entry : tie.After-known-told2 Inv-loop μ-loop → tie.Start Inv-loop μ-loop
+at-entry c = after-section-end c .before .before .before
+
 -- in the arm of a content
 abbrev In : Type 0
 In = tie.After-known-told2 Inv-loop μ-loop
@@ -60,14 +67,14 @@ In = tie.After-known-told2 Inv-loop μ-loop
 abbrev frame : In → Frame
 frame c = c .before .framed .given .0 .0
 
-framed : (c : In) → expected (now (c .before .before .before .before .before .before .before .before .before .before .args .library)) fills (c .before .before .before .before .before .before .before .before .loop .at) ≡ read (frame c) (frame c .end + 1)
+framed : (c : In) → expected (now (at-entry c .args .library)) fills (after-section-end c .before .loop .at) ≡ read (frame c) (frame c .end + 1)
 framed c = sym (c .before .before .before .record-at .ensures) ∙ ap frameRead (c .before .framed .given .1)
 
-fits : (c : In) → Fits (now (c .before .before .before .before .before .before .before .before .before .before .args .library)) (c .before .before .before .before .before .before .before .before .loop .at) (frame c) (frame c .end + 1)
-fits c = read-fits (c .before .before .before .before .before .before .before .before .before .before .args .library .now) fills (c .before .before .before .before .before .before .before .before .loop .at) (framed c)
+fits : (c : In) → Fits (now (at-entry c .args .library)) (after-section-end c .before .loop .at) (frame c) (frame c .end + 1)
+fits c = read-fits (at-entry c .args .library .now) fills (after-section-end c .before .loop .at) (framed c)
 
-passes : (c : In) → endOf (sectionsAt (now (c .before .before .before .before .before .before .before .before .before .before .args .library)) (c .before .before .before .before .before .before .before .before .loop .at)) ≡ At (c .before .before .before .before .before .next .given .0 .0)
-passes c = sym (c .before .before .before .before .before .before .before .section-end .ensures) ∙ c .before .before .before .before .before .next .given .1
+passes : (c : In) → endOf (sectionsAt (now (at-entry c .args .library)) (after-section-end c .before .loop .at)) ≡ At (c .before .before .before .before .before .next .given .0 .0)
+passes c = sym (after-section-end c .section-end .ensures) ∙ c .before .before .before .before .before .next .given .1
 
 loop-holds : tie.Need-loop-holds Inv-loop μ-loop
 loop-holds c = record { count = suc (length (c .before .args .library .now)); enough = omega arith; same = refl }
@@ -79,31 +86,36 @@ returns c =
     sym (seek-done (l .inv .count) (c .before .before .before .before .args .library .now) (l .at) (omega (arith, l .inv .enough)) none) ∙ l .inv .same
 
 content-of-requires : tie.Need-content-of-requires Inv-loop μ-loop
-content-of-requires c κs = (section-passed (c .before .before .before .before .before .before .before .before .before .before .args .library .now) (c .before .before .before .before .before .before .before .before .loop .at) (framed c) (passes c) .room, omega (arith, fits c))
+content-of-requires c κs = (section-passed (at-entry c .args .library .now) (after-section-end c .before .loop .at) (framed c) (passes c) .room, omega (arith, fits c))
 
 add-start : tie.Need-add-start Inv-loop μ-loop
 add-start c = omega (arith, fits (c .before .before))
 
 returns-2 : tie.Need-returns-2 Inv-loop μ-loop
 returns-2 c =
-    let i = c .before .before .before in
-    let l = i .before .before .before .before .before .before .before .before .loop in
+    let known-told2 = c .before .before .before in
+    let l = after-section-end known-told2 .before .loop in
     rw (c .before .before .content-of .ensures, c .start .ensures)
-    (sym (seek-item (l .inv .count) (i .before .before .before .before .before .before .before .before .before .before .args .library .now) (l .at) (omega (arith, l .inv .enough)) (passes i) (framed i)) ∙ l .inv .same)
+    (sym (seek-item (l .inv .count) (at-entry known-told2 .args .library .now) (l .at) (omega (arith, l .inv .enough)) (passes known-told2) (framed known-told2)) ∙ l .inv .same)
 
 loop-less : tie.Need-loop-less Inv-loop μ-loop
-loop-less c = omega (arith, section-moved (c .before .before .before .before .before .before .before .before .args .library .now) (c .before .before .before .before .before .before .loop .at) (sym (c .before .before .before .before .before .section-end .ensures) ∙ c .before .before .before .next .given .1))
+loop-less c = omega (
+  arith,
+  section-moved (c .before .before .before .before .before .before .before .before .args .library .now)
+      (c .before .before .before .before .before .before .loop .at) (sym (c .before .before .before .before .before .section-end .ensures) ∙ c .before .before .before .next .given .1),
+)
 
 loop-again : tie.Need-loop-again Inv-loop μ-loop
 loop-again c =
+    let entry = c .before .before .before .before .before .before .before .before in
     let l = c .before .before .before .before .before .before .loop in
     let e = sym (c .before .before .before .before .before .section-end .ensures) ∙ c .before .before .before .next .given .1 in
-    let m = section-moved (c .before .before .before .before .before .before .before .before .args .library .now) (l .at) e in
+    let m = section-moved (entry .args .library .now) (l .at) e in
     let none = subst Absent (c .before .record-at .ensures) (absent (c .before .record-at .result) (c .match2 .keys2)) in
     record {
       count = l .inv .count - 1;
       enough = omega (arith, m, l .inv .enough);
-      same = sym (seek-on (l .inv .count) (c .before .before .before .before .before .before .before .before .args .library .now) (l .at) (omega (arith, l .inv .enough)) e none) ∙ l .inv .same;
+      same = sym (seek-on (l .inv .count) (entry .args .library .now) (l .at) (omega (arith, l .inv .enough)) e none) ∙ l .inv .same;
     }
 
 pub next-content-spec : {M : Type 1} → statement M

@@ -5,26 +5,55 @@ use borrow.Author.Needs.{needs}
 use Rattle.library.proofs.items.decoded.definition_of.Statement.{statement}
 use Rattle.library.proofs.items.decoded.definition_of.Tie as tie
 
+-- The ladder: places of the code that the answers cite, each as it is seen from a later place.
+abbrev at-entry : tie.After-is-segment → tie.Start
+at-entry c = c .before .before .before .before .before .before
+
 returns : tie.Need-returns
 returns c =
-    let a = c .before .before .before .before .before .before .before .before .before .before .before .before .args in
-    rw
-    (c .before .before .before .id-at .ensures, c .segment-size .ensures, c .before .word-at .ensures, c .before .before .byte-at3 .ensures, c .before .before .before .before .byte-at2 .ensures, c .before .before .before .before .before .before .before .before .wide .ensures, c .before .before .before .before .before .before .before .before .before .byte-at .ensures, c .before .before .before .before .before .before .before .before .before .before .name-offset .ensures .0, c .before .before .before .before .before .before .before .id-size .ensures .0)
+    let a = at-entry (c .before .before .before .before .before .before) .args in
+    rw (
+      c .before .before .before .id-at .ensures,
+      c .segment-size .ensures,
+      c .before .word-at .ensures,
+      c .before .before .byte-at3 .ensures,
+      c .before .before .before .before .byte-at2 .ensures,
+      c .before .before .before .before .before .before .before .before .wide .ensures,
+      c .before .before .before .before .before .before .before .before .before .byte-at .ensures,
+      c .before .before .before .before .before .before .before .before .before .before .name-offset .ensures .0,
+      c .before .before .before .before .before .before .before .id-size .ensures .0,
+    )
     (sym (segment-here (a .library .now) (a .f) (a .at) (sym (c .before .before .before .before .before .before .is-segment .ensures) ∙ c .before .before .before .before .before .if1 .taken)))
 
 returns-2 : tie.Need-returns-2
 returns-2 c =
-    let a = c .before .before .before .before .before .before .before .before .before .before .before .args in
-    rw
-    (c .before .id-at2 .ensures, c .word .ensures, c .before .before .before .before .before .before .before .wide .ensures, c .before .before .before .before .before .before .before .before .byte-at .ensures, c .before .before .before .before .before .before .before .before .before .name-offset .ensures .0, c .before .before .before .before .before .before .id-size .ensures .0)
-    (sym (public-here (a .library .now) (a .f) (a .at) (sym (c .before .before .before .before .before .is-segment .ensures) ∙ c .before .before .before .before .if1 .left) (sym (c .before .before .before .is-public .ensures) ∙ c .before .before .if2 .taken)))
+    let a = at-entry (c .before .before .before .before .before) .args in
+    rw (
+      c .before .id-at2 .ensures,
+      c .word .ensures,
+      c .before .before .before .before .before .before .before .wide .ensures,
+      c .before .before .before .before .before .before .before .before .byte-at .ensures,
+      c .before .before .before .before .before .before .before .before .before .name-offset .ensures .0,
+      c .before .before .before .before .before .before .id-size .ensures .0,
+    )
+    (sym (public-here (a .library .now) (a .f) (a .at)
+    (sym (c .before .before .before .before .before .is-segment .ensures) ∙ c .before .before .before .before .if1 .left)
+    (sym (c .before .before .before .is-public .ensures) ∙ c .before .before .if2 .taken)))
 
 returns-3 : tie.Need-returns-3
 returns-3 c =
-    let a = c .before .before .before .before .before .before .before .before .before .before .before .args in
-    rw
-    (c .before .id-at3 .ensures, c .byte-at4 .ensures, c .before .before .before .before .before .before .before .wide .ensures, c .before .before .before .before .before .before .before .before .byte-at .ensures, c .before .before .before .before .before .before .before .before .before .name-offset .ensures .0, c .before .before .before .before .before .before .id-size .ensures .0)
-    (sym (external-here (a .library .now) (a .f) (a .at) (sym (c .before .before .before .before .before .is-segment .ensures) ∙ c .before .before .before .before .if1 .left) (sym (c .before .before .before .is-public .ensures) ∙ c .before .before .if2 .left)))
+    let a = at-entry (c .before .before .before .before .before) .args in
+    rw (
+      c .before .id-at3 .ensures,
+      c .byte-at4 .ensures,
+      c .before .before .before .before .before .before .before .wide .ensures,
+      c .before .before .before .before .before .before .before .before .byte-at .ensures,
+      c .before .before .before .before .before .before .before .before .before .name-offset .ensures .0,
+      c .before .before .before .before .before .before .id-size .ensures .0,
+    )
+    (sym (external-here (a .library .now) (a .f) (a .at)
+    (sym (c .before .before .before .before .before .is-segment .ensures) ∙ c .before .before .before .before .if1 .left)
+    (sym (c .before .before .before .is-public .ensures) ∙ c .before .before .if2 .left)))
 
 pub definition-of-spec : {M : Type 1} → statement M
 definition-of-spec =

@@ -9,9 +9,10 @@ use Rattle.library.proofs.items.decoded.next_definition.Tie as tie
 
 definition-of-requires : tie.Need-definition-of-requires
 definition-of-requires c κs =
-    let a = c .before .before .before .before .before .before .args in
-    let h = c .before .before .here .given .0 .0 in
-    let w = step-whole Definitions (a .library .now) (a .from) (sym (c .before .before .before .before .next-entry .ensures) ∙ c .before .before .here .given .1) in
+    let here = c .before .before in
+    let a = here .before .before .before .before .args in
+    let h = here .here .given .0 .0 in
+    let w = step-whole Definitions (a .library .now) (a .from) (sym (here .before .before .next-entry .ensures) ∙ here .here .given .1) in
     omega (arith, w .inside, definition-room (a .library .now) (h .frame) (h .at) (w .ends))
 
 returns : tie.Need-returns

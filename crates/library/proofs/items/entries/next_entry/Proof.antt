@@ -39,7 +39,12 @@ Inv-loop library what c₀ c = Inv library what c₀ c
 abbrev μ-loop : tie.MeasureT-loop
 μ-loop library what c₀ c = length library - c .next
 
-no-entry : (c : tie.At-match-keys2 Inv-loop μ-loop) → Halts (entryIn (c .before .before .before .before .args .what) (now (c .before .before .before .before .args .library)) (c .before .before .loop .c))
+-- The ladder: places of the code that the answers cite, each as it is seen from a later place.
+abbrev at-loop : tie.After-known-told2 Inv-loop μ-loop → tie.At-loop Inv-loop μ-loop
+at-loop c = c .before .before .before .before .before .before
+
+no-entry : (c : tie.At-match-keys2 Inv-loop μ-loop) → Halts
+    (entryIn (c .before .before .before .before .args .what) (now (c .before .before .before .before .args .library)) (c .before .before .loop .c))
 no-entry c = subst Halts (c .before .entry-in .ensures) (halts (c .before .entry-in .result) (c .match .keys2))
 
 loop-holds : tie.Need-loop-holds Inv-loop μ-loop
@@ -59,17 +64,24 @@ returns-2 c =
     sym (step-done (l .inv .count) (a .what) (a .library .now) (l .c) (omega (arith, l .inv .enough)) (no-entry (c .before .before)) none) ∙ l .inv .same
 
 entered-requires : tie.Need-entered-requires Inv-loop μ-loop
-entered-requires c κs = let a = c .before .before .before .before .before .before .before .before .args in record-moved (a .what) (a .library .now) (c .before .before .before .before .before .before .loop .c .next) (sym (c .before .before .before .record-end .ensures) ∙ c .before .next .given .1)
+entered-requires c κs = let a = at-loop c .before .before .args in record-moved (a .what) (a .library .now) (at-loop c .loop .c .next)
+    (sym (c .before .before .before .record-end .ensures) ∙ c .before .next .given .1)
 
 loop-less : tie.Need-loop-less Inv-loop μ-loop
 loop-less c =
-    let a = c .before .before .before .before .before .before .before .before .before .args in
-    rw (c .entered .ensures) (omega (arith, record-moved (a .what) (a .library .now) (c .before .before .before .before .before .before .before .loop .c .next) (sym (c .before .before .before .before .record-end .ensures) ∙ c .before .before .next .given .1)))
+    let loop = at-loop (c .before) in
+    let a = loop .before .before .args in
+    rw (c .entered .ensures) (omega (
+      arith,
+      record-moved (a .what) (a .library .now) (loop .loop .c .next)
+          (sym (c .before .before .before .before .record-end .ensures) ∙ c .before .before .next .given .1),
+    ))
 
 loop-again : tie.Need-loop-again Inv-loop μ-loop
 loop-again c =
-    let a = c .before .before .before .before .before .before .before .before .before .args in
-    let l = c .before .before .before .before .before .before .before .loop in
+    let loop = at-loop (c .before) in
+    let a = loop .before .before .args in
+    let l = loop .loop in
     let e = sym (c .before .before .before .before .record-end .ensures) ∙ c .before .before .next .given .1 in
     let m = record-moved (a .what) (a .library .now) (l .c .next) e in
     rw (c .entered .ensures) (record {

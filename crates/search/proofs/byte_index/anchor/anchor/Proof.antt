@@ -28,8 +28,12 @@ Inv-loop bytes masks first most n rarest₀ place₀ end₀ i₀ rarest place en
 abbrev μ-loop : tie.MeasureT-loop
 μ-loop bytes masks first most n rarest₀ place₀ end₀ i₀ rarest place end i = n - i
 
+-- The ladder: places of the code that the answers cite, each as it is seen from a later place.
+abbrev at-entry : tie.After-shared-slice-known4 Inv-loop μ-loop → tie.Start Inv-loop μ-loop
+at-entry c = c .before .before .before .before .before .before .before .before
+
 -- the byte of the pattern at a place
-small : (c : tie.After-shared-slice-known5 Inv-loop μ-loop) → getD (now (c .before .before .before .before .before .before .before .before .before .before .args .bytes)) (c .before .before .before .before .loop .i) 0 < 256
+small : (c : tie.After-shared-slice-known5 Inv-loop μ-loop) → getD (now (at-entry (c .before .before) .args .bytes)) (c .before .before .before .before .loop .i) 0 < 256
 small c = omega (arith, c .shared-slice-known5 .given (c .before .before .before .before .loop .i))
 
 loop-holds : tie.Need-loop-holds Inv-loop μ-loop
@@ -58,10 +62,10 @@ mul-count : tie.Need-mul-count Inv-loop μ-loop
 mul-count c = omega (arith, small c)
 
 shared-slice-read-count-2 : tie.Need-shared-slice-read-count-2 Inv-loop μ-loop
-shared-slice-read-count-2 c = omega (arith, small (c .before), c .before .before .before .before .before .before .before .before .before .before .before .pre)
+shared-slice-read-count-2 c = omega (arith, small (c .before), at-entry (c .before .before .before) .pre)
 
 cast-count-2 : tie.Need-cast-count-2 Inv-loop μ-loop
-cast-count-2 c = omega (arith, c .shared-slice-known6 .given (256 + getD (now (c .before .before .before .before .before .before .before .before .before .before .before .args .bytes)) (c .before .before .before .before .before .loop .i) 0))
+cast-count-2 c = omega (arith, c .shared-slice-known6 .given (256 + getD (now (at-entry (c .before .before .before) .args .bytes)) (c .before .before .before .before .before .loop .i) 0))
 
 returns : tie.Need-returns Inv-loop μ-loop
 returns c = record { within = omega arith; byte = small (c .before .before .before); whole = c .before .before .before .before .if2 .taken }
@@ -75,7 +79,7 @@ loop-less c = omega arith
 loop-again : tie.Need-loop-again Inv-loop μ-loop
 loop-again c =
     let l = c .before .before .before .loop in
-    let a = c .before .before .before .before .before .before .before .before .before .args in
+    let a = at-entry (c .before) .args in
     let n = c .before .before .before .before .before .if1 .n in
     let kept : Chosen (a .bytes .now) (a .masks .now) n (l .place) = l .inv .chosen in
     record {

@@ -24,17 +24,25 @@ Inv-loop image first₀ next₀ i₀ first next i = Inv image first₀ next₀ f
 abbrev μ-loop : tie.MeasureT-loop
 μ-loop image first₀ next₀ i₀ first next i = i
 
+-- The ladder: places of the code that the answers cite, each as it is seen from a later place.
+abbrev at-entry : tie.At-loop Inv-loop μ-loop → tie.Start Inv-loop μ-loop
+at-entry c = c .before .before .before .before
+
+abbrev at-loop : tie.After-slice-known3 Inv-loop μ-loop → tie.At-loop Inv-loop μ-loop
+at-loop c = c .before .before .before
+
 -- in a turn
 abbrev In : Type 0
 In = tie.After-shared-slice-known2 Inv-loop μ-loop
 
-small : (c : In) → keyAt (now (c .before .before .before .before .before .before .args .image)) (c .before .before .loop .i - 1) < 256
+small : (c : In) → keyAt (now (at-entry (c .before .before) .args .image)) (c .before .before .loop .i - 1) < 256
 small c = omega (arith, c .shared-slice-known2 .given (c .before .before .loop .i - 1))
 
 loop-holds : tie.Need-loop-holds Inv-loop μ-loop
 loop-holds c =
-    let a = c .before .before .before .args in
-    let r = c .before .before .before .pre in
+    let entry = c .before .before .before in
+    let a = entry .args in
+    let r = entry .pre in
     record { within = omega arith; heads-long = refl; next-long = refl; linked = none-linked (a .image .now) (a .first .now) (a .next .now) (omega (arith, r .heads)) (r .room) (r .clear) }
 
 sub-i : tie.Need-sub-i Inv-loop μ-loop
@@ -50,25 +58,25 @@ mul-next : tie.Need-mul-next Inv-loop μ-loop
 mul-next c = omega (arith, small c)
 
 slice-read-next : tie.Need-slice-read-next Inv-loop μ-loop
-slice-read-next c = omega (arith, small (c .before), c .before .before .before .loop .inv .linked .heads)
+slice-read-next c = omega (arith, small (c .before), at-loop c .loop .inv .linked .heads)
 
 mul-next-2 : tie.Need-mul-next-2 Inv-loop μ-loop
-mul-next-2 c = omega (arith, c .before .before .before .loop .inv .within, c .before .before .before .before .before .before .before .pre .few)
+mul-next-2 c = omega (arith, at-loop c .loop .inv .within, at-entry (at-loop c) .pre .few)
 
 slice-write-next : tie.Need-slice-write-next Inv-loop μ-loop
-slice-write-next c = omega (arith, c .before .before .before .loop .inv .within, c .before .before .before .loop .inv .linked .room)
+slice-write-next c = omega (arith, at-loop c .loop .inv .within, at-loop c .loop .inv .linked .room)
 
 add-first : tie.Need-add-first Inv-loop μ-loop
-add-first c = omega (arith, c .before .before .before .loop .inv .within, c .before .before .before .before .before .before .before .pre .few)
+add-first c = omega (arith, at-loop c .loop .inv .within, at-entry (at-loop c) .pre .few)
 
 cast-first : tie.Need-cast-first Inv-loop μ-loop
-cast-first c = omega (arith, c .before .before .before .loop .inv .within, c .before .before .before .before .before .before .before .pre .few)
+cast-first c = omega (arith, at-loop c .loop .inv .within, at-entry (at-loop c) .pre .few)
 
 mul-first : tie.Need-mul-first Inv-loop μ-loop
 mul-first c = omega (arith, small (c .before))
 
 slice-write-first : tie.Need-slice-write-first Inv-loop μ-loop
-slice-write-first c = omega (arith, small (c .before), c .before .before .before .loop .inv .linked .heads)
+slice-write-first c = omega (arith, small (c .before), at-loop c .loop .inv .linked .heads)
 
 add-wrapping-add-u32 : tie.Need-add-wrapping-add-u32 Inv-loop μ-loop
 add-wrapping-add-u32 c = omega (arith, small (c .before))
@@ -77,7 +85,9 @@ mul-wrapping-add-u32 : tie.Need-mul-wrapping-add-u32 Inv-loop μ-loop
 mul-wrapping-add-u32 c = omega (arith, small (c .before))
 
 slice-read-wrapping-add-u32 : tie.Need-slice-read-wrapping-add-u32 Inv-loop μ-loop
-slice-read-wrapping-add-u32 c = rw length-set (omega (arith, small (c .before .before), c .before .before .before .before .loop .inv .heads-long, c .before .before .before .before .before .before .before .before .pre .heads))
+slice-read-wrapping-add-u32 c =
+    let loop = at-loop (c .before) in
+    rw length-set (omega (arith, small (c .before .before), loop .loop .inv .heads-long, at-entry loop .pre .heads))
 
 add-first-2 : tie.Need-add-first-2 Inv-loop μ-loop
 add-first-2 c = omega (arith, small (c .before .before .before))
@@ -86,20 +96,24 @@ mul-first-2 : tie.Need-mul-first-2 Inv-loop μ-loop
 mul-first-2 c = omega (arith, small (c .before .before .before))
 
 slice-write-first-2 : tie.Need-slice-write-first-2 Inv-loop μ-loop
-slice-write-first-2 c = rw length-set (omega (arith, small (c .before .before .before), c .before .before .before .before .before .loop .inv .heads-long, c .before .before .before .before .before .before .before .before .before .pre .heads))
+slice-write-first-2 c =
+    let loop = at-loop (c .before .before) in
+    rw length-set (omega (arith, small (c .before .before .before), loop .loop .inv .heads-long, at-entry loop .pre .heads))
 
 loop-less : tie.Need-loop-less Inv-loop μ-loop
 loop-less c = omega arith
 
 loop-again : tie.Need-loop-again Inv-loop μ-loop
 loop-again c =
-    let l = c .before .before .before .before .before .loop in
-    let a = c .before .before .before .before .before .before .before .before .before .args in
+    let loop = at-loop (c .before .before) in
+    let l = loop .loop in
+    let a = at-entry loop .args in
     record {
       within = omega (arith, l .inv .within);
       heads-long = rw (length-set, length-set) (l .inv .heads-long);
       next-long = rw length-set (l .inv .next-long);
-      linked = past-heads _ _ (omega arith) (link-turn (a .image .now) (l .first) (l .next) (l .i - 1) (omega (arith, l .inv .within)) (small (c .before .before .before)) (linked-at (l .inv .linked) (omega arith)));
+      linked = past-heads _ _ (omega arith) (link-turn (a .image .now) (l .first) (l .next) (l .i - 1) (omega (arith, l .inv .within))
+          (small (c .before .before .before)) (linked-at (l .inv .linked) (omega arith)));
     }
 
 same-length : tie.Need-same-length Inv-loop μ-loop
@@ -109,7 +123,7 @@ same-length-2 : tie.Need-same-length-2 Inv-loop μ-loop
 same-length-2 c = c .before .loop .inv .next-long
 
 returns : tie.Need-returns Inv-loop μ-loop
-returns c = all-indexed (omega (arith, c .before .loop .inv .heads-long, c .before .before .before .before .before .pre .heads)) (linked-at (c .before .loop .inv .linked) (omega arith))
+returns c = all-indexed (omega (arith, c .before .loop .inv .heads-long, at-entry (c .before) .pre .heads)) (linked-at (c .before .loop .inv .linked) (omega arith))
 
 pub index-spec : {M : Type 1} → statement M
 index-spec =

@@ -8,7 +8,9 @@ use Rattle.search.proofs.note.name.validate.Statement.{statement}
 use Rattle.search.proofs.note.name.validate.Tie as tie
 
 returns : tie.Need-returns
-returns c = c .before .before .put-noted .ensures ∙ ap (λ r. putRow 6 (c .before .before .before .before .before .before .before .before .args .m .now) (c .before .before .before .before .before .before .before .before .args .i) (notedCells (validated r))) (c .before .before .before .before .before .noted-at .ensures)
+returns c =
+    let entry = c .before .before .before .before .before .before .before .before in
+    c .before .before .put-noted .ensures ∙ ap (λ r. putRow 6 (entry .args .m .now) (entry .args .i) (notedCells (validated r))) (c .before .before .before .before .before .noted-at .ensures)
 
 pub validate-spec : {M : Type 1} → statement M
 validate-spec =

@@ -6,23 +6,39 @@ use borrow.Author.Needs.{needs}
 use Rattle.search.proofs.note.refer.refer_one.Statement.{statement}
 use Rattle.search.proofs.note.refer.refer_one.Tie as tie
 
+-- The ladder: places of the code that the answers cite, each as it is seen from a later place.
+abbrev at-entry : tie.After-target-of → tie.Start
+at-entry c = c .before .before .before .before .before .before .before .before
+
+abbrev after-goal2 : tie.After-slice-known4 → tie.After-goal2
+after-goal2 c = c .before .before .before .before .before .before .before .before
+
 returns : tie.Need-returns
 returns c =
-    let a = c .before .before .before .before .before .before .before .before .before .before .args in
-    refers-nowhere (view (a .image .now) (a .s)) (a .rules) (a .position) (a .valid) (a .library .now) (a .segments .now) (a .n) (a .bytes .now) (a .masks .now) (a .r) (a .noted .now) (a .heads .now) (a .f)
+    let a = at-entry (c .before .before) .args in
+    refers-nowhere (view (a .image .now) (a .s)) (a .rules) (a .position) (a .valid) (a .library .now) (a .segments .now) (a .n) (a .bytes .now)
+    (a .masks .now) (a .r) (a .noted .now) (a .heads .now) (a .f)
     (sym (c .before .before .target-of .ensures) ∙ c .enum-told .given .1)
 
 returns-2 : tie.Need-returns-2
 returns-2 c =
-    let a = c .before .before .before .before .before .before .before .before .before .before .before .before .before .before .before .args in
-    refers-segment (view (a .image .now) (a .s)) (a .rules) (a .position) (a .valid) (a .library .now) (a .segments .now) (a .n) (a .bytes .now) (a .masks .now) (a .r) (a .noted .now) (a .heads .now) (a .f)
-    (c .before .before .before .before .before .t .given .0 .0) (sym (c .before .before .before .before .before .before .before .target-of .ensures) ∙ c .before .before .before .before .before .t .given .1) (c .before .before .goal .given .0 .0) (c .before .before .goal .given .1) (c .is-match .result) (c .is-match .ensures)
+    let goal = c .before .before in
+    let t = goal .before .before .before in
+    let a = at-entry (t .before .before) .args in
+    refers-segment (view (a .image .now) (a .s)) (a .rules) (a .position) (a .valid) (a .library .now) (a .segments .now) (a .n) (a .bytes .now)
+    (a .masks .now) (a .r) (a .noted .now) (a .heads .now) (a .f)
+    (t .t .given .0 .0) (sym (t .before .before .target-of .ensures) ∙ t .t .given .1) (goal .goal .given .0 .0) (goal .goal .given .1) (c .is-match .result) (c .is-match .ensures)
 
 returns-3 : tie.Need-returns-3
 returns-3 c =
-    let a = c .before .before .before .before .before .before .before .before .before .before .before .before .before .before .before .before .before .before .before .before .before .args in
-    refers-name (view (a .image .now) (a .s)) (a .rules) (a .position) (a .valid) (a .library .now) (a .segments .now) (a .n) (a .bytes .now) (a .masks .now) (a .r) (a .noted .now) (a .heads .now) (a .f)
-    (c .before .before .before .before .before .before .before .before .before .before .before .t .given .0 .0) (sym (c .before .before .before .before .before .before .before .before .before .before .before .before .before .target-of .ensures) ∙ c .before .before .before .before .before .before .before .before .before .before .before .t .given .1) (c .before .before .before .before .before .before .before .before .goal2 .given .0 .0) (c .before .before .before .before .before .before .before .before .goal2 .given .1) (c .before .before .before .before .note-name .last .1 .1 .1 .1 .0) (c .before .before .before .before .note-name .last .1 .1 .1 .1 .1 .0) (c .before .before .before .before .note-name .result) (c .before .before .before .before .note-name .ensures)
+    let note-name = c .before .before .before .before in
+    let goal2 = after-goal2 c in
+    let t = goal2 .before .before .before in
+    let a = at-entry (t .before .before) .args in
+    refers-name (view (a .image .now) (a .s)) (a .rules) (a .position) (a .valid) (a .library .now) (a .segments .now) (a .n) (a .bytes .now)
+    (a .masks .now) (a .r) (a .noted .now) (a .heads .now) (a .f)
+    (t .t .given .0 .0) (sym (t .before .before .target-of .ensures) ∙ t .t .given .1) (goal2 .goal2 .given .0 .0) (goal2 .goal2 .given .1)
+    (note-name .note-name .last .1 .1 .1 .1 .0) (note-name .note-name .last .1 .1 .1 .1 .1 .0) (note-name .note-name .result) (note-name .note-name .ensures)
 
 pub refer-one-spec : {M : Type 1} → statement M
 refer-one-spec =

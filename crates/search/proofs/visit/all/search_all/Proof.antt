@@ -15,7 +15,8 @@ use Rattle.search.specs.visit.LeadingLaws.{leading-starts, leading-on, l
 use Rattle.search.proofs.visit.all.search_all.Statement.{statement}
 use Rattle.search.proofs.visit.all.search_all.Tie as tie
 
-record Inv (cells : List ℕ) (asked : Asked) (library : List ℕ) (t : Stored) (n : ℕ) (placed₀ positions₀ noted₀ goals₀ : List ℕ) (f₀ : Fills) (placed positions noted goals : List ℕ) (f : Fills) (i : ℕ) : Type 0 where
+record Inv (cells : List ℕ) (asked : Asked) (library : List ℕ) (t : Stored) (n : ℕ) (placed₀ positions₀ noted₀ goals₀ : List ℕ) (f₀ : Fills)
+    (placed positions noted goals : List ℕ) (f : Fills) (i : ℕ) : Type 0 where
   within : i ≤ n
   placed-long : length placed ≡ length placed₀
   positions-long : length positions ≡ length positions₀
@@ -25,10 +26,21 @@ record Inv (cells : List ℕ) (asked : Asked) (library : List ℕ) (t : Stored) 
       (joined (matchesBy cells t) (from i (n - i))) placed positions noted goals f
 
 abbrev Inv-loop : tie.InvT-loop
-Inv-loop image s asked library segments n references symbols bytes masks first next placed₀ positions₀ noted₀ goals₀ f₀ i₀ placed positions noted goals f i = Inv (view image s) asked library (stored segments references symbols bytes masks) n placed₀ positions₀ noted₀ goals₀ f₀ placed positions noted goals f i
+Inv-loop image s asked library segments n references symbols bytes masks first next placed₀ positions₀ noted₀ goals₀ f₀ i₀ placed positions noted
+    goals f i = Inv (view image s) asked library (stored segments references symbols bytes masks) n placed₀ positions₀ noted₀ goals₀ f₀ placed positions noted goals f i
 
 abbrev μ-loop : tie.MeasureT-loop
 μ-loop image s asked library segments n references symbols bytes masks first next placed₀ positions₀ noted₀ goals₀ f₀ i₀ placed positions noted goals f i = n - i
+
+-- The ladder: places of the code that the answers cite, each as it is seen from a later place.
+abbrev at-entry : tie.After-slice-known4 Inv-loop μ-loop → tie.Start Inv-loop μ-loop
+at-entry c = c .before .before .before .before .before .before .before .before .before .before .before .before .before
+
+abbrev at-in-loop : tie.After-placed Inv-loop μ-loop → tie.In-loop Inv-loop μ-loop
+at-in-loop c = c .before .before .before .before .before .before
+
+abbrev after-placed : tie.After-slice-known8 Inv-loop μ-loop → tie.After-placed Inv-loop μ-loop
+after-placed c = c .before .before .before .before .before .before .before
 
 abbrev rows : tie.Start Inv-loop μ-loop → Stored
 rows c = stored (c .args .segments .now) (c .args .references .now) (c .args .symbols .now) (c .args .bytes .now) (c .args .masks .now)
@@ -38,41 +50,51 @@ seen c = view (c .args .image .now) (c .args .s)
 
 loop-holds : tie.Need-loop-holds Inv-loop μ-loop
 loop-holds c =
-    let a = c .before .before .before .before .before .before .before .before .before .before .before .before .before .args in
+    let entry = at-entry c in
+    let a = entry .args in
     record {
       within = omega arith;
       placed-long = refl;
       positions-long = refl;
       noted-long = refl;
       goals-long = refl;
-      leads = leading-starts (seen (c .before .before .before .before .before .before .before .before .before .before .before .before .before)) (a .asked) (a .library .now) (segmentsIn (rows (c .before .before .before .before .before .before .before .before .before .before .before .before .before)) (a .n)) (joined (matchesBy (seen (c .before .before .before .before .before .before .before .before .before .before .before .before .before)) (rows (c .before .before .before .before .before .before .before .before .before .before .before .before .before))) (from 0 (a .n - 0))) (a .placed .now) (a .positions .now) (a .noted .now) (a .goals .now) (a .before);
+      leads = leading-starts (seen entry) (a .asked) (a .library .now) (segmentsIn (rows entry) (a .n))
+          (joined (matchesBy (seen entry) (rows entry)) (from 0 (a .n - 0))) (a .placed .now) (a .positions .now) (a .noted .now) (a .goals .now) (a .before);
     }
 
 search-segment-requires : tie.Need-search-segment-requires Inv-loop μ-loop
-search-segment-requires c κs = c .before .before .before .before .before .before .before .before .before .before .before .before .before .before .before .before .before .before .before .pre
+search-segment-requires c κs = at-entry (c .before .before .before .before .before .before) .pre
 
 add-i : tie.Need-add-i Inv-loop μ-loop
-add-i c = omega (arith, c .before .before .before .before .before .before .before .before .before .before .before .before .before .loop-test .taken, c .before .before .before .before .before .before .before .before .before .before .before .before .before .before .before .before .before .before .before .before .before .before .before .before .before .before .before .before .fits)
+add-i c =
+    let in-loop = at-in-loop (after-placed c) in
+    omega (arith, in-loop .loop-test .taken, at-entry (in-loop .before .before) .fits)
 
 loop-less : tie.Need-loop-less Inv-loop μ-loop
-loop-less c = omega (arith, c .before .before .before .before .before .before .before .before .before .before .before .before .before .loop-test .taken)
+loop-less c = omega (arith, at-in-loop (after-placed c) .loop-test .taken)
 
 loop-again : tie.Need-loop-again Inv-loop μ-loop
 loop-again c =
-    let a = c .before .before .before .before .before .before .before .before .before .before .before .before .before .before .before .before .before .before .before .before .before .before .before .before .before .before .before .before .args in
-    let l = c .before .before .before .before .before .before .before .before .before .before .before .before .before .before .loop in
-    let v = c .before .before .before .before .before .before .before .before .search-segment in
-    let more = joined (matchesBy (seen (c .before .before .before .before .before .before .before .before .before .before .before .before .before .before .before .before .before .before .before .before .before .before .before .before .before .before .before .before)) (rows (c .before .before .before .before .before .before .before .before .before .before .before .before .before .before .before .before .before .before .before .before .before .before .before .before .before .before .before .before))) in
+    let placed = after-placed c in
+    let in-loop = at-in-loop placed in
+    let entry = at-entry (in-loop .before .before) in
+    let a = entry .args in
+    let l = in-loop .before .loop in
+    let v = placed .before .search-segment in
+    let more = joined (matchesBy (seen entry) (rows entry)) in
     record {
-      within = omega (arith, c .before .before .before .before .before .before .before .before .before .before .before .before .before .loop-test .taken);
-      placed-long = c .before .before .before .before .before .before .before .placed .given ∙ l .inv .placed-long;
+      within = omega (arith, in-loop .loop-test .taken);
+      placed-long = placed .placed .given ∙ l .inv .placed-long;
       positions-long = c .before .before .before .before .before .positions .given ∙ l .inv .positions-long;
       noted-long = c .before .before .before .noted .given ∙ l .inv .noted-long;
       goals-long = c .before .goals .given ∙ l .inv .goals-long;
       leads =
-          leading-on (seen (c .before .before .before .before .before .before .before .before .before .before .before .before .before .before .before .before .before .before .before .before .before .before .before .before .before .before .before .before)) (a .asked) (a .library .now) (segmentsIn (rows (c .before .before .before .before .before .before .before .before .before .before .before .before .before .before .before .before .before .before .before .before .before .before .before .before .before .before .before .before)) (a .n)) (more (from 0 (a .n - 0))) (a .placed .now) (a .positions .now) (a .noted .now) (a .goals .now) (a .before) {left = more (from (l .i) (a .n - l .i))} (l .placed) (l .positions) (l .noted) (l .goals) (l .f) (l .inv .leads)
-          (matchesBy (seen (c .before .before .before .before .before .before .before .before .before .before .before .before .before .before .before .before .before .before .before .before .before .before .before .before .before .before .before .before)) (rows (c .before .before .before .before .before .before .before .before .before .before .before .before .before .before .before .before .before .before .before .before .before .before .before .before .before .before .before .before)) (l .i)) (more (from (l .i + 1) (a .n - (l .i + 1)))) (v .last .1 .1 .1 .1 .1 .1 .1 .1 .1 .1 .1 .1 .1 .0) (v .last .1 .1 .1 .1 .1 .1 .1 .1 .1 .1 .1 .1 .1 .1 .0) (v .last .1 .1 .1 .1 .1 .1 .1 .1 .1 .1 .1 .1 .1 .1 .1 .0) (v .last .1 .1 .1 .1 .1 .1 .1 .1 .1 .1 .1 .1 .1 .1 .1 .1 .0) (v .result)
-          (next-number (seen (c .before .before .before .before .before .before .before .before .before .before .before .before .before .before .before .before .before .before .before .before .before .before .before .before .before .before .before .before)) (rows (c .before .before .before .before .before .before .before .before .before .before .before .before .before .before .before .before .before .before .before .before .before .before .before .before .before .before .before .before)) (l .i) (a .n) (omega (arith, c .before .before .before .before .before .before .before .before .before .before .before .before .before .loop-test .taken)))
+          leading-on (seen entry) (a .asked) (a .library .now) (segmentsIn (rows entry) (a .n)) (more (from 0 (a .n - 0))) (a .placed .now)
+          (a .positions .now) (a .noted .now) (a .goals .now) (a .before) {left = more (from (l .i) (a .n - l .i))} (l .placed) (l .positions) (l .noted) (l .goals) (l .f) (l .inv .leads)
+          (matchesBy (seen entry) (rows entry) (l .i)) (more (from (l .i + 1) (a .n - (l .i + 1))))
+          (v .last .1 .1 .1 .1 .1 .1 .1 .1 .1 .1 .1 .1 .1 .0) (v .last .1 .1 .1 .1 .1 .1 .1 .1 .1 .1 .1 .1 .1 .1 .0)
+          (v .last .1 .1 .1 .1 .1 .1 .1 .1 .1 .1 .1 .1 .1 .1 .1 .0) (v .last .1 .1 .1 .1 .1 .1 .1 .1 .1 .1 .1 .1 .1 .1 .1 .1 .0) (v .result)
+          (next-number (seen entry) (rows entry) (l .i) (a .n) (omega (arith, in-loop .loop-test .taken)))
           (v .ensures);
     }
 
@@ -90,12 +112,16 @@ same-length-4 c = c .before .loop .inv .goals-long
 
 returns : tie.Need-returns Inv-loop μ-loop
 returns c =
-    let a = c .before .before .before .before .before .before .before .before .before .before .before .before .before .before .before .args in
+    let entry = at-entry (c .before .before) in
+    let a = entry .args in
     let l = c .before .loop in
-    subst (λ ms. Visits (seen (c .before .before .before .before .before .before .before .before .before .before .before .before .before .before .before)) (a .asked) (a .library .now) (segmentsIn (rows (c .before .before .before .before .before .before .before .before .before .before .before .before .before .before .before)) (a .n)) ms (a .placed .now) (a .positions .now) (a .noted .now) (a .goals .now) (a .before) (l .placed) (l .positions) (l .noted) (l .goals) (l .f))
-    (sym (all-by-number (seen (c .before .before .before .before .before .before .before .before .before .before .before .before .before .before .before)) (rows (c .before .before .before .before .before .before .before .before .before .before .before .before .before .before .before)) (a .n)))
-    (leading-ends (seen (c .before .before .before .before .before .before .before .before .before .before .before .before .before .before .before)) (a .asked) (a .library .now) (segmentsIn (rows (c .before .before .before .before .before .before .before .before .before .before .before .before .before .before .before)) (a .n)) (joined (matchesBy (seen (c .before .before .before .before .before .before .before .before .before .before .before .before .before .before .before)) (rows (c .before .before .before .before .before .before .before .before .before .before .before .before .before .before .before))) (from 0 (a .n - 0))) (a .placed .now) (a .positions .now) (a .noted .now) (a .goals .now) (a .before) {left = joined (matchesBy (seen (c .before .before .before .before .before .before .before .before .before .before .before .before .before .before .before)) (rows (c .before .before .before .before .before .before .before .before .before .before .before .before .before .before .before))) (from (l .i) (a .n - l .i))} (l .placed) (l .positions) (l .noted) (l .goals) (l .f) (l .inv .leads)
-    (no-number (seen (c .before .before .before .before .before .before .before .before .before .before .before .before .before .before .before)) (rows (c .before .before .before .before .before .before .before .before .before .before .before .before .before .before .before)) (l .i) (a .n) (omega (arith, c .loop-test .left))))
+    subst (λ ms. Visits (seen entry) (a .asked) (a .library .now) (segmentsIn (rows entry) (a .n)) ms (a .placed .now) (a .positions .now)
+    (a .noted .now) (a .goals .now) (a .before) (l .placed) (l .positions) (l .noted) (l .goals) (l .f))
+    (sym (all-by-number (seen entry) (rows entry) (a .n)))
+    (leading-ends (seen entry) (a .asked) (a .library .now) (segmentsIn (rows entry) (a .n))
+    (joined (matchesBy (seen entry) (rows entry)) (from 0 (a .n - 0))) (a .placed .now) (a .positions .now) (a .noted .now) (a .goals .now)
+    (a .before) {left = joined (matchesBy (seen entry) (rows entry)) (from (l .i) (a .n - l .i))} (l .placed) (l .positions) (l .noted) (l .goals) (l .f) (l .inv .leads)
+    (no-number (seen entry) (rows entry) (l .i) (a .n) (omega (arith, c .loop-test .left))))
 
 pub search-all-spec : {M : Type 1} → statement M
 search-all-spec =

@@ -20,6 +20,16 @@ use borrow.Author.Needs.{needs}
 use Rattle.search.proofs.visit.matched.visit_match.Statement.{statement}
 use Rattle.search.proofs.visit.matched.visit_match.Tie as tie
 
+-- The ladder: places of the code that the answers cite, each as it is seen from a later place.
+abbrev after-shared-slice-known5 : tie.After-noted → tie.After-shared-slice-known5
+after-shared-slice-known5 c = c .before .before .before .before .before .before .before .before .before .before .before .before
+
+abbrev after-noted : tie.After-keeps-out → tie.After-noted
+after-noted c = c .before .before .before .before .before
+
+abbrev after-place-symbols : tie.After-fills2 → tie.After-place-symbols
+after-place-symbols c = c .before .before .before .before .before
+
 -- where the segments are stored, and what is seen
 abbrev rows : tie.Start → Stored
 rows c = stored (c .args .segments .now) (c .args .references .now) (c .args .symbols .now) (c .args .bytes .now) (c .args .masks .now)
@@ -36,32 +46,51 @@ Left c placed positions noted goals f =
 
 returns : tie.Need-returns
 returns c =
-    let a = c .before .before .before .before .before .before .before .before .before .before .before .before .before .before .before .before .before .before .before .before .before .before .before .before .args in
-    let q = c .before .before .before .before .before .before .before .before .refer-all in
-    λ known. subst (Left (c .before .before .before .before .before .before .before .before .before .before .before .before .before .before .before .before .before .before .before .before .before .before .before .before) (a .placed .now) (a .positions .now) (q .last .1 .1 .1 .1 .1 .1 .1 .1 .1 .1 .1 .1 .0) (q .last .1 .1 .1 .1 .1 .1 .1 .1 .1 .1 .1 .1 .1 .0)) (sym (c .fills .ensures)) record {
+    let keeps-out = c .before .before in
+    let noted = after-noted keeps-out in
+    let entry = after-shared-slice-known5 noted .before .before .before .before .before in
+    let a = entry .args in
+    let q = noted .before .refer-all in
+    λ known. subst (Left entry (a .placed .now) (a .positions .now) (q .last .1 .1 .1 .1 .1 .1 .1 .1 .1 .1 .1 .1 .0)
+    (q .last .1 .1 .1 .1 .1 .1 .1 .1 .1 .1 .1 .1 .1 .0)) (sym (c .fills .ensures)) record {
       places =
-          subst (λ xs. Takes placedSheet (a .library .now) (place (a .library .now) (length (seen (c .before .before .before .before .before .before .before .before .before .before .before .before .before .before .before .before .before .before .before .before .before .before .before .before)))) xs (table (a .placed .now) (a .positions .now) (a .f .placed)) (table (a .placed .now) (a .positions .now) (a .f .placed)))
-          (match-fails (seen (c .before .before .before .before .before .before .before .before .before .before .before .before .before .before .before .before .before .before .before .before .before .before .before .before)) (a .asked) (a .library .now) (rows (c .before .before .before .before .before .before .before .before .before .before .before .before .before .before .before .before .before .before .before .before .before .before .before .before)) (a .n) (a .number) (a .row) (a .valid) (a .at) known (q .result .holds) (c .before .before .keeps-out .result) (q .ensures .holds (a .references .now) (a .symbols .now)) (c .before .before .keeps-out .ensures) (c .before .if1 .taken))
-          (takes-none placedSheet (a .library .now) (place (a .library .now) (length (seen (c .before .before .before .before .before .before .before .before .before .before .before .before .before .before .before .before .before .before .before .before .before .before .before .before)))) (table (a .placed .now) (a .positions .now) (a .f .placed)));
+          subst (λ xs. Takes placedSheet (a .library .now) (place (a .library .now) (length (seen entry))) xs
+          (table (a .placed .now) (a .positions .now) (a .f .placed)) (table (a .placed .now) (a .positions .now) (a .f .placed)))
+          (match-fails (seen entry) (a .asked) (a .library .now) (rows entry) (a .n) (a .number) (a .row) (a .valid) (a .at) known (q .result .holds)
+          (keeps-out .keeps-out .result) (q .ensures .holds (a .references .now) (a .symbols .now)) (keeps-out .keeps-out .ensures) (c .before .if1 .taken))
+          (takes-none placedSheet (a .library .now) (place (a .library .now) (length (seen entry))) (table (a .placed .now) (a .positions .now) (a .f .placed)));
       notes =
-          subst (λ xs. Takes notedSheet (a .library .now) (note (a .library .now)) xs (table (a .noted .now) (a .goals .now) (a .f .noted)) (table (q .last .1 .1 .1 .1 .1 .1 .1 .1 .1 .1 .1 .1 .0) (q .last .1 .1 .1 .1 .1 .1 .1 .1 .1 .1 .1 .1 .1 .0) (q .result .fill)))
-          (match-notes (seen (c .before .before .before .before .before .before .before .before .before .before .before .before .before .before .before .before .before .before .before .before .before .before .before .before)) (a .asked) (a .library .now) (rows (c .before .before .before .before .before .before .before .before .before .before .before .before .before .before .before .before .before .before .before .before .before .before .before .before)) (a .n) (a .number) (a .row) (a .valid) (a .at) known)
+          subst (λ xs. Takes notedSheet (a .library .now) (note (a .library .now)) xs (table (a .noted .now) (a .goals .now) (a .f .noted))
+          (table (q .last .1 .1 .1 .1 .1 .1 .1 .1 .1 .1 .1 .1 .0) (q .last .1 .1 .1 .1 .1 .1 .1 .1 .1 .1 .1 .1 .1 .0) (q .result .fill)))
+          (match-notes (seen entry) (a .asked) (a .library .now) (rows entry) (a .n) (a .number) (a .row) (a .valid) (a .at) known)
           (q .ensures .notes);
     }
 
 returns-2 : tie.Need-returns-2
 returns-2 c =
-    let a = c .before .before .before .before .before .before .before .before .before .before .before .before .before .before .before .before .before .before .before .before .before .before .before .before .before .before .before .before .before .before .before .args in
-    let q = c .before .before .before .before .before .before .before .before .before .before .before .before .before .before .before .refer-all in
-    let p = c .before .before .before .before .before .place-symbols in
-    λ known. subst (Left (c .before .before .before .before .before .before .before .before .before .before .before .before .before .before .before .before .before .before .before .before .before .before .before .before .before .before .before .before .before .before .before) (p .last .1 .1 .1 .1 .1 .1 .1 .0) (p .last .1 .1 .1 .1 .1 .1 .1 .1 .0) (q .last .1 .1 .1 .1 .1 .1 .1 .1 .1 .1 .1 .1 .0) (q .last .1 .1 .1 .1 .1 .1 .1 .1 .1 .1 .1 .1 .1 .0)) (sym (c .fills2 .ensures)) record {
+    let place-symbols = after-place-symbols c in
+    let keeps-out = place-symbols .before .before .before .before in
+    let noted = after-noted keeps-out in
+    let entry = after-shared-slice-known5 noted .before .before .before .before .before in
+    let a = entry .args in
+    let q = noted .before .refer-all in
+    let p = place-symbols .place-symbols in
+    λ known. subst (Left entry (p .last .1 .1 .1 .1 .1 .1 .1 .0) (p .last .1 .1 .1 .1 .1 .1 .1 .1 .0)
+    (q .last .1 .1 .1 .1 .1 .1 .1 .1 .1 .1 .1 .1 .0) (q .last .1 .1 .1 .1 .1 .1 .1 .1 .1 .1 .1 .1 .1 .0)) (sym (c .fills2 .ensures)) record {
       places =
-          subst (λ xs. Takes placedSheet (a .library .now) (place (a .library .now) (length (seen (c .before .before .before .before .before .before .before .before .before .before .before .before .before .before .before .before .before .before .before .before .before .before .before .before .before .before .before .before .before .before .before)))) xs (table (a .placed .now) (a .positions .now) (a .f .placed)) (table (p .last .1 .1 .1 .1 .1 .1 .1 .0) (p .last .1 .1 .1 .1 .1 .1 .1 .1 .0) (p .result)))
-          (match-passes (seen (c .before .before .before .before .before .before .before .before .before .before .before .before .before .before .before .before .before .before .before .before .before .before .before .before .before .before .before .before .before .before .before)) (a .asked) (a .library .now) (rows (c .before .before .before .before .before .before .before .before .before .before .before .before .before .before .before .before .before .before .before .before .before .before .before .before .before .before .before .before .before .before .before)) (a .n) (a .number) (a .row) (a .valid) (a .at) known (q .result .holds) (c .before .before .before .before .before .before .before .before .before .keeps-out .result) (q .ensures .holds (a .references .now) (a .symbols .now)) (c .before .before .before .before .before .before .before .before .before .keeps-out .ensures) (c .before .before .before .before .before .before .before .before .if1 .left))
-          (subst (λ end. Takes placedSheet (a .library .now) (place (a .library .now) end) (map (placingOf (a .number) (a .at) (a .valid)) (rowsOf symbolLayout (a .symbols .now) (a .row .symbols))) (table (a .placed .now) (a .positions .now) (a .f .placed)) (table (p .last .1 .1 .1 .1 .1 .1 .1 .0) (p .last .1 .1 .1 .1 .1 .1 .1 .1 .0) (p .result))) (sym (view-length (a .image .now) (a .s))) (p .ensures));
+          subst (λ xs. Takes placedSheet (a .library .now) (place (a .library .now) (length (seen entry))) xs
+          (table (a .placed .now) (a .positions .now) (a .f .placed)) (table (p .last .1 .1 .1 .1 .1 .1 .1 .0) (p .last .1 .1 .1 .1 .1 .1 .1 .1 .0) (p .result)))
+          (match-passes (seen entry) (a .asked) (a .library .now) (rows entry) (a .n) (a .number) (a .row) (a .valid) (a .at) known
+          (q .result .holds) (keeps-out .keeps-out .result) (q .ensures .holds (a .references .now) (a .symbols .now))
+          (keeps-out .keeps-out .ensures) (place-symbols .before .before .before .if1 .left))
+          (subst (λ end. Takes placedSheet (a .library .now) (place (a .library .now) end)
+          (map (placingOf (a .number) (a .at) (a .valid)) (rowsOf symbolLayout (a .symbols .now) (a .row .symbols)))
+          (table (a .placed .now) (a .positions .now) (a .f .placed))
+          (table (p .last .1 .1 .1 .1 .1 .1 .1 .0) (p .last .1 .1 .1 .1 .1 .1 .1 .1 .0) (p .result))) (sym (view-length (a .image .now) (a .s))) (p .ensures));
       notes =
-          subst (λ xs. Takes notedSheet (a .library .now) (note (a .library .now)) xs (table (a .noted .now) (a .goals .now) (a .f .noted)) (table (q .last .1 .1 .1 .1 .1 .1 .1 .1 .1 .1 .1 .1 .0) (q .last .1 .1 .1 .1 .1 .1 .1 .1 .1 .1 .1 .1 .1 .0) (q .result .fill)))
-          (match-notes (seen (c .before .before .before .before .before .before .before .before .before .before .before .before .before .before .before .before .before .before .before .before .before .before .before .before .before .before .before .before .before .before .before)) (a .asked) (a .library .now) (rows (c .before .before .before .before .before .before .before .before .before .before .before .before .before .before .before .before .before .before .before .before .before .before .before .before .before .before .before .before .before .before .before)) (a .n) (a .number) (a .row) (a .valid) (a .at) known)
+          subst (λ xs. Takes notedSheet (a .library .now) (note (a .library .now)) xs (table (a .noted .now) (a .goals .now) (a .f .noted))
+          (table (q .last .1 .1 .1 .1 .1 .1 .1 .1 .1 .1 .1 .1 .0) (q .last .1 .1 .1 .1 .1 .1 .1 .1 .1 .1 .1 .1 .1 .0) (q .result .fill)))
+          (match-notes (seen entry) (a .asked) (a .library .now) (rows entry) (a .n) (a .number) (a .row) (a .valid) (a .at) known)
           (q .ensures .notes);
     }
 

@@ -1,0 +1,138 @@
+"""Document 01's "Matching and references", written from its text and apart from the Rust: where the segments match in an image, which symbols
+they place there, which names their references note; and these as rows of numbers and as the lent lists are left."""
+from dataclasses import dataclass
+
+from model.collection import DOCUMENTED, INBLOCK, RELATIVE, WORD
+
+# Numbers in a row of placed symbols and of noted names.
+PLACED, NOTED = 8, 6
+# Buckets of keys, and of keys and names together.
+KEYS, NAMES = 65536, 65536
+SUMS = 2 ** 64
+LONGEST_IMAGE = 65536
+
+
+@dataclass
+class Asked:
+    rules: int
+    check: bool
+    minimum: int
+    # What is withheld of the image: from where on, and how many bytes.
+    stretch: tuple = (0, 0)
+
+
+@dataclass
+class Placed:
+    position: int
+    # A Part of the library.
+    name: object
+    valid: bool
+    # The number of the segment whose match placed it, and where that match is.
+    segment: int
+    found: int
+
+
+@dataclass
+class Noted:
+    target: int
+    name: object
+    valid: bool
+
+
+class Search:
+    """One image and what is asked of it, the library's bytes, and its segments."""
+
+    def __init__(self, image, asked, library, segments):
+        self.image, self.asked, self.library, self.segments = image, asked, library, segments
+        # Both by place and name, in the order of coming.
+        self.placed, self.noted = {}, {}
+        self.found = [list(self.matches(s)) for s in segments]
+        for number, s in enumerate(segments):
+            for at in self.found[number]:
+                self.visit(number, s, at)
+
+    def is_withheld(self, at, count):
+        """Whether one of so many bytes is in the stretch."""
+        start, length = self.asked.stretch
+        return max(at, start) < min(at + count, start + length)
+
+    def matches(self, s):
+        """Where all of a pattern fits, shares no byte with the stretch, and agrees with the image on all mask bits."""
+        for at in range(len(self.image) + 1) if s.address is None else [s.address]:
+            window = self.image[at:at + len(s.bytes)]
+            if at + len(s.bytes) <= len(self.image) and not self.is_withheld(at, len(s.bytes)):
+                if all((x ^ byte) & mask == 0 for x, byte, mask in zip(window, s.bytes, s.masks)):
+                    yield at
+
+    def target(self, r, pos):
+        """Where the bytes at a place lead, less the fixup's offset; None where they can't be read."""
+        size = 1 if r.kind == RELATIVE else 2
+        if pos + size > len(self.image) or self.is_withheld(pos, size):
+            return None
+        first, second = self.image[pos], self.image[pos + size - 1]
+        if r.kind == WORD:
+            led = 256 * first + second
+        elif r.kind == INBLOCK:
+            top = first >> 5 if self.asked.rules == DOCUMENTED else 0
+            led = (pos + 2 & ~0x7FF) + 256 * top + second & 0xFFFF
+        else:
+            led = pos + 1 + (first - 256 if first > 127 else first)
+        return (led - r.offset) % SUMS
+
+    def is_valid(self, s):
+        return sum(mask != 0 for mask in s.masks) >= self.asked.minimum
+
+    def visit(self, number, s, at):
+        """A match: its references in order, which note or hold or fail, and then its symbols."""
+        failed = False
+        for r in s.references:
+            target = self.target(r, at + r.place)
+            if target is None:
+                failed = True
+            elif isinstance(r.goal, int):
+                failed |= r.goal >= len(self.found) or target not in self.found[r.goal]
+            else:
+                self.note(Noted(target, r.goal, self.is_valid(s)))
+        if not (failed and self.asked.check):
+            for name, offset in s.symbols:
+                self.place(Placed(at + offset, name, self.is_valid(s), number, at))
+
+    def spelled(self, name):
+        """A name's bytes, by which names are compared."""
+        return self.library[name.at:name.at + name.len]
+
+    def note(self, new):
+        """Once for a target and name; valid if any match that noted it was."""
+        self.noted.setdefault((new.target, self.spelled(new.name)), new).valid |= new.valid
+
+    def place(self, new):
+        """The first of a name at a position stays; none stands at the image's end or past it."""
+        if new.position < len(self.image):
+            self.placed.setdefault((new.position, self.spelled(new.name)), new)
+
+
+def bucket(key, name):
+    """The bucket that a key and a name's bytes share with some others."""
+    h = key % NAMES
+    for byte in name:
+        h = (h * 31 + byte) % NAMES
+    return h
+
+
+def with_links(made):
+    """Rows that have their two links still to come: to the newest earlier one whose key has the same low 16 bits, and to the newest of the
+    same bucket; each is one more than a row's number, or 0."""
+    by_key, by_name, out = {}, {}, []
+    for i, (row, key, name) in enumerate(made):
+        low, shared = key % KEYS, bucket(key, name)
+        out += row + [by_key.get(low, 0), by_name.get(shared, 0)]
+        by_key[low] = by_name[shared] = i + 1
+    return out
+
+
+def placed_numbers(s):
+    return with_links([([p.position, p.name.at, p.name.len, int(p.valid), p.segment, p.found], *key) for key, p in s.placed.items()])
+
+
+def noted_numbers(s):
+    return with_links([([n.target, n.name.at, n.name.len, int(n.valid)], *key) for key, n in s.noted.items()])
