@@ -7,7 +7,7 @@ use lib.ListN.{length}
 use Rattle.module_ids.specs.Noted.{Tells}
 use Rattle.module_ids.specs.ClearLaws.{zeros-tell}
 use Rattle.module_index.specs.Indexed.{Blank}
-use Rattle.module_index.specs.IndexingLaws.{zeros-blank}
+use Rattle.module_index.specs.IndexedTableLaws.{zeros-blank}
 use Rattle.collect.specs.all_modules.Modules.{Workable}
 use Rattle.tables.specs.zeros.Zeros.{zeroList}
 use Rattle.tables.specs.zeros.ZeroLaws.{zero-length, zero-list}

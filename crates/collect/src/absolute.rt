@@ -1,7 +1,7 @@
 // The absolute contents of a module, in file order.
 ghost use Prim.Native.Nat.{_≤_};
 ghost use lib.ListN.{length};
-ghost use Rattle.segment_parts.specs.Referring.{Placeable};
+ghost use Rattle.segment_parts.specs.AddedReferences.{Placeable};
 ghost use Rattle.collect.specs.stored.Segments.{lists};
 ghost use Rattle.segment_parts.specs.symbols_by_offset.Flags.{Clear};
 ghost use Rattle.collect.specs.absolute.Absolute.{StoresAbsolutes};

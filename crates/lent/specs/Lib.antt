@@ -1,7 +1,7 @@
 -- What the stages share, in reading order; each file of laws stands behind its definitions.
 pub mod Choice
 pub mod ChoiceLaws
-pub mod Leading
+pub mod FirstOf
 pub mod Lists
 pub mod ListLaws
 pub mod RunLaws

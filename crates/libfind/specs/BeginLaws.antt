@@ -11,7 +11,7 @@ use lib.ListN.{length}
 use Rattle.lent.specs.declared.refusal.Refusal.{Refusal}
 use Rattle.lent.specs.declared.refusal.Refusal.the-variants.{RuleSet, ImageTooLong, LibraryTooLong, StretchPastEnd}
 use Rattle.lent.specs.Choice.{when, orElse, leading}
-use Rattle.lent.specs.Leading.{none≢some}
+use Rattle.lent.specs.FirstOf.{none≢some}
 use Rattle.omf51.specs.Reader.{ReadOutcome, read, stop, refused}
 use Rattle.omf51.specs.Module.{Module}
 use Rattle.omf51.specs.File.{file, fileRefusal}

@@ -11,7 +11,7 @@ use lib.ListN.{length}
 use Rattle.lent.specs.declared.refusal.Refusal.{Refusal}
 use Rattle.lent.specs.declared.refusal.Refusal.the-variants.{RuleSet, ImageTooLong, LibraryTooLong, StretchPastEnd, TooFewRows}
 use Rattle.lent.specs.Choice.{when, orElse, leading}
-use Rattle.lent.specs.Leading.{none≢some}
+use Rattle.lent.specs.FirstOf.{none≢some}
 use Rattle.lent.specs.Refusals.{refusalNumber}
 use Rattle.lent.specs.RefusalLaws.{same-number}
 use Rattle.lent.specs.Rows.{zeros}

@@ -4,7 +4,7 @@ use mathlib.Core.Path.{_≡_}
 use mathlib.Core.List.{List}
 use Rattle.lent.specs.OneOutcome.{Determines, by-equation}
 use Rattle.describe.specs.Described.{described}
-use Rattle.printing.specs.Printing.{fittedText}
+use Rattle.printing.specs.PrintedText.{fittedText}
 use Rattle.run.specs.declared.Settings.{Settings}
 use Rattle.run.specs.Run.{Lent}
 use Rattle.libfind_c.specs.Exported.{handedRun, writtenIn, saidIn, widthOf}

@@ -3,16 +3,16 @@ ghost use mathlib.Core.Path.{_≡_};
 ghost use Rattle.describe.specs.Described.{described};
 ghost use Rattle.listing_rules.specs.LineLayout.{lineAt};
 ghost use Rattle.listing_rules.specs.Print.{heading, printedLine, printed};
-ghost use Rattle.printing.specs.Printing.{fittedText, storedLines};
+ghost use Rattle.printing.specs.PrintedText.{fittedText, storedLines};
 ghost use Rattle.run.specs.Run.{lentLists};
 ghost use Rattle.libfind_c.specs.Exported.{settingsOf, handedRun, writtenIn, saidIn, widthOf};
 
-mod handing;
+mod numbers;
 
-use crate::handing::hand_over;
-use crate::handing::length_of;
-use crate::handing::settings_of;
-use crate::handing::size_of;
+use crate::numbers::hand_over;
+use crate::numbers::length_of;
+use crate::numbers::settings_of;
+use crate::numbers::size_of;
 use libfind::entry::find_names;
 use listing_rules::rows::LINE_WIDTH;
 use listing_rules::rows::line_at;

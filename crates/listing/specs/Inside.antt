@@ -9,8 +9,8 @@ use Rattle.tables.specs.by_name.Sheet.{keyBuckets}
 use Rattle.listing_rules.specs.declared.Line.{Line}
 use Rattle.listing_rules.specs.declared.Skip.{Skip}
 use Rattle.listing_rules.specs.Listing.{linesAt}
-use Rattle.listing_rules.specs.Growing.{Extends}
-use Rattle.listing.specs.position.Walking.{Known, segmentsOf}
+use Rattle.listing_rules.specs.FrontLines.{Extends}
+use Rattle.listing.specs.position.RowsAt.{Known, segmentsOf}
 
 module _ (cells : List ℕ) {rules : Rules} {library segments references : List ℕ} {n : ℕ} {placed positions noted goals : List ℕ} (k : Known rules library segments references n placed positions noted goals) (skip : Skip) where
   abbrev pub linesOf : ℕ → List Line

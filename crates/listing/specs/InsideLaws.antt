@@ -17,12 +17,12 @@ use Rattle.search_rules.specs.SearchRows.{placedSheet, notedSheet}
 use Rattle.listing_rules.specs.declared.Line.{Line}
 use Rattle.listing_rules.specs.declared.Skip.{Skip}
 use Rattle.listing_rules.specs.Listing.{notedLine, bestGrade, best, crowded}
-use Rattle.listing_rules.specs.Growing.{Extends, LeadsTo}
-use Rattle.listing_rules.specs.GrowingLaws.{extends-none, leads-first, leads-on, leads-same, leads-last}
-use Rattle.listing.specs.position.Walking.{Known, staysAt, lineOf, notedAtIt}
+use Rattle.listing_rules.specs.FrontLines.{Extends, LeadsTo}
+use Rattle.listing_rules.specs.FrontLineLaws.{extends-none, leads-first, leads-on, leads-same, leads-last}
+use Rattle.listing.specs.position.RowsAt.{Known, staysAt, lineOf, notedAtIt}
 use Rattle.listing.specs.position.RowLines.{noted-within}
 use Rattle.listing.specs.position.KnownLaws.{known-within}
-use Rattle.listing.specs.position.Finishing.{listed}
+use Rattle.listing.specs.position.PositionLines.{listed}
 use Rattle.listing.specs.position.FinishLaws.{met-listed}
 use Rattle.listing.specs.Inside.{linesOf, linesFrom}
 

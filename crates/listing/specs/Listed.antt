@@ -18,7 +18,7 @@ use Rattle.search.specs.Fills.{Fitted}
 use Rattle.listing_rules.specs.declared.Line.{Line}
 use Rattle.listing_rules.specs.declared.Skip.{Skip}
 use Rattle.listing_rules.specs.Listing.{listing, lineWidth, lineNumbers}
-use Rattle.listing_rules.specs.Growing.{Front}
+use Rattle.listing_rules.specs.FrontLines.{Front}
 
 -- what is known of rows in memory: which symbols and names they are of, and by which settings and segments they came
 pub record Rowed (rules : Rules) (library segments references : List ℕ) (n : ℕ) (placed : List ℕ) (symbols : ℕ) (noted : List ℕ) (names : ℕ) : Type 0 where

@@ -22,10 +22,10 @@ use Rattle.search_rules.specs.FindableLaws.{placed-reads, noted-reads}
 use Rattle.search.specs.Fills.{Fitted}
 use Rattle.listing_rules.specs.declared.Skip.{Skip}
 use Rattle.listing_rules.specs.Listing.{linesAt, leftovers, listing, lineWidth, lineNumbers}
-use Rattle.listing_rules.specs.Growing.{Front, Extends}
-use Rattle.listing_rules.specs.GrowingLaws.{numbers-length}
+use Rattle.listing_rules.specs.FrontLines.{Front, Extends}
+use Rattle.listing_rules.specs.FrontLineLaws.{numbers-length}
 use Rattle.listing.specs.grade.Sought.{Sought}
-use Rattle.listing.specs.position.Walking.{Known}
+use Rattle.listing.specs.position.RowsAt.{Known}
 use Rattle.listing.specs.Listed.{Rowed, gatheredIn, listOf, Leaves}
 
 -- no lines stand in front of any memory

@@ -1,10 +1,10 @@
 -- Ordering: the lines of a position in byte order of their names; each file of laws stands behind its definitions.
-pub mod Sorting
+pub mod InOrder
 pub mod InsertLaws
-pub mod RisingLaws
+pub mod InOrderLaws
 pub mod NameOrderLaws
 pub mod Order
-pub mod Passing
+pub mod Passes
 pub mod OrderLaws
 pub mod RegionLaws
 pub mod SinkLaws

@@ -1,6 +1,6 @@
 // The lines of the positions of the image, ascending.
 ghost use Rattle.image.specs.View.{view};
-ghost use Rattle.listing.specs.position.Finishing.{ListsAt};
+ghost use Rattle.listing.specs.position.PositionLines.{ListsAt};
 ghost use Rattle.listing.specs.Inside.{ListsInside};
 use crate::position::lines::list_position;
 use image::Stretch;

@@ -2,7 +2,7 @@
 ghost use Prim.Native.Nat.{_+_, _≤_, _<_};
 ghost use lib.ListN.{length};
 ghost use Rattle.listing.specs.order.Order.{Orders};
-ghost use Rattle.listing.specs.order.Passing.{Sinks, Passes};
+ghost use Rattle.listing.specs.order.Passes.{Sinks, Passes};
 use lent::names::before;
 use lent::names::name;
 use listing_rules::rows::line_at;

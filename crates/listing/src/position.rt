@@ -1,8 +1,8 @@
 // The lines of a position: its names of the best grade, in byte order.
+pub mod best_lines;
 pub mod lines;
 pub mod noted;
 pub mod placed;
-pub mod taking;
 
 // How many lines of the position have the best grade so far, and that grade.
 pub struct Best {

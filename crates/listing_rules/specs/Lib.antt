@@ -3,7 +3,7 @@ pub mod Listing
 pub mod ListingLaws
 pub mod LineLayout
 pub mod LineLayoutLaws
-pub mod Growing
-pub mod GrowingLaws
+pub mod FrontLines
+pub mod FrontLineLaws
 pub mod Print
 pub mod OneOutcome

@@ -1,4 +1,4 @@
 -- What a fixup leaves: a reference or nothing.
-pub mod Leaving
-pub mod LeavingLaws
+pub mod LeftReference
+pub mod LeftReferenceLaws
 pub mod OneOutcome

@@ -1,7 +1,7 @@
 // What a fixup leaves: a reference out of its content, or nothing.
 ghost use mathlib.Core.Path.{_≡_};
 ghost use Prim.Native.Nat.{_+_, _<_, _^_};
-ghost use Rattle.module_ids.specs.reference.Leaving.{codeNamed, placeIn, goalBy, kindKnown, leavesBy, leftBy};
+ghost use Rattle.module_ids.specs.reference.LeftReference.{codeNamed, placeIn, goalBy, kindKnown, leavesBy, leftBy};
 use crate::IdRow;
 use crate::KeptAs;
 use crate::fault::Verdict;

@@ -7,7 +7,7 @@ use lib.ListN.{length, getD, take}
 use Rattle.lent.specs.OneOutcome.{Determines}
 use Rattle.tables.specs.links.Index.{Linked, Cleared}
 use Rattle.tables.specs.links.OneOutcome.{unlink-one, link-one}
-use Rattle.module_index.specs.Indexing.{IndexedInto}
+use Rattle.module_index.specs.IndexedTables.{IndexedInto}
 
 module _ {A : Type 0} (is : List ℕ → ℕ → A → Type 0) (key : A → ℕ) (xs : List A) (keys₀ places₀ first₀ next₀ : List ℕ) where
   abbrev Outcome : List ℕ → List ℕ → List ℕ → List ℕ → ℕ → Type 0

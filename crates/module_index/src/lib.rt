@@ -7,7 +7,7 @@ ghost use Rattle.library.specs.Gathered.{itemsAt};
 ghost use Rattle.tables.specs.links.Index.{Cleared};
 ghost use Rattle.module_index.specs.gather.Places.{SectionIs, sectionKey, PublicIs, publicKey, isPublicDefinition};
 ghost use Rattle.module_index.specs.Indexed.{Blank};
-ghost use Rattle.module_index.specs.Indexing.{IndexedInto};
+ghost use Rattle.module_index.specs.IndexedTables.{IndexedInto};
 
 pub mod gather;
 pub mod owner;

@@ -1,9 +1,9 @@
 -- Printing: the printed list in a lent buffer; each file of laws stands behind its definitions.
-pub mod Printing
+pub mod PrintedText
 pub mod Pieces
 pub mod StoreLaws
 pub mod SpokenLaws
 pub mod PieceLaws
 pub mod PutLaws
-pub mod PrintingLaws
+pub mod PrintedTextLaws
 pub mod OneOutcome

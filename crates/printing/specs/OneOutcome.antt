@@ -6,7 +6,7 @@ use mathlib.Core.List.{List}
 use Rattle.lent.specs.OneOutcome.{Determines, by-equation}
 use Rattle.listing_rules.specs.declared.Line.{Line}
 use Rattle.listing_rules.specs.Print.{heading, printedLine, printed}
-use Rattle.printing.specs.Printing.{fittedText, storedLines}
+use Rattle.printing.specs.PrintedText.{fittedText, storedLines}
 
 pub print-heading-one : (out : List ℕ) → Determines (λ o. o ≡ fittedText heading out)
 print-heading-one out = by-equation (fittedText heading out)

@@ -6,7 +6,7 @@ ghost use lib.Dec.{leb};
 ghost use lib.ListN.{length};
 ghost use Rattle.describe.specs.Described.{Put};
 ghost use Rattle.listing_rules.specs.Print.{heading, printedLine, printed};
-ghost use Rattle.printing.specs.Printing.{fittedText, storedLines};
+ghost use Rattle.printing.specs.PrintedText.{fittedText, storedLines};
 
 mod pieces;
 mod sizes;

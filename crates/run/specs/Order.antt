@@ -11,7 +11,7 @@ use lib.Dec.{ltb}
 use Rattle.lent.specs.declared.refusal.Refusal.{Refusal}
 use Rattle.lent.specs.Choice.{orElse, leading}
 use Rattle.lent.specs.ChoiceLaws.{both, either}
-use Rattle.lent.specs.Leading.{Quiet, none≢some}
+use Rattle.lent.specs.FirstOf.{Quiet, none≢some}
 use Rattle.lent.specs.Lists.{all}
 use Rattle.lent.specs.Refusals.{refusalNumber}
 

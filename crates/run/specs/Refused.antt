@@ -11,7 +11,7 @@ use lib.ListN.{length}
 use Rattle.lent.specs.declared.refusal.Refusal.{Refusal}
 use Rattle.lent.specs.declared.refusal.Refusal.the-variants.{RuleSet, ImageTooLong, LibraryTooLong, StretchPastEnd, NoModule, BodyPastEnd, LengthZero, NamesDiffer, TooFewRows, UnknownKind, UnknownBlock, ContentPastSegment, NoKeptSegment}
 use Rattle.lent.specs.Choice.{when, leading}
-use Rattle.lent.specs.Leading.{Quiet, none≢some, leading-none, none-leading}
+use Rattle.lent.specs.FirstOf.{Quiet, none≢some, leading-none, none-leading}
 use Rattle.lent.specs.Lists.{all}
 use Rattle.lent.specs.Refusals.{refusalNumber}
 use Rattle.lent.specs.RefusalLaws.{number-tells, same-number, number-range}

@@ -13,7 +13,7 @@ use Rattle.lent.specs.declared.refusal.Refusal.{Refusal}
 use Rattle.lent.specs.declared.refusal.Refusal.the-variants.{RuleSet, ImageTooLong, LibraryTooLong, StretchPastEnd, NoModule, BodyPastEnd, LengthZero, NamesDiffer, TooFewRows, UnknownKind, UnknownBlock, ContentPastSegment, NoKeptSegment}
 use Rattle.lent.specs.Choice.{when}
 use Rattle.lent.specs.ChoiceLaws.{either}
-use Rattle.lent.specs.Leading.{none≢some}
+use Rattle.lent.specs.FirstOf.{none≢some}
 use Rattle.lent.specs.Refusals.{refusalNumber}
 use Rattle.lent.specs.RefusalLaws.{same-number, number-range}
 use Rattle.lent.specs.Rows.{tooMany}

@@ -19,8 +19,8 @@ use Rattle.search_rules.specs.declared.Asked.{Asked}
 use Rattle.search_rules.specs.Search.{Placing, Noting, isPlaced, isNoted, placed, noted, place, note}
 use Rattle.search_rules.specs.SearchRows.{placedWidth, notedWidth, placedSheet, notedSheet, placedNumbers, notedNumbers}
 use Rattle.search_rules.specs.FindableLaws.{placed-reads, noted-reads}
-use Rattle.search.specs.place.PlacingLaws.{place-single}
-use Rattle.search.specs.note.NotingLaws.{note-single}
+use Rattle.search.specs.place.PlacedSymbolLaws.{place-single}
+use Rattle.search.specs.note.NotedNameLaws.{note-single}
 
 -- no name stands twice at a position, nor is noted twice at a target
 fold-single : {A R : Type 0} (s : Sheet A R) (library : List ℕ) (step : List A → A → List A) → ((rows : List A) (x : A) → Single s library rows → Single s library (step rows x))

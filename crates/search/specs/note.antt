@@ -1,4 +1,4 @@
 -- Names are noted, and whether references hold.
-pub mod Noting
-pub mod NotingLaws
+pub mod NotedNames
+pub mod NotedNameLaws
 pub mod ReferLaws

@@ -1,3 +1,3 @@
 -- Symbols are placed.
-pub mod Placing
-pub mod PlacingLaws
+pub mod PlacedSymbols
+pub mod PlacedSymbolLaws

@@ -1,5 +1,5 @@
 -- The targets of references, and which segments match there.
 pub mod Seats
-pub mod MatchingLaws
+pub mod MatchLaws
 pub mod CountLaws
 pub mod OneOutcome

@@ -1,9 +1,9 @@
 // The symbols of a match are placed in lent memory.
 ghost use mathlib.Core.Path.{_≡_};
 ghost use lib.ListN.{length};
-ghost use Rattle.tables.specs.fill.Filling.{oneMore, putMore};
+ghost use Rattle.tables.specs.fill.FilledRows.{oneMore, putMore};
 ghost use Rattle.search_rules.specs.SearchRows.{placedLayout};
-ghost use Rattle.search.specs.place.Placing.{PlacesOne, PlacesAll};
+ghost use Rattle.search.specs.place.PlacedSymbols.{PlacesOne, PlacesAll};
 use crate::rows::put_placed;
 use lent::part::Part;
 use search_rules::PLACED_WIDTH;

@@ -5,7 +5,7 @@ use mathlib.Core.List.{List}
 use Rattle.lent.specs.Lists.{joined, fold}
 use Rattle.lent.specs.Rows.{Layout}
 use Rattle.tables.specs.declared.fill.Fill.{Fill}
-use Rattle.tables.specs.fill.Filling.{Leads}
+use Rattle.tables.specs.fill.FilledRows.{Leads}
 use Rattle.tables.specs.links.Follow.{Follows}
 
 pub record Adding {A R : Type 0} (is : ℕ → A → Type 0) (next : List ℕ) (l : Layout R) (of : A → List R) (all : List A) (m₀ : List ℕ) (f₀ : Fill) (last link : ℕ) (m : List ℕ) (f : Fill) : Type 0 where

@@ -7,8 +7,8 @@ use Rattle.lent.specs.Lists.{joined, fold}
 use Rattle.lent.specs.ListLaws.{joined-turn, joined-end, fold-turn, fold-end}
 use Rattle.lent.specs.Rows.{Layout}
 use Rattle.tables.specs.declared.fill.Fill.{Fill}
-use Rattle.tables.specs.fill.Filling.{Adds}
-use Rattle.tables.specs.fill.AddingLaws.{lead-on, all-added}
+use Rattle.tables.specs.fill.FilledRows.{Adds}
+use Rattle.tables.specs.fill.AddedRowLaws.{lead-on, all-added}
 use Rattle.tables.specs.links.Follow.{Follows}
 use Rattle.tables.specs.links.FollowLaws.{Met, follows-end, follows-step}
 use Rattle.segment_parts.specs.Along.{Adding, Merging}

@@ -2,10 +2,10 @@
 ghost use mathlib.Core.Path.{_≡_};
 ghost use lib.ListN.{length};
 ghost use Rattle.segments.specs.SegmentLayouts.{referenceLayout};
-ghost use Rattle.tables.specs.fill.Filling.{Adds};
+ghost use Rattle.tables.specs.fill.FilledRows.{Adds};
 ghost use Rattle.library.specs.items.Left.{fixupsLeft};
-ghost use Rattle.module_ids.specs.reference.Leaving.{leftBy};
-ghost use Rattle.segment_parts.specs.Referring.{Placeable, Refers, RefersAlong};
+ghost use Rattle.module_ids.specs.reference.LeftReference.{leftBy};
+ghost use Rattle.segment_parts.specs.AddedReferences.{Placeable, Refers, RefersAlong};
 use library::items::Cursor;
 use library::items::NextContent;
 use library::items::NextFixup;

@@ -1,7 +1,7 @@
 // The symbols of a segment, from the public definitions of its id.
 ghost use mathlib.Core.Path.{_≡_};
 ghost use Prim.Native.Nat.{_-_, _<_, _^_};
-ghost use Rattle.segment_parts.specs.Naming.{carriesAt, baseOf, NamesOne, NamesAlong};
+ghost use Rattle.segment_parts.specs.AddedSymbols.{carriesAt, baseOf, NamesOne, NamesAlong};
 use crate::carried::Carried;
 use lent::part::Part;
 use library::items::decoded::word;

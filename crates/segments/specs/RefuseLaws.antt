@@ -12,7 +12,7 @@ use Rattle.lent.specs.declared.refusal.Refusal.{Refusal}
 use Rattle.lent.specs.declared.refusal.Refusal.the-variants.{UnknownKind, UnknownBlock, ContentPastSegment, NoKeptSegment}
 use Rattle.lent.specs.Choice.{when}
 use Rattle.lent.specs.ChoiceLaws.{chosen, both}
-use Rattle.lent.specs.Leading.{none≢some, First, leading-at}
+use Rattle.lent.specs.FirstOf.{none≢some, First, leading-at}
 use Rattle.lent.specs.Refusals.{refusalNumber}
 use Rattle.lent.specs.RefusalLaws.{same-number}
 use Rattle.omf51.specs.declared.Content.{Content}

@@ -1,7 +1,7 @@
 // A row of the collection is put behind the rows before it, if there is room; each function gives the fill afterwards.
 ghost use mathlib.Core.Path.{_≡_};
 ghost use lib.ListN.{length};
-ghost use Rattle.tables.specs.fill.Filling.{oneMore, putMore};
+ghost use Rattle.tables.specs.fill.FilledRows.{oneMore, putMore};
 ghost use Rattle.segments.specs.SegmentLayouts.{segmentLayout, referenceLayout, symbolLayout};
 use crate::Reference;
 use crate::SegmentRow;

@@ -1,5 +1,5 @@
 -- Lent memory that is filled with rows until there is no room.
-pub mod Filling
-pub mod FillingLaws
-pub mod AddingLaws
+pub mod FilledRows
+pub mod FilledRowLaws
+pub mod AddedRowLaws
 pub mod OneOutcome

@@ -1,6 +1,6 @@
 // Lent memory that is filled with rows, one after another, until there is no room.
 ghost use mathlib.Core.Path.{_≡_};
-ghost use Rattle.tables.specs.fill.Filling.{oneMore};
+ghost use Rattle.tables.specs.fill.FilledRows.{oneMore};
 
 // How many rows were put, and whether there was no room for a further row. Once `over` is set no row is put any more,
 // and the number of rows means nothing.

@@ -7,7 +7,7 @@ use lib.ListN.{length}
 use Rattle.lent.specs.Lists.{joined, fold}
 use Rattle.lent.specs.Rows.{Layout, zeros}
 use Rattle.lent.specs.RowLaws.{padded-nil}
-use Rattle.tables.specs.fill.Filling.{Holds}
+use Rattle.tables.specs.fill.FilledRows.{Holds}
 use Rattle.image.specs.declared.fixup.Rules.{Rules}
 use Rattle.omf51.specs.Module.{Module}
 use Rattle.segments.specs.Collect.{Collected, moduleSegments, collect}

@@ -23,8 +23,8 @@ use Rattle.library.specs.items.ForwardLaws.{Ordered, definition-goes}
 use Rattle.segments.specs.Ids.{isKept, segmentOf}
 use Rattle.module_ids.specs.IdRows.{keptAs, idRow}
 use Rattle.module_ids.specs.Noted.{Tells}
-use Rattle.module_ids.specs.reference.Leaving.{placeIn}
-use Rattle.segment_parts.specs.Referring.{Placeable}
+use Rattle.module_ids.specs.reference.LeftReference.{placeIn}
+use Rattle.segment_parts.specs.AddedReferences.{Placeable}
 
 left-few : (library : List ℕ) (n : ℕ) (c : Cursor) → Ordered c → c .at ≤ length library → length (definitionsLeft library c) ≡ n → c .at + n ≤ length library
 left-few library zero c o h e = omega arith

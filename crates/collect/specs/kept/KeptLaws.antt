@@ -9,7 +9,7 @@ use borrow.Author.Tests.{ne-eqb}
 use lib.Dec.{eqb}
 use lib.ListN.{length, getD, getElem?}
 use Rattle.lent.specs.Choice.{if_then_else_}
-use Rattle.lent.specs.Leading.{none≢some}
+use Rattle.lent.specs.FirstOf.{none≢some}
 use Rattle.lent.specs.Lists.{one, keep, placeOf, first, numbered}
 use Rattle.lent.specs.ListLaws.{numbered-length}
 use Rattle.omf51.specs.declared.Definition.{Definition}

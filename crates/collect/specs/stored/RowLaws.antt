@@ -10,8 +10,8 @@ use lib.ListN.{length}
 use Rattle.lent.specs.declared.part.Part.{Part}
 use Rattle.tables.specs.declared.fill.Fill.{Fill}
 use Rattle.lent.specs.ChoiceLaws.{chosen}
-use Rattle.tables.specs.fill.Filling.{oneMore, putMore}
-use Rattle.tables.specs.fill.FillingLaws.{put-more-length}
+use Rattle.tables.specs.fill.FilledRows.{oneMore, putMore}
+use Rattle.tables.specs.fill.FilledRowLaws.{put-more-length}
 use Rattle.image.specs.declared.Seat.{Seat}
 use Rattle.segments.specs.SegmentLayouts.{segmentLayout}
 use Rattle.collect.specs.declared.stored.CollectCounts.{CollectCounts}

@@ -5,7 +5,7 @@ use mathlib.Core.List.{List}
 use Rattle.lent.specs.declared.part.Part.{Part}
 use Rattle.lent.specs.Choice.{if_then_else_}
 use Rattle.tables.specs.declared.fill.Fill.{Fill}
-use Rattle.tables.specs.fill.Filling.{oneMore, putMore}
+use Rattle.tables.specs.fill.FilledRows.{oneMore, putMore}
 use Rattle.image.specs.declared.Seat.{Seat}
 use Rattle.segments.specs.declared.SegmentRow.{SegmentRow}
 use Rattle.segments.specs.SegmentLayouts.{segmentLayout}

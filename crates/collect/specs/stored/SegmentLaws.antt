@@ -21,11 +21,11 @@ use Rattle.omf51.specs.Module.{Section, Module}
 use Rattle.segments.specs.Ids.{sizeOf, idOf}
 use Rattle.segments.specs.Collect.{leaves, referencesOf, symbolOf, symbolsOf, keptSegment, absoluteId, insideOf, symbolBase, absoluteSegment}
 use Rattle.module_index.specs.gather.Places.{publicKey, isPublicDefinition}
-use Rattle.module_ids.specs.reference.LeavingLaws.{leaves-by-row}
+use Rattle.module_ids.specs.reference.LeftReferenceLaws.{leaves-by-row}
 use Rattle.segment_parts.specs.declared.carried.Carried.{Carried}
 use Rattle.segment_parts.specs.declared.carried.Carried.the-variants.{All, Inside}
-use Rattle.segment_parts.specs.Referring.{leavesIn, sectionLeaves}
-use Rattle.segment_parts.specs.Naming.{carriesAt, baseOf, symbolBy}
+use Rattle.segment_parts.specs.AddedReferences.{leavesIn, sectionLeaves}
+use Rattle.segment_parts.specs.AddedSymbols.{carriesAt, baseOf, symbolBy}
 use Rattle.collect.specs.stored.Segments.{keptOf, absoluteOf, WholeContent, publicsOf, sectionsFor, ownBy}
 
 -- a content within the library has as many bytes as it says

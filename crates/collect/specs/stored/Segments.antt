@@ -23,8 +23,8 @@ use Rattle.tables.specs.links.Follow.{Follows}
 use Rattle.module_index.specs.gather.Places.{SectionIs, PublicIs, publicKey, isPublicDefinition}
 use Rattle.module_ids.specs.Noted.{Tells}
 use Rattle.segment_parts.specs.declared.carried.Carried.the-variants.{All, Inside}
-use Rattle.segment_parts.specs.Referring.{leavesIn, sectionLeaves}
-use Rattle.segment_parts.specs.Naming.{symbolBy}
+use Rattle.segment_parts.specs.AddedReferences.{leavesIn, sectionLeaves}
+use Rattle.segment_parts.specs.AddedSymbols.{symbolBy}
 use Rattle.segment_parts.specs.symbols_by_offset.Flags.{Clear}
 use Rattle.segment_parts.specs.symbols_by_offset.Inside.{Offered}
 use Rattle.collect.specs.declared.stored.CollectCounts.{CollectCounts}

@@ -10,8 +10,8 @@ use Rattle.lent.specs.Lists.{one, joined}
 use Rattle.lent.specs.ListLaws.{joined-snoc}
 use Rattle.lent.specs.Rows.{Layout}
 use Rattle.tables.specs.declared.fill.Fill.{Fill}
-use Rattle.tables.specs.fill.Filling.{oneMore, putMore, Holds, Filling, Adds}
-use Rattle.tables.specs.fill.FillingLaws.{filled-more}
+use Rattle.tables.specs.fill.FilledRows.{oneMore, putMore, Holds, Filling, Adds}
+use Rattle.tables.specs.fill.FilledRowLaws.{filled-more}
 use Rattle.image.specs.declared.Seat.{Seat}
 use Rattle.segments.specs.declared.SegmentRow.{SegmentRow}
 use Rattle.segments.specs.Collect.{Collected}

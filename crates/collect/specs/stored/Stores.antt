@@ -5,7 +5,7 @@ use mathlib.Core.List.{List, _++_}
 use lib.ListN.{length}
 use Rattle.lent.specs.Lists.{joined}
 use Rattle.lent.specs.Rows.{padded}
-use Rattle.tables.specs.fill.Filling.{Holds}
+use Rattle.tables.specs.fill.FilledRows.{Holds}
 use Rattle.segments.specs.declared.Reference.{Reference}
 use Rattle.segments.specs.declared.Symbol.{Symbol}
 use Rattle.segments.specs.Collect.{Collected}

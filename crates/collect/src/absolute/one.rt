@@ -2,7 +2,7 @@
 ghost use Prim.Native.Nat.{_≤_};
 ghost use lib.ListN.{length};
 ghost use Rattle.library.specs.items.Left.{fixupsLeft};
-ghost use Rattle.segment_parts.specs.Referring.{Placeable};
+ghost use Rattle.segment_parts.specs.AddedReferences.{Placeable};
 ghost use Rattle.segment_parts.specs.symbols_by_offset.Flags.{Clear};
 ghost use Rattle.collect.specs.stored.Segments.{lists, WholeContent, StoresAbsolute};
 use crate::stored::CollectCounts;

@@ -1,7 +1,7 @@
 // One kept segment: its pattern, its references, its symbols, and then its row.
 ghost use Prim.Native.Nat.{_≤_};
 ghost use lib.ListN.{length};
-ghost use Rattle.segment_parts.specs.Referring.{Placeable};
+ghost use Rattle.segment_parts.specs.AddedReferences.{Placeable};
 ghost use Rattle.collect.specs.stored.Segments.{lists, StoresKept};
 use crate::stored::CollectCounts;
 use crate::stored::Stored;

@@ -1,7 +1,7 @@
 // All segments of a module: its kept segments first, then its absolute contents.
 ghost use Prim.Native.Nat.{_≤_};
 ghost use lib.ListN.{length};
-ghost use Rattle.segment_parts.specs.Referring.{Placeable};
+ghost use Rattle.segment_parts.specs.AddedReferences.{Placeable};
 ghost use Rattle.module_index.specs.Indexed.{Blank};
 ghost use Rattle.collect.specs.stored.Segments.{lists};
 ghost use Rattle.collect.specs.one_module.Parts.{FlagsReady, StoresBothParts};

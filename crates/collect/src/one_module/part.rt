@@ -2,7 +2,7 @@
 // them blank: the first with all public definitions by id, the second with those of id 0 by offset.
 ghost use Prim.Native.Nat.{_≤_};
 ghost use lib.ListN.{length};
-ghost use Rattle.segment_parts.specs.Referring.{Placeable};
+ghost use Rattle.segment_parts.specs.AddedReferences.{Placeable};
 ghost use Rattle.module_index.specs.Indexed.{Blank};
 ghost use Rattle.collect.specs.stored.Segments.{lists};
 ghost use Rattle.collect.specs.one_module.Parts.{FlagsReady, StoresFirstPart, StoresSecondPart};

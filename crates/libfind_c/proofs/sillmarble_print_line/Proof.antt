@@ -2,7 +2,7 @@
 use mathlib.Core.Path.{ap, _∙_}
 use Rattle.listing_rules.specs.declared.Line.{Line}
 use Rattle.listing_rules.specs.Print.{printedLine}
-use Rattle.printing.specs.Printing.{fittedText}
+use Rattle.printing.specs.PrintedText.{fittedText}
 use Rattle.libfind_c.specs.Exported.{writtenIn}
 use borrow.Author.Needs.{needs}
 use Rattle.libfind_c.proofs.sillmarble_print_line.Statement.{statement}

@@ -8,7 +8,7 @@ use lib.ListN.{length, getD, set}
 use lib.Seq.{getD-set-same, set-set}
 use Rattle.lent.specs.Lists.{one, fold, insert, sorted}
 use Rattle.lent.specs.Members.{_among_}
-use Rattle.listing.specs.order.Sorting.{Strict, Comparable, Every}
+use Rattle.listing.specs.order.InOrder.{Strict, Comparable, Every}
 
 pub every-set : {A : Type 0} (C : A → Type 0) (xs : List A) (i : ℕ) (v : A) → Every C xs → C v → Every C (set xs i v)
 every-set C [] i v e c = tt

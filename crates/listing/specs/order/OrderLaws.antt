@@ -8,12 +8,12 @@ use Rattle.lent.specs.Lists.{sorted}
 use Rattle.lent.specs.Members.{_among_}
 use Rattle.lent.specs.Parts.{bytesOf, before}
 use Rattle.listing_rules.specs.declared.Line.{Line}
-use Rattle.listing.specs.order.Sorting.{Strict, Comparable, Rising}
+use Rattle.listing.specs.order.InOrder.{Strict, Comparable, Rising}
 use Rattle.listing.specs.order.NameOrderLaws.{before-never, before-through, before-neither}
 use Rattle.listing.specs.order.InsertLaws.{every-mine, turned}
-use Rattle.listing.specs.order.RisingLaws.{in-order}
+use Rattle.listing.specs.order.InOrderLaws.{in-order}
 use Rattle.listing.specs.order.Order.{byName, Apart}
-use Rattle.listing.specs.order.Passing.{noLine, placed}
+use Rattle.listing.specs.order.Passes.{noLine, placed}
 
 pub by-name : (library : List ℕ) → Strict (byName library)
 by-name library = record {

@@ -10,11 +10,11 @@ use Rattle.lent.specs.ListLaws.{rows-length}
 use Rattle.lent.specs.Members.{_among_}
 use Rattle.listing_rules.specs.Listing.{lineWidth, lineCells, lineNumbers}
 use Rattle.listing_rules.specs.LineLayoutLaws.{line-width}
-use Rattle.listing.specs.order.Sorting.{Rising}
+use Rattle.listing.specs.order.InOrder.{Rising}
 use Rattle.listing.specs.order.InsertLaws.{every-mine}
-use Rattle.listing.specs.order.RisingLaws.{in-order}
+use Rattle.listing.specs.order.InOrderLaws.{in-order}
 use Rattle.listing.specs.order.Order.{byName, Region, memory}
-use Rattle.listing.specs.order.Passing.{noLine, placed, Stands, Passed}
+use Rattle.listing.specs.order.Passes.{noLine, placed, Stands, Passed}
 use Rattle.listing.specs.order.OrderLaws.{by-name, apart-compare}
 
 module _ {library : List ℕ} {from n : ℕ} (r : Region library from n) (m : List ℕ) where

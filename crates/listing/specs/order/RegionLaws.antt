@@ -16,7 +16,7 @@ use Rattle.listing_rules.specs.Listing.{lineWidth, lineCells, lineNumbers}
 use Rattle.listing_rules.specs.LineLayout.{lineLayout, lineAt}
 use Rattle.listing_rules.specs.LineLayoutLaws.{line-width, line-back}
 use Rattle.listing.specs.order.Order.{Region, memory}
-use Rattle.listing.specs.order.Passing.{noLine, placed}
+use Rattle.listing.specs.order.Passes.{noLine, placed}
 
 -- a run of stores over as many numbers
 stored-over : (p old new q : List ℕ) (n : ℕ) → length p ≡ n → length old ≡ length new → sets (p ++ (old ++ q)) n new ≡ p ++ (new ++ q)

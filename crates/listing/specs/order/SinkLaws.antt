@@ -12,11 +12,11 @@ use Rattle.lent.specs.Rows.{putRow}
 use Rattle.listing_rules.specs.declared.Line.{Line}
 use Rattle.listing_rules.specs.Listing.{lineWidth, lineCells}
 use Rattle.listing_rules.specs.LineLayout.{lineAt}
-use Rattle.listing.specs.order.Sorting.{Every}
+use Rattle.listing.specs.order.InOrder.{Every}
 use Rattle.listing.specs.order.InsertLaws.{every-set, every-at, shifted}
-use Rattle.listing.specs.order.RisingLaws.{sinking-starts, sinking-ends, step-down}
+use Rattle.listing.specs.order.InOrderLaws.{sinking-starts, sinking-ends, step-down}
 use Rattle.listing.specs.order.Order.{byName, Region, memory}
-use Rattle.listing.specs.order.Passing.{noLine, placed, Passed, Held}
+use Rattle.listing.specs.order.Passes.{noLine, placed, Passed, Held}
 use Rattle.listing.specs.order.OrderLaws.{by-name, apart-compare}
 use Rattle.listing.specs.order.RegionLaws.{region-line, region-put}
 

@@ -17,7 +17,7 @@ use Rattle.search_rules.specs.SearchRows.{notedWidth, notedSheet}
 use Rattle.listing_rules.specs.declared.Skip.{Skip}
 use Rattle.listing_rules.specs.declared.Line.{Line}
 use Rattle.listing_rules.specs.Listing.{notedLine, crowded, leftovers, lineWidth, lineCells, lineNumbers}
-use Rattle.listing_rules.specs.Growing.{Extends}
+use Rattle.listing_rules.specs.FrontLines.{Extends}
 
 -- the name that a row notes, and the target of row k
 abbrev pub notingOf : Noted → Noting

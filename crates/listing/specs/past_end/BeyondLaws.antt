@@ -18,8 +18,8 @@ use Rattle.search_rules.specs.FindableLaws.{noted-reads}
 use Rattle.listing_rules.specs.declared.Skip.{Skip}
 use Rattle.listing_rules.specs.declared.Line.{Line}
 use Rattle.listing_rules.specs.Listing.{notedLine, crowded, isLeftover, leftovers}
-use Rattle.listing_rules.specs.Growing.{LeadsTo}
-use Rattle.listing_rules.specs.GrowingLaws.{leads-first, leads-on, leads-same, leads-last, leads-over}
+use Rattle.listing_rules.specs.FrontLines.{LeadsTo}
+use Rattle.listing_rules.specs.FrontLineLaws.{leads-first, leads-on, leads-same, leads-last, leads-over}
 use Rattle.listing.specs.past_end.SortLaws.{keep-same, keep-none, byKey, at, ordered, ordered-turn, ordered-skip, ordered-none}
 use Rattle.listing.specs.past_end.Beyond.{targetAt, sought, linesOf, spanned, NonePast, NoneBefore, ListsSpan, ListsBeyond}
 use Rattle.listing.specs.past_end.BucketLaws.{noNoting}

@@ -13,8 +13,8 @@ use Rattle.search_rules.specs.Search.{Noting}
 use Rattle.listing_rules.specs.declared.Skip.{Skip}
 use Rattle.listing_rules.specs.declared.Line.{Line}
 use Rattle.listing_rules.specs.Listing.{notedLine, crowded, lineWidth}
-use Rattle.listing_rules.specs.Growing.{Front, Extends, LeadsTo}
-use Rattle.listing_rules.specs.GrowingLaws.{extends-none, extends-over, leads-on}
+use Rattle.listing_rules.specs.FrontLines.{Front, Extends, LeadsTo}
+use Rattle.listing_rules.specs.FrontLineLaws.{extends-none, extends-over, leads-on}
 use Rattle.listing.specs.past_end.Beyond.{sought, linesOf, spanned, NotedBy, HeadedBy, Counts, Wrote, WritesAll, ListsBucket, ListsTarget, ListsSpan}
 use Rattle.listing.specs.past_end.BucketLaws.{first-none}
 use Rattle.listing.specs.past_end.WriteLaws.{front-more}

@@ -11,8 +11,8 @@ use Rattle.lent.specs.Rows.{putRow}
 use Rattle.lent.specs.RowLaws.{put-there}
 use Rattle.listing_rules.specs.declared.Line.{Line}
 use Rattle.listing_rules.specs.Listing.{lineWidth, lineCells, lineNumbers}
-use Rattle.listing_rules.specs.Growing.{Fronts}
-use Rattle.listing_rules.specs.GrowingLaws.{numbers-length}
+use Rattle.listing_rules.specs.FrontLines.{Fronts}
+use Rattle.listing_rules.specs.FrontLineLaws.{numbers-length}
 use Rattle.listing.specs.past_end.Beyond.{Wrote}
 
 -- none yet

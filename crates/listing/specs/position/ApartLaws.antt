@@ -22,7 +22,7 @@ use Rattle.search_rules.specs.SearchRows.{placedSheet, notedSheet}
 use Rattle.listing_rules.specs.declared.Line.{Line}
 use Rattle.listing_rules.specs.Listing.{notedLine, bestGrade, best, borneOut, grade, stays, placedLine, gradedAt}
 use Rattle.listing.specs.order.Order.{Apart}
-use Rattle.listing.specs.position.Walking.{notedAtIt}
+use Rattle.listing.specs.position.RowsAt.{notedAtIt}
 use Rattle.listing.specs.position.RowLines.{some-grade}
 
 -- one that passes is met

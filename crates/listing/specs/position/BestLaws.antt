@@ -12,8 +12,8 @@ use Rattle.lent.specs.Rows.{putRow}
 use Rattle.lent.specs.RowLaws.{put-lacks, put-length}
 use Rattle.listing_rules.specs.declared.Line.{Line}
 use Rattle.listing_rules.specs.Listing.{bestGrade, best, lineWidth, lineCells}
-use Rattle.listing_rules.specs.Growing.{Fronts}
-use Rattle.listing_rules.specs.GrowingLaws.{put-front, put-next}
+use Rattle.listing_rules.specs.FrontLines.{Fronts}
+use Rattle.listing_rules.specs.FrontLineLaws.{put-front, put-next}
 use Rattle.listing.specs.declared.position.Best.{Best}
 use Rattle.listing.specs.position.Bests.{Region, Bests}
 

@@ -11,7 +11,7 @@ use Rattle.search_rules.specs.declared.Placed.{Placed}
 use Rattle.search_rules.specs.declared.Noted.{Noted}
 use Rattle.listing_rules.specs.declared.Line.{Line}
 use Rattle.listing_rules.specs.Listing.{bestGrade, best, lineWidth}
-use Rattle.listing_rules.specs.Growing.{Fronts}
+use Rattle.listing_rules.specs.FrontLines.{Fronts}
 use Rattle.listing.specs.declared.position.Best.{Best}
 
 -- some stand behind the lines in front, as far as there is room

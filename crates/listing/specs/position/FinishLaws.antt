@@ -14,15 +14,15 @@ use Rattle.image.specs.declared.fixup.Rules.{Rules}
 use Rattle.listing_rules.specs.declared.Line.{Line}
 use Rattle.listing_rules.specs.declared.Skip.{Skip}
 use Rattle.listing_rules.specs.Listing.{notedLine, best, crowded, gradedAt, linesAt, lineWidth, lineNumbers}
-use Rattle.listing_rules.specs.Growing.{Fronts, Front}
-use Rattle.listing_rules.specs.GrowingLaws.{numbers-length}
+use Rattle.listing_rules.specs.FrontLines.{Fronts, Front}
+use Rattle.listing_rules.specs.FrontLineLaws.{numbers-length}
 use Rattle.listing.specs.order.Order.{byName, Apart, Region, Orders}
 use Rattle.listing.specs.order.OrderLaws.{sorted-reverse}
 use Rattle.listing.specs.declared.position.Best.{Best}
 use Rattle.listing.specs.position.Bests.{Bests}
-use Rattle.listing.specs.position.Walking.{Known, segmentsOf, staysAt, lineOf, notedAtIt}
+use Rattle.listing.specs.position.RowsAt.{Known, segmentsOf, staysAt, lineOf, notedAtIt}
 use Rattle.listing.specs.position.ApartLaws.{of-reverse, best-apart, best-small}
-use Rattle.listing.specs.position.Finishing.{listed}
+use Rattle.listing.specs.position.PositionLines.{listed}
 
 -- in order, they are as many
 insert-length : {A : Type 0} (less : A → A → Bool) (x : A) (ys : List A) → length (insert less x ys) ≡ length ys + 1

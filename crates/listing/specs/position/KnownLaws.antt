@@ -15,7 +15,7 @@ use Rattle.listing_rules.specs.Listing.{grade}
 use Rattle.listing.specs.grade.Grades.{rowGrade}
 use Rattle.listing.specs.grade.SoughtLaws.{grade-is}
 use Rattle.listing.specs.position.Bests.{placedLines}
-use Rattle.listing.specs.position.Walking.{Known, segmentsOf, staysAt, lineOf}
+use Rattle.listing.specs.position.RowsAt.{Known, segmentsOf, staysAt, lineOf}
 use Rattle.listing.specs.position.RowLines.{placed-within, placed-lines}
 
 -- the lines that the code makes of a placed row

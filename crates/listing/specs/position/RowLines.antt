@@ -18,7 +18,7 @@ use Rattle.search_rules.specs.Search.{Placing, Noting, isNoted}
 use Rattle.search_rules.specs.SearchRows.{placedSheet, notedSheet}
 use Rattle.listing_rules.specs.Listing.{notedLine, placedLine, stays, borneOut, grade}
 use Rattle.listing.specs.position.Bests.{notedLines, placedLines}
-use Rattle.listing.specs.position.Walking.{notedAtIt}
+use Rattle.listing.specs.position.RowsAt.{notedAtIt}
 
 -- what is at a position is in its bucket
 in-bucket : (key at : ℕ) (rest : Bool) → at < keyBuckets → (eqb key at && rest) ≡ true → keyBucket key ≡ at

@@ -3,7 +3,7 @@ ghost use mathlib.Core.Path.{_≡_};
 ghost use Prim.Native.Nat.{_/_, _≤_};
 ghost use lib.ListN.{length};
 ghost use Rattle.image.specs.View.{view};
-ghost use Rattle.listing.specs.position.Finishing.{Finishes, ListsAt};
+ghost use Rattle.listing.specs.position.PositionLines.{Finishes, ListsAt};
 use crate::order::order;
 use crate::position::Best;
 use crate::position::noted::walk_noted;

@@ -2,9 +2,9 @@
 ghost use Prim.Native.Nat.{_+_, _/_, _<_, _≤_};
 ghost use lib.ListN.{length};
 ghost use Rattle.listing.specs.position.Bests.{Meets, notedLines};
-ghost use Rattle.listing.specs.position.Walking.{WalksNoted};
+ghost use Rattle.listing.specs.position.RowsAt.{WalksNoted};
 use crate::position::Best;
-use crate::position::taking::take_in;
+use crate::position::best_lines::take_in;
 use listing_rules::Line;
 use search::rows::noted_at;
 use search_rules::NOTED_WIDTH;

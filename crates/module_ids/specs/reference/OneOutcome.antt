@@ -8,7 +8,7 @@ use Rattle.segments.specs.declared.Reference.{Reference}
 use Rattle.module_ids.specs.declared.IdRow.{IdRow}
 use Rattle.module_ids.specs.declared.reference.Leaves.{Leaves}
 use Rattle.module_ids.specs.declared.reference.Leaves.the-variants as Leaves
-use Rattle.module_ids.specs.reference.Leaving.{leavesBy, leftBy}
+use Rattle.module_ids.specs.reference.LeftReference.{leavesBy, leftBy}
 
 -- back from the list
 leavesOf : List Reference → Leaves

@@ -1,6 +1,6 @@
 -- `index_publics` gathers, and links what was gathered. Assumes nothing.
 use Rattle.module_index.specs.gather.Places.{publicKey, PublicIs, noDefinition}
-use Rattle.module_index.specs.IndexingLaws.{indexed-within, indexed-ready, indexed-linked}
+use Rattle.module_index.specs.IndexedTableLaws.{indexed-within, indexed-ready, indexed-linked}
 use borrow.Author.Needs.{needs}
 use Rattle.module_index.proofs.index_publics.Statement.{statement}
 use Rattle.module_index.proofs.index_publics.Tie as tie

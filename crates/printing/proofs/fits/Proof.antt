@@ -7,9 +7,9 @@ use native.Mathlib.Omega.{arith}
 use lib.Dec.{leb}
 use lib.ListN.{length}
 use Rattle.listing_rules.specs.Print.{printedLine, printed}
-use Rattle.printing.specs.Printing.{storedLines}
+use Rattle.printing.specs.PrintedText.{storedLines}
 use Rattle.printing.specs.Pieces.{linesFrom}
-use Rattle.printing.specs.PrintingLaws.{room-none, room-heading, room-turn, room-short, room-end}
+use Rattle.printing.specs.PrintedTextLaws.{room-none, room-heading, room-turn, room-short, room-end}
 use borrow.Author.Needs.{needs}
 
 abbrev Inv-loop : tie.InvT-loop

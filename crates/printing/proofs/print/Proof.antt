@@ -6,8 +6,8 @@ use mathlib.Core.Path.{sym, _∙_}
 use lib.ListN.{length}
 use borrow.Author.Tests.{leb-true, leb-false}
 use Rattle.listing_rules.specs.Print.{printed}
-use Rattle.printing.specs.Printing.{storedLines}
-use Rattle.printing.specs.PrintingLaws.{too-long, fitting}
+use Rattle.printing.specs.PrintedText.{storedLines}
+use Rattle.printing.specs.PrintedTextLaws.{too-long, fitting}
 
 put-all-requires : tie.Need-put-all-requires
 put-all-requires c κs = let a = c .before .before .before .before .before .before .args in

@@ -3,7 +3,7 @@ use borrow.Author.Needs.{needs}
 use Rattle.printing.proofs.print_heading.Statement.{statement}
 use Rattle.printing.proofs.print_heading.Tie as tie
 use Rattle.listing_rules.specs.Print.{heading}
-use Rattle.printing.specs.PrintingLaws.{too-long, fitting}
+use Rattle.printing.specs.PrintedTextLaws.{too-long, fitting}
 
 returns : tie.Need-returns
 returns c = too-long heading (c .before .before .args .out .now) (c .if1 .taken)

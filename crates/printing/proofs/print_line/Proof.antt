@@ -4,7 +4,7 @@ use Rattle.printing.proofs.print_line.Statement.{statement}
 use Rattle.printing.proofs.print_line.Tie as tie
 use native.Mathlib.Omega.{arith}
 use Rattle.listing_rules.specs.Print.{printedLine}
-use Rattle.printing.specs.PrintingLaws.{too-long, fitting}
+use Rattle.printing.specs.PrintedTextLaws.{too-long, fitting}
 
 returns : tie.Need-returns
 returns c = let a = c .before .before .before .before .args in too-long (printedLine (a .library .now) (a .line)) (a .out .now) (omega (arith, c .before .line .ensures))

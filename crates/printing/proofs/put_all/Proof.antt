@@ -13,7 +13,7 @@ use Rattle.listing_rules.specs.Print.{printedLine}
 use Rattle.printing.specs.StoreLaws.{put-nothing}
 use Rattle.printing.specs.PutLaws.{put-as}
 use Rattle.printing.specs.Pieces.{linesFrom}
-use Rattle.printing.specs.PrintingLaws.{lines-all, line-fits, done-more, done-all, printed-length}
+use Rattle.printing.specs.PrintedTextLaws.{lines-all, line-fits, done-more, done-all, printed-length}
 use borrow.Author.Needs.{needs}
 
 record Turn (library lines : List ℕ) (n : ℕ) (out₀ : List ℕ) (at₀ : ℕ) (out : List ℕ) (at i : ℕ) : Type 0 where

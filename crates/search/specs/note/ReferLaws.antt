@@ -20,7 +20,7 @@ use Rattle.search_rules.specs.Search.{holdsAt, noteAt, note}
 use Rattle.search_rules.specs.SearchRows.{notedSheet}
 use Rattle.search.specs.targets.Seats.{IsMatch}
 use Rattle.search.specs.declared.note.Referred.{Referred}
-use Rattle.search.specs.note.Noting.{NotesOne, leads, notesOf, holdsIn, Refers}
+use Rattle.search.specs.note.NotedNames.{NotesOne, leads, notesOf, holdsIn, Refers}
 
 module _ (cells : List ℕ) (rules : Rules) (position : ℕ) (valid : Bool) (library segments : List ℕ) (n : ℕ) (bytes masks : List ℕ) (r : Reference) where
   -- what the only one notes, and whether it holds

@@ -19,8 +19,8 @@ use Rattle.segments.specs.SegmentLayouts.{referenceLayout, symbolLayout, segmen
 use Rattle.segments.specs.recalled.Recall.{rowsOf, recalledBy, recalled}
 use Rattle.search_rules.specs.declared.Asked.{Asked}
 use Rattle.search_rules.specs.Search.{Match, Placing, positions, matchesOf, allMatches, isValid, holds, notes, symbolAt, symbolsAt}
-use Rattle.search.specs.place.Placing.{placingOf}
-use Rattle.search.specs.note.Noting.{notesOf, holdsIn}
+use Rattle.search.specs.place.PlacedSymbols.{placingOf}
+use Rattle.search.specs.note.NotedNames.{notesOf, holdsIn}
 use Rattle.search.specs.visit.Visits.{Stored, segmentsIn, segmentAt, placings, notings, segmentBy, matchOf}
 
 same : {A : Type 0} (b : Bool) (x : A) → (if b then x else x) ≡ x

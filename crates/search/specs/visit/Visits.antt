@@ -11,8 +11,8 @@ use Rattle.segments.specs.Collect.{Collected}
 use Rattle.segments.specs.recalled.Recall.{recalledBy, recalledAt, recalled}
 use Rattle.search_rules.specs.declared.Asked.{Asked}
 use Rattle.search_rules.specs.Search.{Match, Placing, Noting, matchesOf, allMatches, isValid, notes, symbolsAt}
-use Rattle.search.specs.place.Placing.{Places}
-use Rattle.search.specs.note.Noting.{Notes}
+use Rattle.search.specs.place.PlacedSymbols.{Places}
+use Rattle.search.specs.note.NotedNames.{Notes}
 use Rattle.search.specs.declared.visit.Fills.{Fills}
 
 -- the lists in which the segments are stored, and the segments of the first n rows

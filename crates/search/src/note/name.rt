@@ -2,10 +2,10 @@
 ghost use mathlib.Core.Path.{_≡_};
 ghost use lib.ListN.{length};
 ghost use Rattle.lent.specs.Rows.{putRow};
-ghost use Rattle.tables.specs.fill.Filling.{oneMore, putMore};
+ghost use Rattle.tables.specs.fill.FilledRows.{oneMore, putMore};
 ghost use Rattle.search_rules.specs.SearchRows.{notedLayout, notedCells};
 ghost use Rattle.search_rules.specs.SearchLayouts.{notedAt};
-ghost use Rattle.search.specs.note.Noting.{validated, NotesOne};
+ghost use Rattle.search.specs.note.NotedNames.{validated, NotesOne};
 use crate::rows::noted_at;
 use crate::rows::put_noted;
 use lent::part::Part;

@@ -1,7 +1,7 @@
 // The references of a match are gone over in file order.
 ghost use Rattle.lent.specs.Lists.{one};
 ghost use Rattle.image.specs.View.{view};
-ghost use Rattle.search.specs.note.Noting.{Refers, RefersAll};
+ghost use Rattle.search.specs.note.NotedNames.{Refers, RefersAll};
 use crate::note::Referred;
 use crate::note::name::note_name;
 use crate::targets::is_match;

@@ -6,13 +6,13 @@ use mathlib.Core.List.{List, map}
 use lib.ListN.{length, getD, take}
 use Rattle.lent.specs.Lists.{joined}
 use Rattle.tables.specs.declared.fill.Fill.{Fill}
-use Rattle.tables.specs.fill.Filling.{Adds}
+use Rattle.tables.specs.fill.FilledRows.{Adds}
 use Rattle.omf51.specs.declared.Definition.{Definition}
 use Rattle.segments.specs.SegmentLayouts.{symbolLayout}
 use Rattle.tables.specs.links.Index.{Linked}
 use Rattle.module_index.specs.gather.Places.{PublicIs, noDefinition}
 use Rattle.segment_parts.specs.declared.carried.Carried.the-variants.{Inside}
-use Rattle.segment_parts.specs.Naming.{symbolBy}
+use Rattle.segment_parts.specs.AddedSymbols.{symbolBy}
 use Rattle.segment_parts.specs.declared.symbols_by_offset.flags.Blocks.{Blocks}
 use Rattle.segment_parts.specs.symbols_by_offset.Offsets.{offsetKey}
 use Rattle.segment_parts.specs.symbols_by_offset.Flags.{Clear, Wide, Covers}

@@ -13,15 +13,15 @@ use Rattle.lent.specs.Lists.{joined}
 use Rattle.lent.specs.ListLaws.{joined-turn, joined-end}
 use Rattle.lent.specs.PartLaws.{drop-turn}
 use Rattle.tables.specs.declared.fill.Fill.{Fill}
-use Rattle.tables.specs.fill.Filling.{Adds, Leads}
-use Rattle.tables.specs.fill.AddingLaws.{lead-on, all-added}
+use Rattle.tables.specs.fill.FilledRows.{Adds, Leads}
+use Rattle.tables.specs.fill.AddedRowLaws.{lead-on, all-added}
 use Rattle.omf51.specs.declared.Definition.{Definition}
 use Rattle.omf51.specs.declared.Definition.the-variants.{Segment, Public, External}
 use Rattle.segments.specs.declared.Symbol.{Symbol}
 use Rattle.segments.specs.SegmentLayouts.{symbolLayout}
 use Rattle.module_index.specs.gather.Places.{noDefinition}
 use Rattle.segment_parts.specs.declared.carried.Carried.the-variants.{Inside}
-use Rattle.segment_parts.specs.Naming.{symbolBy}
+use Rattle.segment_parts.specs.AddedSymbols.{symbolBy}
 use Rattle.segment_parts.specs.declared.symbols_by_offset.flags.Blocks.{Blocks}
 use Rattle.segment_parts.specs.symbols_by_offset.Offsets.{offsetKey}
 use Rattle.segment_parts.specs.symbols_by_offset.Flags.{Flagged, Covers}

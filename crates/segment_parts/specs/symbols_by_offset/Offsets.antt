@@ -7,7 +7,7 @@ use Rattle.lent.specs.Lists.{keep}
 use Rattle.omf51.specs.declared.Definition.{Definition}
 use Rattle.omf51.specs.declared.Definition.the-variants.{Segment, Public, External}
 use Rattle.module_index.specs.gather.Places.{PublicIs, publicKey, isPublicDefinition, noDefinition}
-use Rattle.module_index.specs.Indexing.{IndexedInto}
+use Rattle.module_index.specs.IndexedTables.{IndexedInto}
 
 abbrev pub offsetKey : Definition → ℕ
 offsetKey (Segment id info relocation size name) = 0

@@ -15,8 +15,8 @@ use Rattle.lent.specs.Parts.{bytesOf}
 use Rattle.lent.specs.Rows.{zeros, padded, putRow, Layout, rowAt}
 use Rattle.lent.specs.RowLaws.{Wide, padded-length, put-there, put-length}
 use Rattle.tables.specs.declared.fill.Fill.{Fill}
-use Rattle.tables.specs.fill.Filling.{Filling, Holds, oneMore, putMore}
-use Rattle.tables.specs.fill.FillingLaws.{filled-more}
+use Rattle.tables.specs.fill.FilledRows.{Filling, Holds, oneMore, putMore}
+use Rattle.tables.specs.fill.FilledRowLaws.{filled-more}
 use Rattle.tables.specs.by_name.Newest.{newest}
 use Rattle.tables.specs.by_name.NewestLaws.{newest-this, newest-before, newest-set}
 use Rattle.tables.specs.by_name.Sheet.{Sheet, keyBuckets, nameBuckets, keyBucket, nameBucket, isNamed, inKey, bucketOf, inName, rowAfter, linked}

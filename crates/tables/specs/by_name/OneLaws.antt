@@ -7,7 +7,7 @@ use mathlib.Core.List.{List, _++_}
 use lib.ListN.{length, getD}
 use Rattle.lent.specs.Lists.{one, any}
 use Rattle.tables.specs.declared.fill.Fill.{Fill}
-use Rattle.tables.specs.fill.Filling.{oneMore, putMore}
+use Rattle.tables.specs.fill.FilledRows.{oneMore, putMore}
 use Rattle.tables.specs.by_name.NewestLaws.{newest-none, none-newest}
 use Rattle.tables.specs.by_name.Sheet.{Sheet, keyBuckets, keyBucket, isNamed, bucketOf}
 use Rattle.tables.specs.by_name.Tables.{followed, Table, table, headsWith, rowBy, Single, Tabled, Takes}

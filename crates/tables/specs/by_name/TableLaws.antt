@@ -14,7 +14,7 @@ use Rattle.lent.specs.Lists.{joined, one}
 use Rattle.lent.specs.Parts.{bytesOf}
 use Rattle.lent.specs.Rows.{zeros, padded, cellOf, rowAt}
 use Rattle.lent.specs.RowLaws.{cell-filled}
-use Rattle.tables.specs.fill.FillingLaws.{none-filled}
+use Rattle.tables.specs.fill.FilledRowLaws.{none-filled}
 use Rattle.tables.specs.by_name.Newest.{newestFrom, newest}
 use Rattle.tables.specs.by_name.NewestLaws.{newest-room, newest-hit, newest-skip, newest-this, newest-before}
 use Rattle.tables.specs.by_name.Sheet.{Sheet, keyBuckets, nameBuckets, nameBucket, isNamed, inName, bucketOf, rowAfter, linkedFrom, linked}

@@ -11,7 +11,7 @@ use Rattle.lent.specs.Lists.{any, fold}
 use Rattle.lent.specs.Parts.{sameName}
 use Rattle.lent.specs.Rows.{cellOf}
 use Rattle.tables.specs.declared.fill.Fill.{Fill}
-use Rattle.tables.specs.fill.Filling.{Filling}
+use Rattle.tables.specs.fill.FilledRows.{Filling}
 use Rattle.tables.specs.by_name.Newest.{newest}
 use Rattle.tables.specs.by_name.Sheet.{Sheet, keyBuckets, nameBuckets, keyBucket, isNamed, inKey, bucketOf, inName, linked}
 

@@ -6,7 +6,7 @@ use lib.ListN.{length}
 use Rattle.lent.specs.OneOutcome.{Determines, by-equation}
 use Rattle.lent.specs.Rows.{Layout}
 use Rattle.tables.specs.declared.fill.Fill.{Fill}
-use Rattle.tables.specs.fill.Filling.{oneMore, putMore}
+use Rattle.tables.specs.fill.FilledRows.{oneMore, putMore}
 
 pub one-more-one : (f : Fill) (width len : ℕ) → Determines (λ r. r ≡ oneMore f width len)
 one-more-one f width len = by-equation (oneMore f width len)

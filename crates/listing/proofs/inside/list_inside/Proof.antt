@@ -12,7 +12,7 @@ use Rattle.image.specs.ViewLaws.{view-length}
 use Rattle.image.specs.declared.fixup.Rules.{Rules}
 use Rattle.tables.specs.by_name.Sheet.{keyBuckets}
 use Rattle.listing_rules.specs.declared.Skip.{Skip}
-use Rattle.listing.specs.position.Walking.{Known}
+use Rattle.listing.specs.position.RowsAt.{Known}
 use Rattle.listing.specs.InsideLaws.{LeadsFrom, inside-first, inside-on, inside-last}
 use borrow.Author.Needs.{needs}
 

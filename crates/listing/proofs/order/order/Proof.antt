@@ -7,7 +7,7 @@ use mathlib.Core.List.{List}
 use native.Mathlib.Omega.{arith}
 use lib.ListN.{length}
 use Rattle.listing.specs.order.Order.{Region, memory}
-use Rattle.listing.specs.order.Passing.{Passed}
+use Rattle.listing.specs.order.Passes.{Passed}
 use Rattle.listing.specs.order.PassLaws.{region-fits, stands-first, stands-last}
 use borrow.Author.Needs.{needs}
 

@@ -7,7 +7,7 @@ use mathlib.Core.List.{List}
 use native.Mathlib.Omega.{arith}
 use lib.ListN.{length}
 use Rattle.listing.specs.order.Order.{Region}
-use Rattle.listing.specs.order.Passing.{Stands, Passed}
+use Rattle.listing.specs.order.Passes.{Stands, Passed}
 use borrow.Author.Needs.{needs}
 
 record Inv (library m₀ : List ℕ) (from n gap : ℕ) (m : List ℕ) (i : ℕ) : Type 0 where

@@ -11,7 +11,7 @@ use lib.ListN.{length}
 use Rattle.lent.specs.Parts.{before}
 use Rattle.listing_rules.specs.declared.Line.{Line}
 use Rattle.listing.specs.order.Order.{byName, Region}
-use Rattle.listing.specs.order.Passing.{Passed, Held}
+use Rattle.listing.specs.order.Passes.{Passed, Held}
 use Rattle.listing.specs.order.OrderLaws.{by-bytes}
 use Rattle.listing.specs.order.SinkLaws.{held-first, held-next, held-last}
 use borrow.Author.Needs.{needs}

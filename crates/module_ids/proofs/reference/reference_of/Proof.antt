@@ -4,7 +4,7 @@ use native.Mathlib.Omega.{arith}
 use borrow.Author.Tests.{not-true, not-false}
 use Rattle.module_ids.specs.fault.ScanLaws.{told}
 use Rattle.module_ids.specs.fault.Faults.{fixupFault}
-use Rattle.module_ids.specs.reference.LeavingLaws.{leaves-refused, leaves-other, leaves-kind, known}
+use Rattle.module_ids.specs.reference.LeftReferenceLaws.{leaves-refused, leaves-other, leaves-kind, known}
 use borrow.Author.Needs.{needs}
 use Rattle.module_ids.proofs.reference.reference_of.Statement.{statement}
 use Rattle.module_ids.proofs.reference.reference_of.Tie as tie

@@ -10,8 +10,8 @@ use Rattle.search_rules.specs.Search.{Placing, place}
 use Rattle.search_rules.specs.SearchLaws.{place-past, place-again, place-new}
 use Rattle.search_rules.specs.SearchRows.{placedSheet}
 use Rattle.search_rules.specs.FindableLaws.{placed-reads}
-use Rattle.search.specs.place.Placing.{placingOf}
-use Rattle.search.specs.place.PlacingLaws.{place-grows, place-single}
+use Rattle.search.specs.place.PlacedSymbols.{placingOf}
+use Rattle.search.specs.place.PlacedSymbolLaws.{place-grows, place-single}
 use borrow.Author.Needs.{needs}
 use Rattle.search.proofs.place.place_symbol.Statement.{statement}
 use Rattle.search.proofs.place.place_symbol.Tie as tie

@@ -15,7 +15,7 @@ use Rattle.tables.specs.by_name.TakeLaws.{takes-none, leads-all, lead-on, all-t
 use Rattle.segments.specs.recalled.RowsLaws.{rowsFrom, rows-past, rows-few, rows-within, rows-turn, rows-end}
 use Rattle.search_rules.specs.Search.{Placing, place}
 use Rattle.search_rules.specs.SearchRows.{placedSheet}
-use Rattle.search.specs.place.Placing.{placingOf}
+use Rattle.search.specs.place.PlacedSymbols.{placingOf}
 use borrow.Author.Needs.{needs}
 use Rattle.search.proofs.place.place_symbols.Statement.{statement}
 use Rattle.search.proofs.place.place_symbols.Tie as tie

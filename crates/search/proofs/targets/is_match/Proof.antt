@@ -2,7 +2,7 @@
 use mathlib.Core.Path.{sym}
 use native.Mathlib.Omega.{arith}
 use Rattle.image.specs.View.{view}
-use Rattle.search.specs.targets.MatchingLaws.{number-past, number-stands, number-elsewhere}
+use Rattle.search.specs.targets.MatchLaws.{number-past, number-stands, number-elsewhere}
 use borrow.Author.Needs.{needs}
 use Rattle.search.proofs.targets.is_match.Statement.{statement}
 use Rattle.search.proofs.targets.is_match.Tie as tie

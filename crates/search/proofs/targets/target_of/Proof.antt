@@ -2,7 +2,7 @@
 use Prim.Native.Nat.{_+_}
 use mathlib.Core.Path.{sym}
 use native.Mathlib.Omega.{arith}
-use Rattle.search.specs.targets.MatchingLaws.{past-target}
+use Rattle.search.specs.targets.MatchLaws.{past-target}
 use borrow.Author.Needs.{needs}
 use Rattle.search.proofs.targets.target_of.Statement.{statement}
 use Rattle.search.proofs.targets.target_of.Tie as tie

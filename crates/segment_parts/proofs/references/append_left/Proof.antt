@@ -3,8 +3,8 @@ use mathlib.Core.Path.{refl}
 use native.Mathlib.Omega.{arith}
 use Rattle.segments.specs.SegmentLayouts.{referenceLayout}
 use Rattle.segments.specs.SegmentLayoutLaws.{reference-width}
-use Rattle.tables.specs.fill.FillingLaws.{put-more-length}
-use Rattle.tables.specs.fill.AddingLaws.{adds-none, adds-one}
+use Rattle.tables.specs.fill.FilledRowLaws.{put-more-length}
+use Rattle.tables.specs.fill.AddedRowLaws.{adds-none, adds-one}
 use borrow.Author.Needs.{needs}
 use Rattle.segment_parts.proofs.references.append_left.Statement.{statement}
 use Rattle.segment_parts.proofs.references.append_left.Tie as tie

@@ -8,8 +8,8 @@ use denote.Ref.{now}
 use Rattle.lent.specs.Lists.{joined}
 use Rattle.lent.specs.ListLaws.{joined-end}
 use Rattle.tables.specs.declared.fill.Fill.{Fill}
-use Rattle.tables.specs.fill.Filling.{Leads}
-use Rattle.tables.specs.fill.AddingLaws.{all-added}
+use Rattle.tables.specs.fill.FilledRows.{Leads}
+use Rattle.tables.specs.fill.AddedRowLaws.{all-added}
 use Rattle.omf51.specs.declared.Definition.{Definition}
 use Rattle.library.specs.declared.items.Cursor.{Cursor}
 use Rattle.library.specs.items.Left.{fixupsLeft}
@@ -17,8 +17,8 @@ use Rattle.library.specs.items.EntrySizeLaws.{fixup-small}
 use Rattle.library.specs.items.Yields.{fixupsAfter, next-fixup-yields}
 use Rattle.segments.specs.SegmentLayouts.{referenceLayout}
 use Rattle.module_ids.specs.Noted.{Tells}
-use Rattle.segment_parts.specs.Referring.{leavesIn}
-use Rattle.segment_parts.specs.ReferringLaws.{refer-on}
+use Rattle.segment_parts.specs.AddedReferences.{leavesIn}
+use Rattle.segment_parts.specs.AddedReferenceLaws.{refer-on}
 use borrow.Author.Needs.{needs}
 use Rattle.segment_parts.proofs.references.refer.Statement.{statement}
 use Rattle.segment_parts.proofs.references.refer.Tie as tie

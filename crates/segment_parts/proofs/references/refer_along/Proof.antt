@@ -6,7 +6,7 @@ use native.Mathlib.Omega.{arith}
 use lib.ListN.{length}
 use denote.Ref.{now}
 use Rattle.tables.specs.declared.fill.Fill.{Fill}
-use Rattle.tables.specs.fill.Filling.{Adds}
+use Rattle.tables.specs.fill.FilledRows.{Adds}
 use Rattle.omf51.specs.declared.Definition.{Definition}
 use Rattle.omf51.specs.Module.{Section}
 use Rattle.segments.specs.SegmentLayouts.{referenceLayout}
@@ -19,7 +19,7 @@ use Rattle.module_index.specs.gather.Places.{sectionIn, SectionIs}
 use Rattle.segment_parts.specs.SectionLaws.{section-met, none-met}
 use Rattle.segment_parts.specs.Along.{Adding}
 use Rattle.segment_parts.specs.AlongLaws.{adding-starts, adding-on, adding-ends}
-use Rattle.segment_parts.specs.Referring.{sectionLeaves}
+use Rattle.segment_parts.specs.AddedReferences.{sectionLeaves}
 use borrow.Author.Needs.{needs}
 use Rattle.segment_parts.proofs.references.refer_along.Statement.{statement}
 use Rattle.segment_parts.proofs.references.refer_along.Tie as tie

@@ -4,10 +4,10 @@ use native.Mathlib.Omega.{arith}
 use lib.ListN.{length}
 use Rattle.segments.specs.SegmentLayouts.{symbolLayout}
 use Rattle.segments.specs.SegmentLayoutLaws.{symbol-width}
-use Rattle.tables.specs.fill.FillingLaws.{put-more-length}
-use Rattle.tables.specs.fill.AddingLaws.{adds-none, adds-one}
-use Rattle.segment_parts.specs.Naming.{carriesAt}
-use Rattle.segment_parts.specs.NamingLaws.{symbol-carried, symbol-left-out}
+use Rattle.tables.specs.fill.FilledRowLaws.{put-more-length}
+use Rattle.tables.specs.fill.AddedRowLaws.{adds-none, adds-one}
+use Rattle.segment_parts.specs.AddedSymbols.{carriesAt}
+use Rattle.segment_parts.specs.AddedSymbolLaws.{symbol-carried, symbol-left-out}
 use borrow.Author.Needs.{needs}
 use Rattle.segment_parts.proofs.symbols.append_public.Statement.{statement}
 use Rattle.segment_parts.proofs.symbols.append_public.Tie as tie

@@ -1,6 +1,6 @@
 -- `carries` tests the start, and then the length. Assumes nothing.
 use native.Mathlib.Omega.{arith}
-use Rattle.segment_parts.specs.NamingLaws.{not-carried, carried-inside}
+use Rattle.segment_parts.specs.AddedSymbolLaws.{not-carried, carried-inside}
 use borrow.Author.Needs.{needs}
 use Rattle.segment_parts.proofs.symbols.carries.Statement.{statement}
 use Rattle.segment_parts.proofs.symbols.carries.Tie as tie

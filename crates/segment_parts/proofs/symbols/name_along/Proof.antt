@@ -5,7 +5,7 @@ use mathlib.Core.List.{List}
 use native.Mathlib.Omega.{arith}
 use lib.ListN.{length}
 use Rattle.tables.specs.declared.fill.Fill.{Fill}
-use Rattle.tables.specs.fill.Filling.{Adds}
+use Rattle.tables.specs.fill.FilledRows.{Adds}
 use Rattle.omf51.specs.declared.Definition.{Definition}
 use Rattle.segments.specs.Ids.{idOf}
 use Rattle.segments.specs.SegmentLayouts.{symbolLayout}
@@ -14,7 +14,7 @@ use Rattle.module_index.specs.gather.Places.{publicAt, PublicIs}
 use Rattle.segment_parts.specs.declared.carried.Carried.{Carried}
 use Rattle.segment_parts.specs.Along.{Adding}
 use Rattle.segment_parts.specs.AlongLaws.{adding-starts, adding-on, adding-ends}
-use Rattle.segment_parts.specs.Naming.{symbolBy}
+use Rattle.segment_parts.specs.AddedSymbols.{symbolBy}
 use borrow.Author.Needs.{needs}
 use Rattle.segment_parts.proofs.symbols.name_along.Statement.{statement}
 use Rattle.segment_parts.proofs.symbols.name_along.Tie as tie

@@ -2,7 +2,7 @@
 use mathlib.Core.Path.{_≡_, _∙_}
 use Prim.Native.Nat.{_-_}
 use native.Mathlib.Omega.{arith}
-use Rattle.segment_parts.specs.NamingLaws.{own-offset, plain-offset, all-carried}
+use Rattle.segment_parts.specs.AddedSymbolLaws.{own-offset, plain-offset, all-carried}
 use borrow.Author.Needs.{needs}
 use Rattle.segment_parts.proofs.symbols.offset_in.Statement.{statement}
 use Rattle.segment_parts.proofs.symbols.offset_in.Tie as tie

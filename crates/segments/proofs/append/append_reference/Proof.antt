@@ -1,7 +1,7 @@
 -- `append_reference`: the row is put behind the others, or there is no room. Assumes nothing.
 use mathlib.Core.Path.{sym, ap, _∙_}
 use Rattle.tables.specs.declared.fill.Fill.{Fill}
-use Rattle.tables.specs.fill.FillingLaws.{put-none, put-behind}
+use Rattle.tables.specs.fill.FilledRowLaws.{put-none, put-behind}
 use Rattle.segments.specs.SegmentLayouts.{referenceLayout}
 use borrow.Author.Needs.{needs}
 use Rattle.segments.proofs.append.append_reference.Statement.{statement}

@@ -2,7 +2,7 @@
 use mathlib.Core.Path.{sym}
 use native.Mathlib.Omega.{arith}
 use Rattle.lent.specs.RowLaws.{row-fits, row-lacks}
-use Rattle.tables.specs.fill.FillingLaws.{stays-over, no-width, more-fits, more-lacks, few-rows}
+use Rattle.tables.specs.fill.FilledRowLaws.{stays-over, no-width, more-fits, more-lacks, few-rows}
 use borrow.Author.Needs.{needs}
 use Rattle.tables.proofs.fill.one_more.Statement.{statement}
 use Rattle.tables.proofs.fill.one_more.Tie as tie

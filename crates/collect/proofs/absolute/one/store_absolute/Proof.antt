@@ -6,7 +6,7 @@ use borrow.Author.Tests.{not-true, not-false, leb-true, leb-false}
 use lib.ListN.{length}
 use Rattle.lent.specs.Lists.{joined}
 use Rattle.lent.specs.Parts.{bytesOf}
-use Rattle.tables.specs.fill.Filling.{Adds}
+use Rattle.tables.specs.fill.FilledRows.{Adds}
 use Rattle.image.specs.declared.Seat.the-variants.{Only}
 use Rattle.segments.specs.Masks.{masksOf}
 use Rattle.segments.specs.MaskLaws.{masks-length}
@@ -15,8 +15,8 @@ use Rattle.segments.specs.SegmentLayouts.{referenceLayout, symbolLayout}
 use Rattle.library.specs.items.Left.{fixupsLeft}
 use Rattle.segment_parts.specs.merge.MergeLaws.{merged-at-length}
 use Rattle.segment_parts.specs.declared.carried.Carried.the-variants.{Inside}
-use Rattle.segment_parts.specs.Referring.{leavesIn}
-use Rattle.segment_parts.specs.Naming.{symbolBy}
+use Rattle.segment_parts.specs.AddedReferences.{leavesIn}
+use Rattle.segment_parts.specs.AddedSymbols.{symbolBy}
 use Rattle.collect.specs.stored.RowLaws.{finished-length}
 use Rattle.collect.specs.stored.StoreLaws.{no-bytes-room, no-masks-room, stored-more}
 use Rattle.collect.specs.stored.RegionLaws.{copied-region}

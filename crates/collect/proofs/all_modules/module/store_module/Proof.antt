@@ -2,7 +2,7 @@
 use mathlib.Core.Path.{refl, _∙_}
 use native.Mathlib.Omega.{arith}
 use Rattle.library.specs.WholeLaws.{moduleOf}
-use Rattle.module_index.specs.IndexingLaws.{forgotten}
+use Rattle.module_index.specs.IndexedTableLaws.{forgotten}
 use Rattle.collect.specs.all_modules.FewLaws.{numbers-fit}
 use Rattle.collect.specs.all_modules.FlagLaws.{flags-ready}
 use borrow.Author.Needs.{needs}

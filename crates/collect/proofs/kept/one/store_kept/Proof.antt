@@ -4,15 +4,15 @@ use mathlib.Core.Path.{refl, sym, ap, subst, _∙_}
 use native.Mathlib.Omega.{arith}
 use borrow.Author.Tests.{not-true, not-false, leb-true, leb-false}
 use lib.ListN.{length}
-use Rattle.tables.specs.fill.Filling.{Adds}
+use Rattle.tables.specs.fill.FilledRows.{Adds}
 use Rattle.image.specs.declared.Seat.the-variants.{Anywhere}
 use Rattle.segments.specs.MaskLaws.{filled-length}
 use Rattle.segments.specs.Collect.{dataOf, dataMasks}
 use Rattle.segments.specs.SegmentRows.{patternBytes, patternMasks}
 use Rattle.segments.specs.SegmentLayouts.{referenceLayout, symbolLayout}
 use Rattle.segment_parts.specs.declared.carried.Carried.the-variants.{All}
-use Rattle.segment_parts.specs.Referring.{sectionLeaves}
-use Rattle.segment_parts.specs.Naming.{symbolBy}
+use Rattle.segment_parts.specs.AddedReferences.{sectionLeaves}
+use Rattle.segment_parts.specs.AddedSymbols.{symbolBy}
 use Rattle.lent.specs.Lists.{joined}
 use Rattle.collect.specs.stored.RowLaws.{finished-length}
 use Rattle.collect.specs.stored.StoreLaws.{no-bytes-room, no-masks-room, stored-more}

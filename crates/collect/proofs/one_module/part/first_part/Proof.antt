@@ -4,7 +4,7 @@ use native.Mathlib.Omega.{arith}
 use Rattle.lent.specs.Lists.{keep}
 use Rattle.module_index.specs.gather.Places.{PublicIs, publicKey, isPublicDefinition}
 use Rattle.module_index.specs.Indexed.{Meets}
-use Rattle.module_index.specs.IndexingLaws.{forgotten}
+use Rattle.module_index.specs.IndexedTableLaws.{forgotten}
 use borrow.Author.Needs.{needs}
 use Rattle.collect.proofs.one_module.part.first_part.Statement.{statement}
 use Rattle.collect.proofs.one_module.part.first_part.Tie as tie

@@ -2,7 +2,7 @@
 use mathlib.Core.Path.{refl, sym, ap, _∙_}
 use native.Mathlib.Omega.{arith}
 use Rattle.module_index.specs.gather.Places.{SectionIs}
-use Rattle.module_index.specs.IndexingLaws.{forgotten}
+use Rattle.module_index.specs.IndexedTableLaws.{forgotten}
 use Rattle.segment_parts.specs.symbols_by_offset.Offsets.{zeroPublics}
 use Rattle.collect.specs.stored.ProgressLaws.{same-lengths}
 use Rattle.collect.specs.stored.Segments.{lists}

@@ -1,7 +1,7 @@
 -- `finish` appends the row, unless something had no room. Assumes nothing.
 use mathlib.Core.Path.{refl, ap, _∙_}
 use lib.ListN.{length}
-use Rattle.tables.specs.fill.FillingLaws.{put-more-length}
+use Rattle.tables.specs.fill.FilledRowLaws.{put-more-length}
 use Rattle.segments.specs.SegmentLayouts.{segmentLayout}
 use Rattle.collect.specs.stored.RowLaws.{without-references, without-symbols, with-row, row-lacks, row-fits}
 use borrow.Author.Needs.{needs}

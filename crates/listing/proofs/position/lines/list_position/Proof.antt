@@ -10,9 +10,9 @@ use lib.ListN.{length}
 use Rattle.lent.specs.Lists.{keep}
 use Rattle.image.specs.View.{view}
 use Rattle.listing_rules.specs.Listing.{notedLine, linesAt}
-use Rattle.listing_rules.specs.Growing.{Front}
-use Rattle.listing_rules.specs.GrowingLaws.{extends-over}
-use Rattle.listing.specs.position.Walking.{segmentsOf, staysAt, lineOf, notedAtIt}
+use Rattle.listing_rules.specs.FrontLines.{Front}
+use Rattle.listing_rules.specs.FrontLineLaws.{extends-over}
+use Rattle.listing.specs.position.RowsAt.{segmentsOf, staysAt, lineOf, notedAtIt}
 use Rattle.listing.specs.position.FinishLaws.{met-apart, met-small, met-listed}
 
 returns : tie.Need-returns

@@ -5,7 +5,7 @@ use Rattle.listing.proofs.position.noted.take_noted.Statement.{statemen
 use Rattle.listing.proofs.position.noted.take_noted.Tie as tie
 use Rattle.listing.specs.grade.GradeLaws.{turned-true, turned-false}
 use Rattle.listing.specs.position.Bests.{notedLines}
-use Rattle.listing.specs.position.WalkingLaws.{meets-none, meets-this}
+use Rattle.listing.specs.position.RowsAtLaws.{meets-none, meets-this}
 use Rattle.listing.specs.position.RowLines.{noted-elsewhere, noted-invalid, noted-this}
 
 returns : tie.Need-returns

@@ -16,11 +16,11 @@ use Rattle.search_rules.specs.SearchRows.{notedSheet}
 use Rattle.search_rules.specs.FindableLaws.{noted-reads}
 use Rattle.listing_rules.specs.declared.Line.{Line}
 use Rattle.listing_rules.specs.Listing.{notedLine}
-use Rattle.listing_rules.specs.Growing.{Fronts}
+use Rattle.listing_rules.specs.FrontLines.{Fronts}
 use Rattle.listing.specs.declared.position.Best.{Best}
 use Rattle.listing.specs.position.Bests.{Bests, notedLines}
-use Rattle.listing.specs.position.Walking.{Walked, notedAtIt}
-use Rattle.listing.specs.position.WalkingLaws.{none-met, walked-first, walked-room, leads-back, walked-turn, walked-last}
+use Rattle.listing.specs.position.RowsAt.{Walked, notedAtIt}
+use Rattle.listing.specs.position.RowsAtLaws.{none-met, walked-first, walked-room, leads-back, walked-turn, walked-last}
 use Rattle.listing.specs.position.RowLines.{noted-within, noted-lines}
 use borrow.Author.Needs.{needs}
 

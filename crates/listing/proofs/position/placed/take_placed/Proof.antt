@@ -8,7 +8,7 @@ use Rattle.lent.specs.Lists.{one}
 use Rattle.image.specs.View.{view}
 use Rattle.listing.specs.grade.Grades.{rowGrade}
 use Rattle.listing.specs.position.Bests.{Meets, placedLines}
-use Rattle.listing.specs.position.WalkingLaws.{meets-none, meets-this}
+use Rattle.listing.specs.position.RowsAtLaws.{meets-none, meets-this}
 use Rattle.listing.specs.position.RowLines.{placed-elsewhere, placed-dropped, placed-this}
 
 abbrev graded : tie.Start → ℕ

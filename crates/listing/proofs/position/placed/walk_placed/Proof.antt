@@ -19,8 +19,8 @@ use Rattle.search_rules.specs.FindableLaws.{placed-reads}
 use Rattle.listing_rules.specs.declared.Line.{Line}
 use Rattle.listing.specs.declared.position.Best.{Best}
 use Rattle.listing.specs.position.Bests.{Bests}
-use Rattle.listing.specs.position.Walking.{Walked, Known, staysAt, lineOf}
-use Rattle.listing.specs.position.WalkingLaws.{walked-first, walked-room, leads-back, walked-turn, walked-last}
+use Rattle.listing.specs.position.RowsAt.{Walked, Known, staysAt, lineOf}
+use Rattle.listing.specs.position.RowsAtLaws.{walked-first, walked-room, leads-back, walked-turn, walked-last}
 use Rattle.listing.specs.position.KnownLaws.{rowLines, known-within, known-lines}
 use borrow.Author.Needs.{needs}
 

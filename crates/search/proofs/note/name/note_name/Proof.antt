@@ -8,7 +8,7 @@ use Rattle.tables.specs.by_name.OneLaws.{takes-over, takes-known, found-is, tak
 use Rattle.search_rules.specs.Search.{Noting, note}
 use Rattle.search_rules.specs.SearchRows.{notedSheet}
 use Rattle.search_rules.specs.FindableLaws.{noted-reads}
-use Rattle.search.specs.note.NotingLaws.{note-new, note-grows, note-single, note-invalid, takes-valid}
+use Rattle.search.specs.note.NotedNameLaws.{note-new, note-grows, note-single, note-invalid, takes-valid}
 use borrow.Author.Needs.{needs}
 use Rattle.search.proofs.note.name.note_name.Statement.{statement}
 use Rattle.search.proofs.note.name.note_name.Tie as tie

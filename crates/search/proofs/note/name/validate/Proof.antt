@@ -2,7 +2,7 @@
 use mathlib.Core.Path.{ap, _∙_}
 use Rattle.lent.specs.Rows.{putRow}
 use Rattle.search_rules.specs.SearchRows.{notedCells}
-use Rattle.search.specs.note.Noting.{validated}
+use Rattle.search.specs.note.NotedNames.{validated}
 use borrow.Author.Needs.{needs}
 use Rattle.search.proofs.note.name.validate.Statement.{statement}
 use Rattle.search.proofs.note.name.validate.Tie as tie

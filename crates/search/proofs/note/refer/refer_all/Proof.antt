@@ -14,7 +14,7 @@ use Rattle.image.specs.View.{view}
 use Rattle.image.specs.declared.fixup.Rules.{Rules}
 use Rattle.segments.specs.SegmentLayouts.{referenceLayout, referenceAt}
 use Rattle.segments.specs.recalled.RowsLaws.{rowsFrom, rows-past, rows-few, rows-within, rows-turn, rows-end}
-use Rattle.search.specs.note.Noting.{Refers}
+use Rattle.search.specs.note.NotedNames.{Refers}
 use Rattle.search.specs.note.ReferLaws.{Referring, referring-starts, referring-on, referring-ends}
 use borrow.Author.Needs.{needs}
 use Rattle.search.proofs.note.refer.refer_all.Statement.{statement}

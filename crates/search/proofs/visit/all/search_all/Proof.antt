@@ -10,8 +10,8 @@ use Rattle.search_rules.specs.declared.Asked.{Asked}
 use Rattle.search.specs.declared.visit.Fills.{Fills}
 use Rattle.search.specs.visit.Visits.{Stored, stored, segmentsIn, Visits}
 use Rattle.search.specs.visit.VisitLaws.{matchesBy, all-by-number, next-number, no-number}
-use Rattle.search.specs.visit.Leading.{Leading}
-use Rattle.search.specs.visit.LeadingLaws.{leading-starts, leading-on, leading-ends}
+use Rattle.search.specs.visit.VisitsLeft.{Leading}
+use Rattle.search.specs.visit.VisitsLeftLaws.{leading-starts, leading-on, leading-ends}
 use Rattle.search.proofs.visit.all.search_all.Statement.{statement}
 use Rattle.search.proofs.visit.all.search_all.Tie as tie
 

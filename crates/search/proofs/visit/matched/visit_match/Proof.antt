@@ -12,7 +12,7 @@ use Rattle.tables.specs.by_name.TakeLaws.{takes-none}
 use Rattle.segments.specs.recalled.Recall.{rowsOf}
 use Rattle.search_rules.specs.Search.{place, note}
 use Rattle.search_rules.specs.SearchRows.{placedSheet, notedSheet}
-use Rattle.search.specs.place.Placing.{placingOf}
+use Rattle.search.specs.place.PlacedSymbols.{placingOf}
 use Rattle.search.specs.declared.visit.Fills.{Fills}
 use Rattle.search.specs.visit.Visits.{Stored, stored, segmentsIn, Visits, matchOf}
 use Rattle.search.specs.visit.VisitLaws.{match-notes, match-fails, match-passes}

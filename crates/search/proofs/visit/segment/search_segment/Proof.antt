@@ -14,8 +14,8 @@ use Rattle.search_rules.specs.declared.Asked.{Asked}
 use Rattle.search.specs.declared.visit.Fills.{Fills}
 use Rattle.search.specs.visit.Visits.{Stored, stored, segmentsIn, Visits}
 use Rattle.search.specs.visit.SegmentLaws.{matchAt, segment-matches, known-valid, visits-nothing}
-use Rattle.search.specs.visit.Leading.{Leading}
-use Rattle.search.specs.visit.LeadingLaws.{leading-starts, leading-on, leading-ends}
+use Rattle.search.specs.visit.VisitsLeft.{Leading}
+use Rattle.search.specs.visit.VisitsLeftLaws.{leading-starts, leading-on, leading-ends}
 use borrow.Author.Needs.{needs}
 use Rattle.search.proofs.visit.segment.search_segment.Statement.{statement}
 use Rattle.search.proofs.visit.segment.search_segment.Tie as tie

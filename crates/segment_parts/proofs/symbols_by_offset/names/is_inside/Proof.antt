@@ -2,7 +2,7 @@
 use mathlib.Core.Path.{refl}
 use native.Mathlib.Omega.{arith}
 use borrow.Author.Tests.{lt-leb}
-use Rattle.segment_parts.specs.NamingLaws.{inside-test}
+use Rattle.segment_parts.specs.AddedSymbolLaws.{inside-test}
 use Rattle.segment_parts.proofs.symbols_by_offset.names.is_inside.Statement.{statement}
 use Rattle.segment_parts.proofs.symbols_by_offset.names.is_inside.Tie as tie
 

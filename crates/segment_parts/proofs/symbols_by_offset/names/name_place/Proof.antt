@@ -4,13 +4,13 @@ use mathlib.Core.Bool.{_&&_}
 use Prim.Native.Nat.{_+_}
 use native.Mathlib.Omega.{arith}
 use lib.Dec.{leb, ltb}
-use Rattle.tables.specs.fill.Filling.{Adds}
-use Rattle.tables.specs.fill.AddingLaws.{adds-none}
+use Rattle.tables.specs.fill.FilledRows.{Adds}
+use Rattle.tables.specs.fill.AddedRowLaws.{adds-none}
 use Rattle.segments.specs.Ids.{idOf}
 use Rattle.segments.specs.SegmentLayouts.{symbolLayout}
 use Rattle.module_index.specs.gather.Places.{publicAt}
 use Rattle.segment_parts.specs.declared.carried.Carried.the-variants.{Inside}
-use Rattle.segment_parts.specs.Naming.{symbolBy}
+use Rattle.segment_parts.specs.AddedSymbols.{symbolBy}
 use Rattle.segment_parts.specs.symbols_by_offset.InsideLaws.{not-inside}
 use borrow.Author.Needs.{needs}
 use Rattle.segment_parts.proofs.symbols_by_offset.names.name_place.Statement.{statement}

@@ -1,6 +1,6 @@
 -- `index_offsets` gathers, and links what was gathered. Assumes nothing.
 use Rattle.module_index.specs.gather.Places.{PublicIs, noDefinition}
-use Rattle.module_index.specs.IndexingLaws.{indexed-within, indexed-ready, indexed-linked}
+use Rattle.module_index.specs.IndexedTableLaws.{indexed-within, indexed-ready, indexed-linked}
 use Rattle.segment_parts.specs.symbols_by_offset.Offsets.{offsetKey}
 use borrow.Author.Needs.{needs}
 use Rattle.segment_parts.proofs.symbols_by_offset.offsets.index_offsets.Statement.{statement}

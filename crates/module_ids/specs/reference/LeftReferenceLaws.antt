@@ -10,7 +10,7 @@ use lib.Dec.{eqb, ltb}
 use Rattle.lent.specs.declared.refusal.Refusal.{Refusal}
 use Rattle.lent.specs.declared.refusal.Refusal.the-variants.{NoKeptSegment, UnknownKind, UnknownBlock}
 use Rattle.lent.specs.Choice.{if_then_else_, when}
-use Rattle.lent.specs.Leading.{none≢some}
+use Rattle.lent.specs.FirstOf.{none≢some}
 use Rattle.lent.specs.Lists.{keep, placeOf, first}
 use Rattle.image.specs.declared.fixup.Kind.{Kind}
 use Rattle.image.specs.fixup.Target.{kindOf}
@@ -27,7 +27,7 @@ use Rattle.module_ids.specs.fault.Faults.{isCodeMark, isKeptAs, fixupFau
 use Rattle.module_ids.specs.fault.FaultLaws.{fixup-refusal, mark-code}
 use Rattle.module_ids.specs.declared.reference.Known.{Known}
 use Rattle.module_ids.specs.declared.reference.Known.the-variants as Known
-use Rattle.module_ids.specs.reference.Leaving.{codeNamed, placeIn, goalBy, leavesBy, knownOf, kindKnown}
+use Rattle.module_ids.specs.reference.LeftReference.{codeNamed, placeIn, goalBy, leavesBy, knownOf, kindKnown}
 
 -- the cases that the code tells apart
 module _ (row : IdRow) (number base : ℕ) (f : Fixup) where

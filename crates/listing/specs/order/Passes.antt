@@ -7,7 +7,7 @@ use lib.ListN.{length, getD, set}
 use Rattle.lent.specs.Lists.{sorted}
 use Rattle.lent.specs.Members.{_among_}
 use Rattle.listing_rules.specs.declared.Line.{Line}
-use Rattle.listing.specs.order.Sorting.{Every, Rising, Sinking}
+use Rattle.listing.specs.order.InOrder.{Every, Rising, Sinking}
 use Rattle.listing.specs.order.Order.{byName, Region, memory}
 
 -- what a place past the end gives

@@ -12,11 +12,11 @@ use Rattle.tables.specs.by_name.Sheet.{keyBuckets}
 use Rattle.listing_rules.specs.declared.Line.{Line}
 use Rattle.listing_rules.specs.declared.Skip.{Skip}
 use Rattle.listing_rules.specs.Listing.{best, crowded, linesAt}
-use Rattle.listing_rules.specs.Growing.{Front, Extends}
+use Rattle.listing_rules.specs.FrontLines.{Front, Extends}
 use Rattle.listing.specs.order.Order.{byName, Apart}
 use Rattle.listing.specs.declared.position.Best.{Best}
 use Rattle.listing.specs.position.Bests.{Bests}
-use Rattle.listing.specs.position.Walking.{Known, segmentsOf}
+use Rattle.listing.specs.position.RowsAt.{Known, segmentsOf}
 
 abbrev pub listed : List ℕ → Skip → List Line → List Line
 listed library skip all = if crowded skip (length (best all)) then [] else sorted (byName library) (best all)

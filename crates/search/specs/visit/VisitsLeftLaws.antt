@@ -12,7 +12,7 @@ use Rattle.search_rules.specs.Search.{Match, notes, symbolsAt, place, note}
 use Rattle.search_rules.specs.SearchRows.{placedSheet, notedSheet}
 use Rattle.search.specs.declared.visit.Fills.{Fills}
 use Rattle.search.specs.visit.Visits.{placings, notings, Visits}
-use Rattle.search.specs.visit.Leading.{Leading}
+use Rattle.search.specs.visit.VisitsLeft.{Leading}
 
 module _ (cells : List ℕ) (a : Asked) (library : List ℕ) (gs : List Collected) (all : List Match) (placed₀ positions₀ noted₀ goals₀ : List ℕ) (f₀ : Fills) where
   abbrev On : List Match → List ℕ → List ℕ → List ℕ → List ℕ → Fills → Type 0

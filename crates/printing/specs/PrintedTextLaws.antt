@@ -17,7 +17,7 @@ use Rattle.listing_rules.specs.LineLayout.{lineAt}
 use Rattle.listing_rules.specs.Print.{heading, printedLine, printed}
 use Rattle.printing.specs.declared.Printed.{Printed}
 use Rattle.printing.specs.declared.Printed.the-variants.{Written, NoRoom}
-use Rattle.printing.specs.Printing.{fittedText, storedLines}
+use Rattle.printing.specs.PrintedText.{fittedText, storedLines}
 use Rattle.printing.specs.Pieces.{linesFrom}
 
 -- what is answered

@@ -7,8 +7,8 @@ use Rattle.lent.specs.Lists.{one}
 use Rattle.lent.specs.Rows.{Layout}
 use Rattle.lent.specs.RowLaws.{Wide}
 use Rattle.tables.specs.declared.fill.Fill.{Fill}
-use Rattle.tables.specs.fill.Filling.{oneMore, putMore, Filling, Adds, Leads}
-use Rattle.tables.specs.fill.FillingLaws.{filled-more}
+use Rattle.tables.specs.fill.FilledRows.{oneMore, putMore, Filling, Adds, Leads}
+use Rattle.tables.specs.fill.FilledRowLaws.{filled-more}
 
 module _ {R : Type 0} (l : Layout R) where
   pub adds-none : (m : List ℕ) (f : Fill) → Adds l [] m f m f

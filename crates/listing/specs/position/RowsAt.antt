@@ -17,7 +17,7 @@ use Rattle.search_rules.specs.Search.{Placing, Noting}
 use Rattle.search_rules.specs.SearchRows.{notedSheet}
 use Rattle.listing_rules.specs.declared.Line.{Line}
 use Rattle.listing_rules.specs.Listing.{notedLine, placedLine, stays}
-use Rattle.listing_rules.specs.Growing.{Fronts}
+use Rattle.listing_rules.specs.FrontLines.{Fronts}
 use Rattle.listing.specs.grade.Sought.{Sought}
 use Rattle.listing.specs.declared.position.Best.{Best}
 use Rattle.listing.specs.position.Bests.{Bests}

@@ -4,8 +4,8 @@ use Rattle.lent.specs.Rows.{putRow}
 use Rattle.run.specs.declared.Counts.{Counts}
 use Rattle.libfind_c.specs.Exported.{countNumbers, countsIn}
 use borrow.Author.Needs.{needs}
-use Rattle.libfind_c.proofs.handing.put_counts.Statement.{statement}
-use Rattle.libfind_c.proofs.handing.put_counts.Tie as tie
+use Rattle.libfind_c.proofs.numbers.put_counts.Statement.{statement}
+use Rattle.libfind_c.proofs.numbers.put_counts.Tie as tie
 
 returns : tie.Need-returns
 unfolding countsIn

@@ -8,7 +8,7 @@ use native.Mathlib.Omega.{arith}
 use lib.ListN.{length, getD, set, length-set}
 use lib.Seq.{getD-set-same, getD-set-other}
 use Rattle.lent.specs.Lists.{fold, insert, sorted}
-use Rattle.listing.specs.order.Sorting.{Strict, Comparable, Every, Rising, Sinking}
+use Rattle.listing.specs.order.InOrder.{Strict, Comparable, Every, Rising, Sinking}
 use Rattle.listing.specs.order.InsertLaws.{never-both, insert-before, insert-behind, front}
 
 module _ {A : Type 0} (less : A → A → Bool) (strict : Strict less) (C : A → Type 0) (compare : Comparable less C) (d : A) where

@@ -21,7 +21,7 @@ use Rattle.search_rules.specs.Search.{Noting, notesIt, isNoted, alsoNoted, note
 use Rattle.search_rules.specs.SearchRows.{notedSheet, notedCells}
 use Rattle.search_rules.specs.SearchLayouts.{notedAt}
 use Rattle.search_rules.specs.FindableLaws.{noted-reads}
-use Rattle.search.specs.note.Noting.{validated}
+use Rattle.search.specs.note.NotedNames.{validated}
 
 module _ (library : List ℕ) (new : Noting) where
   pub note-known : (rows : List Noting) → isNoted library rows (new .target) (new .name) ≡ true → note library rows new ≡ map (alsoNoted library new) rows

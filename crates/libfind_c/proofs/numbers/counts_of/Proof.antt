@@ -1,7 +1,7 @@
 -- `counts_of` gives zeros with every refusal. Assumes nothing.
 use borrow.Author.Needs.{needs}
-use Rattle.libfind_c.proofs.handing.counts_of.Statement.{statement}
-use Rattle.libfind_c.proofs.handing.counts_of.Tie as tie
+use Rattle.libfind_c.proofs.numbers.counts_of.Statement.{statement}
+use Rattle.libfind_c.proofs.numbers.counts_of.Tie as tie
 
 returns-2 : tie.Need-returns-2
 returns-2 c = rw (c .before .answer2 .given .1)

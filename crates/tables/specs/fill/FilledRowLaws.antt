@@ -13,7 +13,7 @@ use Rattle.lent.specs.Lists.{one, joined}
 use Rattle.lent.specs.Rows.{zeros, padded, putRow, Layout}
 use Rattle.lent.specs.RowLaws.{Wide, padded-nil, append-row, put-length}
 use Rattle.tables.specs.declared.fill.Fill.{Fill}
-use Rattle.tables.specs.fill.Filling.{noMore, oneMore, putMore, Holds, Filling}
+use Rattle.tables.specs.fill.FilledRows.{noMore, oneMore, putMore, Holds, Filling}
 
 -- what one more comes to, case by case
 module _ (f : Fill) (width len : ℕ) where

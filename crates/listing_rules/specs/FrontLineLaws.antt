@@ -14,7 +14,7 @@ use Rattle.lent.specs.RowLaws.{put-there, put-length}
 use Rattle.tables.specs.declared.fill.Fill.{Fill}
 use Rattle.listing_rules.specs.declared.Line.{Line}
 use Rattle.listing_rules.specs.Listing.{lineWidth, lineCells, lineNumbers}
-use Rattle.listing_rules.specs.Growing.{Fronts, Front, Extends, LeadsTo}
+use Rattle.listing_rules.specs.FrontLines.{Fronts, Front, Extends, LeadsTo}
 
 pub numbers-length : (lines : List Line) → length (lineNumbers lines) ≡ length lines * lineWidth
 unfolding lineNumbers

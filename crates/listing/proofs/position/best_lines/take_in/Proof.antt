@@ -1,7 +1,7 @@
 -- `take_in`, case by case. Assumes nothing.
 use borrow.Author.Needs.{needs}
-use Rattle.listing.proofs.position.taking.take_in.Statement.{statement}
-use Rattle.listing.proofs.position.taking.take_in.Tie as tie
+use Rattle.listing.proofs.position.best_lines.take_in.Statement.{statement}
+use Rattle.listing.proofs.position.best_lines.take_in.Tie as tie
 use Prim.Native.Nat.{_+_}
 use mathlib.Core.Path.{subst, sym}
 use mathlib.Core.List.{_∷_}

@@ -1,7 +1,7 @@
 -- `settings_of` puts the settings together. Assumes nothing.
 use borrow.Author.Needs.{needs}
-use Rattle.libfind_c.proofs.handing.settings_of.Statement.{statement}
-use Rattle.libfind_c.proofs.handing.settings_of.Tie as tie
+use Rattle.libfind_c.proofs.numbers.settings_of.Statement.{statement}
+use Rattle.libfind_c.proofs.numbers.settings_of.Tie as tie
 
 returns : tie.Need-returns
 returns c = rw (c .skip-of .ensures)

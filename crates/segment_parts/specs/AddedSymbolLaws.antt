@@ -12,7 +12,7 @@ use Rattle.omf51.specs.declared.ModuleId.{ModuleId}
 use Rattle.module_index.specs.gather.Places.{publicAt}
 use Rattle.segment_parts.specs.declared.carried.Carried.{Carried}
 use Rattle.segment_parts.specs.declared.carried.Carried.the-variants.{All, Inside}
-use Rattle.segment_parts.specs.Naming.{carriesAt, baseOf, symbolBy}
+use Rattle.segment_parts.specs.AddedSymbols.{carriesAt, baseOf, symbolBy}
 
 pub inside-test : (at len offset : ℕ) → at ≤ offset → ltb (offset - at) len ≡ (leb at offset && ltb offset (at + len))
 inside-test at len offset h = rw (le-leb at offset h) (go (ltb (offset - at) len) refl)

@@ -11,7 +11,7 @@ use Rattle.tables.specs.links.IndexLaws.{unlinked}
 use Rattle.module_index.specs.gather.Into.{Roomy, GatheredInto}
 use Rattle.module_index.specs.gather.GatherLaws.{gathered-follow, gathered-within}
 use Rattle.module_index.specs.Indexed.{Blank}
-use Rattle.module_index.specs.Indexing.{IndexedInto}
+use Rattle.module_index.specs.IndexedTables.{IndexedInto}
 
 -- the keys are lent as the part from 0 up to n
 module _ {A : Type 0} (key : A → ℕ) (is : List ℕ → ℕ → A → Type 0) (none : A) {xs : List A} {keys₀ places₀ keys places : List ℕ} {n : ℕ} (g : GatheredInto key is none xs keys₀ places₀ keys places n) where

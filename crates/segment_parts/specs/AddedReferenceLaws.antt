@@ -5,8 +5,8 @@ use mathlib.Core.List.{List, _∷_, _++_}
 use Rattle.lent.specs.Lists.{joined}
 use Rattle.lent.specs.ListLaws.{joined-turn}
 use Rattle.tables.specs.declared.fill.Fill.{Fill}
-use Rattle.tables.specs.fill.Filling.{Adds, Leads}
-use Rattle.tables.specs.fill.AddingLaws.{lead-on}
+use Rattle.tables.specs.fill.FilledRows.{Adds, Leads}
+use Rattle.tables.specs.fill.AddedRowLaws.{lead-on}
 use Rattle.omf51.specs.declared.Definition.{Definition}
 use Rattle.omf51.specs.declared.Fixup.{Fixup}
 use Rattle.segments.specs.declared.Reference.{Reference}
@@ -14,8 +14,8 @@ use Rattle.segments.specs.SegmentLayouts.{referenceLayout}
 use Rattle.module_ids.specs.declared.IdRow.{IdRow}
 use Rattle.module_ids.specs.IdRows.{idRowAt}
 use Rattle.module_ids.specs.Noted.{Tells}
-use Rattle.module_ids.specs.reference.Leaving.{leavesBy}
-use Rattle.segment_parts.specs.Referring.{leavesIn}
+use Rattle.module_ids.specs.reference.LeftReference.{leavesBy}
+use Rattle.segment_parts.specs.AddedReferences.{leavesIn}
 
 -- one fixup more: what it leaves by its row is added, and the rest is left
 pub refer-on : (definitions : List Definition) (table : List ℕ) (number base : ℕ) (f : Fixup) {row : IdRow} {left rest : List Fixup} {all new : List Reference} {m₀ m n : List ℕ} {g₀ g h : Fill}

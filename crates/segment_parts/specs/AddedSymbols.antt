@@ -8,7 +8,7 @@ use lib.ListN.{length}
 use Rattle.lent.specs.Choice.{if_then_else_}
 use Rattle.lent.specs.Lists.{one, joined}
 use Rattle.tables.specs.declared.fill.Fill.{Fill}
-use Rattle.tables.specs.fill.Filling.{Adds}
+use Rattle.tables.specs.fill.FilledRows.{Adds}
 use Rattle.omf51.specs.declared.ModuleId.{ModuleId}
 use Rattle.omf51.specs.declared.Definition.{Definition}
 use Rattle.omf51.specs.declared.Definition.the-variants.{Segment, Public, External}

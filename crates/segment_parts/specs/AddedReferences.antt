@@ -5,7 +5,7 @@ use mathlib.Core.List.{List}
 use lib.ListN.{length}
 use Rattle.lent.specs.Lists.{joined}
 use Rattle.tables.specs.declared.fill.Fill.{Fill}
-use Rattle.tables.specs.fill.Filling.{Adds}
+use Rattle.tables.specs.fill.FilledRows.{Adds}
 use Rattle.omf51.specs.declared.ModuleId.{ModuleId}
 use Rattle.omf51.specs.declared.Definition.{Definition}
 use Rattle.omf51.specs.declared.Fixup.{Fixup}
@@ -16,7 +16,7 @@ use Rattle.tables.specs.links.Follow.{Follows}
 use Rattle.module_index.specs.gather.Places.{SectionIs}
 use Rattle.module_ids.specs.IdRows.{idRow, idRowAt}
 use Rattle.module_ids.specs.Noted.{Tells}
-use Rattle.module_ids.specs.reference.Leaving.{placeIn, leavesBy}
+use Rattle.module_ids.specs.reference.LeftReference.{placeIn, leavesBy}
 
 -- no number of a segment, and no place of a reference, passes 64 bits
 pub record Placeable (table : List ℕ) (number base : ℕ) : Type 0 where

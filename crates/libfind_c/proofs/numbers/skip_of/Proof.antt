@@ -1,7 +1,7 @@
 -- `skip_of` makes a skip amount of two numbers. Assumes nothing.
 use borrow.Author.Needs.{needs}
-use Rattle.libfind_c.proofs.handing.skip_of.Statement.{statement}
-use Rattle.libfind_c.proofs.handing.skip_of.Tie as tie
+use Rattle.libfind_c.proofs.numbers.skip_of.Statement.{statement}
+use Rattle.libfind_c.proofs.numbers.skip_of.Tie as tie
 
 returns : tie.Need-returns
 returns c = rw (c .if1 .taken)

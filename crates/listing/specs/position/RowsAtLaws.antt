@@ -16,10 +16,10 @@ use Rattle.tables.specs.by_name.TableLaws.{table-done}
 use Rattle.tables.specs.by_name.ChainLaws.{keep-both, head-stands, head-last, linkOf, row-there, link-less, link-stands, link-passes}
 use Rattle.listing_rules.specs.declared.Line.{Line}
 use Rattle.listing_rules.specs.Listing.{bestGrade, best}
-use Rattle.listing_rules.specs.Growing.{Fronts}
+use Rattle.listing_rules.specs.FrontLines.{Fronts}
 use Rattle.listing.specs.declared.position.Best.{Best}
 use Rattle.listing.specs.position.Bests.{Bests, Meets}
-use Rattle.listing.specs.position.Walking.{Walked}
+use Rattle.listing.specs.position.RowsAt.{Walked}
 
 -- none was met yet
 pub none-met : (lines : List Line) (m : List ℕ) → Fronts lines m → Bests lines [] m (record { count = 0; grade = 0 })
