@@ -37,6 +37,6 @@ pub fn load(i: usize, room: &mut [u8]) -> Loaded {
 }
 
 // The bytes of the room that are the file.
-pub fn loaded(room: &[u8], size: usize) -> &[u8] {
+pub fn bytes_of(room: &[u8], size: usize) -> &[u8] {
     name(room, Part { at: 0, len: size })
 }

@@ -4,7 +4,7 @@ use command::arguments::Request;
 use command::file;
 use command::file::Loaded;
 use command::file::load;
-use command::file::loaded;
+use command::file::bytes_of;
 use command::output::print;
 use command::refusal_words::say_refused;
 use lent::refusal::Refusal;
@@ -67,8 +67,8 @@ pub fn list(request: Request) {
     };
     let settings = request.settings;
     find_in(
-        loaded(&first, in_image),
-        loaded(&second, in_library),
+        bytes_of(&first, in_image),
+        bytes_of(&second, in_library),
         settings,
     );
 }
