@@ -8,3 +8,5 @@ pub mod StretchLaws
 pub mod Options
 pub mod SettingsOf
 pub mod Arguments
+pub mod ArgumentLaws
+pub mod Examples

@@ -4,9 +4,9 @@ use mathlib.Core.List.{List, [], _∷_}
 use lib.Dec.{eqb, leb}
 use lib.ListN.{length, take, drop}
 use Rattle.lent.specs.Choice.{if_then_else_}
-use Rattle.command.specs.Words.{tooLong}
+use Rattle.command.specs.Words.{tooLong, mistake}
 use Rattle.command.specs.Values.{numberRead}
-use Rattle.command.specs.declared.mistake.Mistake.the-variants.{TooLong, NotAStretch}
+use Rattle.command.specs.declared.mistake.Fault.the-variants.{TooLong, NotAStretch}
 use Rattle.command.specs.declared.values.Read.{Read}
 use Rattle.command.specs.declared.values.Read.the-variants.{Number, Wrong}
 use Rattle.command.specs.declared.stretch.Withheld.{Withheld}
@@ -25,8 +25,8 @@ stretchFrom (Wrong m) length = WrongStretch m
 
 unfoldable pub stretchRead : List ℕ → ℕ → Withheld
 stretchRead word i =
-    if leb (length word) (colonIn word) then WrongStretch (NotAStretch i)
+    if leb (length word) (colonIn word) then WrongStretch (mistake NotAStretch i)
     else stretchFrom (numberRead (take (colonIn word) word) i) (numberRead (drop (colonIn word + 1) word) i)
 
 unfoldable pub stretchValue : List ℕ → ℕ → Withheld
-stretchValue word i = if tooLong word then WrongStretch (TooLong i) else stretchRead word i
+stretchValue word i = if tooLong word then WrongStretch (mistake TooLong i) else stretchRead word i

@@ -1,6 +1,7 @@
 // The whole command line of a program that takes an image and a library: what it asks for, told word by word.
 ghost use mathlib.Core.Path.{_≡_};
-ghost use Rattle.command.specs.Arguments.{begun, fileTaken, uncheckedTaken, optionTaken, freeTaken, taken, requestOf, ended};
+ghost use Rattle.command.specs.Arguments.{begun, fileTaken, uncheckedTaken, optionTaken, freeTaken, taken, requestOf, ended, FromWord, FromWords};
+use crate::mistake::Fault;
 use crate::mistake::Mistake;
 use crate::options::Kind;
 use crate::options::Options;
@@ -29,12 +30,13 @@ pub struct Given {
     pub expected: Expected,
 }
 
+// What one word more leads to.
 pub enum Step {
     Next(Given),
     Wrong(Mistake),
 }
 
-// A file is told by the number of its word.
+// What a whole command line asks for: what to do with which two files.
 pub struct Request {
     pub image: usize,
     pub library: usize,
@@ -46,6 +48,7 @@ pub enum Requested {
     Wrong(Mistake),
 }
 
+// Before the first word.
 pub fn begin() -> Given
     ensures { λ r. ⌜ r ≡ begun ⌝ }
 {
@@ -70,7 +73,10 @@ fn take_file(known: Given, i: usize) -> Step
         next.library = i;
         return Step::Next(next);
     }
-    Step::Wrong(Mistake::ThirdFile(i))
+    Step::Wrong(Mistake {
+        fault: Fault::ThirdFile,
+        word: i,
+    })
 }
 
 // An option that is given twice is refused, not settled by the last: of two stretches to be withheld neither may be passed over.
@@ -79,7 +85,10 @@ fn take_option(known: Given, option: Valued, i: usize) -> Step
 {
     let options = known.options;
     if is_given(options, option) {
-        return Step::Wrong(Mistake::Twice(i));
+        return Step::Wrong(Mistake {
+            fault: Fault::Twice,
+            word: i,
+        });
     }
     Step::Next(Given {
         image: known.image,
@@ -101,24 +110,34 @@ fn take_no_check(known: Given, i: usize) -> Step
             expected: Expected::Any,
         });
     }
-    Step::Wrong(Mistake::Twice(i))
+    Step::Wrong(Mistake {
+        fault: Fault::Twice,
+        word: i,
+    })
 }
 
+// Takes a word that is no option's value.
 fn take_free(known: Given, word: &[u8], i: usize) -> Step
     ensures { λ r. ⌜ r ≡ freeTaken known (now (word .entry)) i ⌝ }
 {
     if words::is_too_long(word) {
-        return Step::Wrong(Mistake::TooLong(i));
+        return Step::Wrong(Mistake {
+            fault: Fault::TooLong,
+            word: i,
+        });
     }
     match kind_of(word) {
         Kind::NoCheck => take_no_check(known, i),
         Kind::Valued(option) => take_option(known, option, i),
-        Kind::Unknown => Step::Wrong(Mistake::Unknown(i)),
+        Kind::Unknown => Step::Wrong(Mistake {
+            fault: Fault::Unknown,
+            word: i,
+        }),
         Kind::File => take_file(known, i),
     }
 }
 
-// A value that is wrong is told only once all words are gone through.
+// Takes word i. A value that is wrong is told only once all words are gone through.
 pub fn take(known: Given, word: &[u8], i: usize) -> Step
     ensures { λ r. ⌜ r ≡ taken known (now (word .entry)) i ⌝ }
 {
@@ -154,26 +173,40 @@ pub fn end(known: Given, last: usize) -> Requested
 {
     let expected = known.expected;
     if let Expected::Value(_) = expected {
-        return Requested::Wrong(Mistake::NoValue(last));
+        return Requested::Wrong(Mistake {
+            fault: Fault::NoValue,
+            word: last,
+        });
     }
     if known.image == 0 {
-        return Requested::Wrong(Mistake::NoImage);
+        return Requested::Wrong(Mistake {
+            fault: Fault::NoImage,
+            word: 0,
+        });
     }
     if known.library == 0 {
-        return Requested::Wrong(Mistake::NoLibrary);
+        return Requested::Wrong(Mistake {
+            fault: Fault::NoLibrary,
+            word: 0,
+        });
     }
     let options = known.options;
     request_of(known.image, known.library, options)
 }
 
-fn take_argument(known: Given, i: usize) -> Step {
+// Reads word i and takes it.
+fn take_argument(known: Given, i: usize) -> Step
+    ensures { λ r. ⌜ FromWord known i r ⌝ }
+{
     let mut room = words::room();
     let n = words::read_word(i, &mut room);
     take(known, &room[..n], i)
 }
 
 // What the program's own command line asks for.
-pub fn read_request() -> Requested {
+pub fn read_request() -> Requested
+    ensures { λ r. ⌜ FromWords r ⌝ }
+{
     let count = os::arg_count();
     let mut known = begin();
     let mut i = 1;

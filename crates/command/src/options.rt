@@ -24,16 +24,19 @@ pub enum Kind {
     File,
 }
 
+// The value of an option that takes a number or the rules' word, if the option is given.
 pub enum Value {
     Absent,
     Given(Read),
 }
 
+// The value of --withhold, if that is given.
 pub enum Stretches {
     Absent,
     Given(Withheld),
 }
 
+// The options so far. References are checked, unless --no-check is given.
 pub struct Options {
     pub rules: Value,
     pub check: bool,
@@ -106,6 +109,7 @@ fn is_stretch_given(value: Stretches) -> bool
     }
 }
 
+// Whether an option has its value already.
 pub fn is_given(o: Options, option: Valued) -> bool
     ensures { λ r. ⌜ r ≡ isGiven o option ⌝ }
 {
@@ -193,6 +197,7 @@ pub fn with_value(o: Options, option: Valued, word: &[u8], i: usize) -> Options
     }
 }
 
+// The options with --no-check.
 pub fn unchecked(o: Options) -> Options
     ensures { λ r. ⌜ r ≡ uncheckedOf o ⌝ }
 {

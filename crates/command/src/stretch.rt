@@ -1,6 +1,7 @@
 // What is to be withheld of an image, as it is written on the command line: START:LENGTH.
 ghost use mathlib.Core.Path.{_≡_};
 ghost use Rattle.command.specs.Stretches.{colonIn, stretchRead, stretchValue};
+use crate::mistake::Fault;
 use crate::mistake::Mistake;
 use crate::values::Read;
 use crate::values::read_number;
@@ -33,7 +34,10 @@ fn read_stretch(word: &[u8], i: usize) -> Withheld
 {
     let at = colon(word);
     if word.len() <= at {
-        return Withheld::Wrong(Mistake::NotAStretch(i));
+        return Withheld::Wrong(Mistake {
+            fault: Fault::NotAStretch,
+            word: i,
+        });
     }
     let from = at + 1;
     match read_number(&word[0..at], i) {
@@ -52,7 +56,10 @@ pub fn stretch_value(word: &[u8], i: usize) -> Withheld
     ensures { λ r. ⌜ r ≡ stretchValue (now (word .entry)) i ⌝ }
 {
     if is_too_long(word) {
-        return Withheld::Wrong(Mistake::TooLong(i));
+        return Withheld::Wrong(Mistake {
+            fault: Fault::TooLong,
+            word: i,
+        });
     }
     read_stretch(word, i)
 }

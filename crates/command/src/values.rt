@@ -1,6 +1,7 @@
 // The values of the options that are numbers, or words for numbers.
 ghost use mathlib.Core.Path.{_≡_};
 ghost use Rattle.command.specs.Values.{numberRead, numberValue, rulesValue};
+use crate::mistake::Fault;
 use crate::mistake::Mistake;
 use crate::number::Number;
 use crate::number::number_in;
@@ -19,8 +20,14 @@ pub fn read_number(text: &[u8], i: usize) -> Read
 {
     match number_in(text) {
         Number::Value(n) => Read::Number(n),
-        Number::TooLarge => Read::Wrong(Mistake::NumberTooLarge(i)),
-        Number::NotANumber => Read::Wrong(Mistake::NotANumber(i)),
+        Number::TooLarge => Read::Wrong(Mistake {
+            fault: Fault::NumberTooLarge,
+            word: i,
+        }),
+        Number::NotANumber => Read::Wrong(Mistake {
+            fault: Fault::NotANumber,
+            word: i,
+        }),
     }
 }
 
@@ -28,7 +35,10 @@ pub fn number_value(word: &[u8], i: usize) -> Read
     ensures { λ r. ⌜ r ≡ numberValue (now (word .entry)) i ⌝ }
 {
     if is_too_long(word) {
-        return Read::Wrong(Mistake::TooLong(i));
+        return Read::Wrong(Mistake {
+            fault: Fault::TooLong,
+            word: i,
+        });
     }
     read_number(word, i)
 }
@@ -38,7 +48,10 @@ pub fn rules_value(word: &[u8], i: usize) -> Read
     ensures { λ r. ⌜ r ≡ rulesValue (now (word .entry)) i ⌝ }
 {
     if is_too_long(word) {
-        return Read::Wrong(Mistake::TooLong(i));
+        return Read::Wrong(Mistake {
+            fault: Fault::TooLong,
+            word: i,
+        });
     }
     if same(word, b"found") {
         return Read::Number(0);
@@ -46,5 +59,8 @@ pub fn rules_value(word: &[u8], i: usize) -> Read
     if same(word, b"documented") {
         return Read::Number(1);
     }
-    Read::Wrong(Mistake::NoSuchRules(i))
+    Read::Wrong(Mistake {
+        fault: Fault::NoSuchRules,
+        word: i,
+    })
 }
