@@ -31,33 +31,32 @@ for image library rules check minimum skip stretch =
 nothing : Stretch
 nothing = record { start = 0; len = 0 }
 
-module _ where
-  plain : asked ("aid.img" ∷ "routines.lib" ∷ []) ≡ for 1 2 1 true 3 Never nothing
-  unfolding asked for nothing same kindOf settingsOf freeTaken taken requestOf ended settingsFrom
-  plain = refl
+plain : asked ("aid.img" ∷ "routines.lib" ∷ []) ≡ for 1 2 1 true 3 Never nothing
+unfolding asked for nothing same kindOf settingsOf freeTaken taken requestOf ended settingsFrom
+plain = refl
 
-  withheld : asked ("aid.img" ∷ "routines.lib" ∷ "--withhold" ∷ "0x1204:8" ∷ []) ≡ for 1 2 1 true 3 Never (record { start = 0x1204; len = 8 })
-  unfolding asked for same digitOf digitsFrom numberOf numberRead colonIn stretchRead stretchValue optionOf kindOf settingsOf freeTaken taken requestOf ended settingsFrom
-  withheld = refl
+withheld : asked ("aid.img" ∷ "routines.lib" ∷ "--withhold" ∷ "0x1204:8" ∷ []) ≡ for 1 2 1 true 3 Never (record { start = 0x1204; len = 8 })
+unfolding asked for same digitOf digitsFrom numberOf numberRead colonIn stretchRead stretchValue optionOf kindOf settingsOf freeTaken taken requestOf ended settingsFrom
+withheld = refl
 
-  all-options : asked ("--rules" ∷ "found" ∷ "aid.img" ∷ "--no-check" ∷ "--min-fn-length" ∷ "0xF" ∷ "routines.lib" ∷ "--skip-multiple" ∷ "2" ∷ [])
-      ≡ for 3 7 0 false 15 (Above 2) nothing
-  unfolding asked for nothing same digitOf digitsFrom numberOf numberRead numberValue rulesValue optionOf kindOf settingsOf freeTaken taken requestOf ended settingsFrom
-  all-options = refl
+all-options : asked ("--rules" ∷ "found" ∷ "aid.img" ∷ "--no-check" ∷ "--min-fn-length" ∷ "0xF" ∷ "routines.lib" ∷ "--skip-multiple" ∷ "2" ∷ [])
+    ≡ for 3 7 0 false 15 (Above 2) nothing
+unfolding asked for nothing same digitOf digitsFrom numberOf numberRead numberValue rulesValue optionOf kindOf settingsOf freeTaken taken requestOf ended settingsFrom
+all-options = refl
 
-  twice : asked ("--withhold" ∷ "0:1" ∷ "aid.img" ∷ "routines.lib" ∷ "--withhold" ∷ "2:3" ∷ []) ≡ Wrong (mistake Twice 5)
-  unfolding asked same digitOf digitsFrom numberOf numberRead colonIn stretchRead stretchValue optionOf kindOf freeTaken taken settingsFrom
-  twice = refl
+twice : asked ("--withhold" ∷ "0:1" ∷ "aid.img" ∷ "routines.lib" ∷ "--withhold" ∷ "2:3" ∷ []) ≡ Wrong (mistake Twice 5)
+unfolding asked same digitOf digitsFrom numberOf numberRead colonIn stretchRead stretchValue optionOf kindOf freeTaken taken settingsFrom
+twice = refl
 
-  no-value : asked ("aid.img" ∷ "--rules" ∷ []) ≡ Wrong (mistake NoValue 2)
-  unfolding asked same optionOf kindOf freeTaken taken ended settingsFrom
-  no-value = refl
+no-value : asked ("aid.img" ∷ "--rules" ∷ []) ≡ Wrong (mistake NoValue 2)
+unfolding asked same optionOf kindOf freeTaken taken ended settingsFrom
+no-value = refl
 
-  no-library : asked ("aid.img" ∷ "--min-fn-length" ∷ "x" ∷ []) ≡ Wrong (mistake NoLibrary 0)
-  unfolding asked same digitOf digitsFrom numberOf numberRead numberValue optionOf kindOf freeTaken taken ended settingsFrom
-  no-library = refl
+no-library : asked ("aid.img" ∷ "--min-fn-length" ∷ "x" ∷ []) ≡ Wrong (mistake NoLibrary 0)
+unfolding asked same digitOf digitsFrom numberOf numberRead numberValue optionOf kindOf freeTaken taken ended settingsFrom
+no-library = refl
 
-  -- of two wrong values the minimum is told before the stretch
-  too-large : asked ("aid.img" ∷ "routines.lib" ∷ "--withhold" ∷ "5" ∷ "--min-fn-length" ∷ "18446744073709551616" ∷ []) ≡ Wrong (mistake NumberTooLarge 6)
-  unfolding asked same digitOf digitsFrom numberOf numberRead numberValue colonIn stretchRead stretchValue optionOf kindOf settingsOf freeTaken taken requestOf ended settingsFrom
-  too-large = refl
+-- of two wrong values the minimum is told before the stretch
+too-large : asked ("aid.img" ∷ "routines.lib" ∷ "--withhold" ∷ "5" ∷ "--min-fn-length" ∷ "18446744073709551616" ∷ []) ≡ Wrong (mistake NumberTooLarge 6)
+unfolding asked same digitOf digitsFrom numberOf numberRead numberValue colonIn stretchRead stretchValue optionOf kindOf settingsOf freeTaken taken requestOf ended settingsFrom
+too-large = refl

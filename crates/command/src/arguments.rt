@@ -49,7 +49,7 @@ pub enum Requested {
 }
 
 // Before the first word.
-pub fn begin() -> Given
+fn begin() -> Given
     ensures { λ r. ⌜ r ≡ begun ⌝ }
 {
     Given {
@@ -138,7 +138,7 @@ fn take_free(known: Given, word: &[u8], i: usize) -> Step
 }
 
 // Takes word i. A value that is wrong is told only once all words are gone through.
-pub fn take(known: Given, word: &[u8], i: usize) -> Step
+fn take(known: Given, word: &[u8], i: usize) -> Step
     ensures { λ r. ⌜ r ≡ taken known (now (word .entry)) i ⌝ }
 {
     let expected = known.expected;
@@ -168,7 +168,7 @@ fn request_of(image: usize, library: usize, options: Options) -> Requested
 }
 
 // All words are gone through: the last option must have its value, and both files must be named.
-pub fn end(known: Given, last: usize) -> Requested
+fn end(known: Given, last: usize) -> Requested
     ensures { λ r. ⌜ r ≡ ended known last ⌝ }
 {
     let expected = known.expected;
