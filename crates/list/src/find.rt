@@ -1,11 +1,12 @@
 // The run: both files, what is lent, and what comes of it.
-use crate::file::Loaded;
-use crate::file::load;
 use crate::memory;
-use crate::say::refused;
-use crate::text::print;
-use lent::names::name;
-use lent::part::Part;
+use command::arguments::Request;
+use command::file;
+use command::file::Loaded;
+use command::file::bytes_of;
+use command::file::load;
+use command::output::print;
+use command::refusal_words::say_refused;
 use lent::refusal::Refusal;
 use libfind::entry::find_names;
 use run::Answer;
@@ -37,40 +38,37 @@ fn find(image: &[u8], library: &[u8], settings: Settings) {
         &mut lines,
     ) {
         Answer::Done(counts) => print(library, &lines, counts.lines),
-        Answer::Refused(r) => refused(r),
+        Answer::Refused(r) => say_refused(r, memory::lent()),
     }
 }
 
 // Files that are too long are refused in the order of document 01: before a stretch that passes the image's end, and before the library is read.
 fn find_in(image: &[u8], library: &[u8], settings: Settings) {
     if LONGEST < image.len() {
-        refused(Refusal::ImageTooLong);
+        say_refused(Refusal::ImageTooLong, memory::lent());
         return;
     }
     if LONGEST < library.len() {
-        refused(Refusal::LibraryTooLong);
+        say_refused(Refusal::LibraryTooLong, memory::lent());
         return;
     }
     find(image, library, settings);
 }
 
-fn beginning(room: &[u8], size: usize) -> &[u8] {
-    name(room, Part { at: 0, len: size })
-}
-
-// Lists what stands of one file in the other; both are told by the numbers of their arguments.
-pub fn list(image: usize, library: usize, settings: Settings) {
-    let mut first = memory::file_room();
-    let Loaded::Size(in_image) = load(image, &mut first) else {
+// Lists what stands of the library in the image.
+pub fn list(request: Request) {
+    let mut first = file::room();
+    let Loaded::Size(in_image) = load(request.image, &mut first) else {
         return;
     };
-    let mut second = memory::file_room();
-    let Loaded::Size(in_library) = load(library, &mut second) else {
+    let mut second = file::room();
+    let Loaded::Size(in_library) = load(request.library, &mut second) else {
         return;
     };
+    let settings = request.settings;
     find_in(
-        beginning(&first, in_image),
-        beginning(&second, in_library),
+        bytes_of(&first, in_image),
+        bytes_of(&second, in_library),
         settings,
     );
 }

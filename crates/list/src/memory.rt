@@ -9,23 +9,33 @@
 // The stack: the lists take 2,883,536 bytes and the two files 131,074. Beside them stand the tables of one stage at a time, of which those of the collection
 // are the largest (3,960,262 bytes, crates/tables/src/zeros.rt). The compiler puts everything into one frame, where the stages' tables do not share all of their room:
 // 7,757,824 bytes and some, which leaves 600,000 of 8 MiB for all else.
-pub const SEGMENTS: usize = 9362;
+use run::Counts;
 
-pub const REFERENCES: usize = 9362;
+const SEGMENTS: usize = 9362;
 
-pub const SYMBOLS: usize = 10922;
+const REFERENCES: usize = 9362;
 
-pub const PATTERN: usize = 131072;
+const SYMBOLS: usize = 10922;
 
-pub const PLACED: usize = 8192;
+const PATTERN: usize = 131072;
 
-pub const NOTED: usize = 8192;
+const PLACED: usize = 8192;
 
-pub const LINES: usize = 12288;
+const NOTED: usize = 8192;
 
-// Longer than any file that is accepted by one byte, so that a longer file is known by its length.
-pub fn file_room() -> [u8; 65537] {
-    [0u8; 65537]
+const LINES: usize = 12288;
+
+// How much is lent of each, for whoever is refused for want of it.
+pub fn lent() -> Counts {
+    Counts {
+        segments: SEGMENTS,
+        references: REFERENCES,
+        symbols: SYMBOLS,
+        pattern: PATTERN,
+        placed: PLACED,
+        noted: NOTED,
+        lines: LINES,
+    }
 }
 
 pub fn segments() -> [u64; 74896] {

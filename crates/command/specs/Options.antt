@@ -1,0 +1,80 @@
+-- The options of the command line, and what is known of them.
+use Prim.Native.Nat.{ℕ}
+use mathlib.Core.Bool.{Bool, true, false}
+use mathlib.Core.List.{List}
+use lib.Dec.{eqb}
+use lib.ListN.{length, getD}
+use Rattle.lent.specs.Choice.{if_then_else_}
+use Rattle.lent.specs.Parts.{same}
+use Rattle.describe.specs.Describe.{text}
+use Rattle.command.specs.Values.{numberValue, rulesValue}
+use Rattle.command.specs.Stretches.{stretchValue}
+use Rattle.command.specs.declared.values.Read.{Read}
+use Rattle.command.specs.declared.stretch.Withheld.{Withheld}
+use Rattle.command.specs.declared.options.Valued as valued
+use Rattle.command.specs.declared.options.Valued.the-variants.{Rules, Minimum, Skip, Withhold}
+use Rattle.command.specs.declared.options.Kind.{Kind}
+use Rattle.command.specs.declared.options.Kind.the-variants.{NoCheck, Valued, Unknown, File}
+use Rattle.command.specs.declared.options.Value.{Value}
+use Rattle.command.specs.declared.options.Value.the-variants.{Absent, Given}
+use Rattle.command.specs.declared.options.Stretches.{Stretches}
+use Rattle.command.specs.declared.options.Stretches.the-variants.{Absent as NoStretch, Given as GivenStretch}
+use Rattle.command.specs.declared.options.Options.{Options}
+
+-- the options by their words
+unfoldable pub optionOf : List ℕ → Kind
+optionOf word =
+    if same word (text "--no-check") then NoCheck
+    else if same word (text "--min-fn-length") then Valued Minimum
+    else if same word (text "--skip-multiple") then Valued Skip
+    else if same word (text "--rules") then Valued Rules
+    else if same word (text "--withhold") then Valued Withhold
+    else Unknown
+
+-- what a word is that is no option's value: an option, if it begins with -, and else a file
+unfoldable pub kindOf : List ℕ → Kind
+kindOf word =
+    if eqb (length word) 0 then File
+    else if eqb (getD word 0 0) 0x2D then optionOf word
+    else File
+
+-- where no option is given: references are checked, and nothing else is said
+abbrev pub noOptions : Options
+noOptions = record { rules = Absent; check = true; minimum = Absent; skip = Absent; withheld = NoStretch }
+
+abbrev pub valueGiven : Value → Bool
+valueGiven Absent = false
+valueGiven (Given read) = true
+
+abbrev pub stretchGiven : Stretches → Bool
+stretchGiven NoStretch = false
+stretchGiven (GivenStretch read) = true
+
+-- whether an option has its value already
+abbrev pub isGiven : Options → valued.Valued → Bool
+isGiven o Rules = valueGiven (o .rules)
+isGiven o Minimum = valueGiven (o .minimum)
+isGiven o Skip = valueGiven (o .skip)
+isGiven o Withhold = stretchGiven (o .withheld)
+
+-- an option's value is put in; the others stay
+abbrev pub withRules : Options → Read → Options
+withRules o read = record { rules = Given read; check = o .check; minimum = o .minimum; skip = o .skip; withheld = o .withheld }
+
+abbrev pub withMinimum : Options → Read → Options
+withMinimum o read = record { rules = o .rules; check = o .check; minimum = Given read; skip = o .skip; withheld = o .withheld }
+
+abbrev pub withSkip : Options → Read → Options
+withSkip o read = record { rules = o .rules; check = o .check; minimum = o .minimum; skip = Given read; withheld = o .withheld }
+
+abbrev pub withWithheld : Options → Withheld → Options
+withWithheld o read = record { rules = o .rules; check = o .check; minimum = o .minimum; skip = o .skip; withheld = GivenStretch read }
+
+abbrev pub uncheckedOf : Options → Options
+uncheckedOf o = record { rules = o .rules; check = false; minimum = o .minimum; skip = o .skip; withheld = o .withheld }
+
+abbrev pub withValue : Options → valued.Valued → List ℕ → ℕ → Options
+withValue o Rules word i = withRules o (rulesValue word i)
+withValue o Minimum word i = withMinimum o (numberValue word i)
+withValue o Skip word i = withSkip o (numberValue word i)
+withValue o Withhold word i = withWithheld o (stretchValue word i)

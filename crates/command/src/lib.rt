@@ -1,0 +1,14 @@
+// What the programs share: the words of the command line and the settings that they ask for, files, what is said where there is no list, and the list on
+// standard output.
+pub mod arguments;
+pub mod file;
+pub mod message;
+pub mod mistake;
+pub mod number;
+pub mod options;
+pub mod output;
+pub mod refusal_words;
+pub mod settings;
+pub mod stretch;
+pub mod values;
+pub mod words;

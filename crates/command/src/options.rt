@@ -1,0 +1,207 @@
+// The options by their words, and what is known of them so far.
+ghost use mathlib.Core.Path.{_≡_};
+ghost use Rattle.command.specs.Options.{optionOf, kindOf, noOptions, valueGiven, stretchGiven, isGiven, withRules, withMinimum, withSkip, withWithheld, withValue, uncheckedOf};
+use crate::stretch::Withheld;
+use crate::stretch::stretch_value;
+use crate::values::Read;
+use crate::values::number_value;
+use crate::values::rules_value;
+use lent::names::same;
+
+// The options that have a value, which is the next word.
+pub enum Valued {
+    Rules,
+    Minimum,
+    Skip,
+    Withhold,
+}
+
+// What a word is that is no option's value.
+pub enum Kind {
+    NoCheck,
+    Valued(Valued),
+    Unknown,
+    File,
+}
+
+// The value of an option that takes a number or the rules' word, if the option is given.
+pub enum Value {
+    Absent,
+    Given(Read),
+}
+
+// The value of --withhold, if that is given.
+pub enum Stretches {
+    Absent,
+    Given(Withheld),
+}
+
+// The options so far. References are checked, unless --no-check is given.
+pub struct Options {
+    pub rules: Value,
+    pub check: bool,
+    pub minimum: Value,
+    pub skip: Value,
+    pub withheld: Stretches,
+}
+
+fn option_of(word: &[u8]) -> Kind
+    ensures { λ r. ⌜ r ≡ optionOf (now (word .entry)) ⌝ }
+{
+    if same(word, b"--no-check") {
+        return Kind::NoCheck;
+    }
+    if same(word, b"--min-fn-length") {
+        return Kind::Valued(Valued::Minimum);
+    }
+    if same(word, b"--skip-multiple") {
+        return Kind::Valued(Valued::Skip);
+    }
+    if same(word, b"--rules") {
+        return Kind::Valued(Valued::Rules);
+    }
+    if same(word, b"--withhold") {
+        return Kind::Valued(Valued::Withhold);
+    }
+    Kind::Unknown
+}
+
+// A word that begins with - is an option, any other a file.
+pub fn kind_of(word: &[u8]) -> Kind
+    ensures { λ r. ⌜ r ≡ kindOf (now (word .entry)) ⌝ }
+{
+    if word.len() == 0 {
+        return Kind::File;
+    }
+    if word[0] == b'-' {
+        return option_of(word);
+    }
+    Kind::File
+}
+
+pub fn no_options() -> Options
+    ensures { λ r. ⌜ r ≡ noOptions ⌝ }
+{
+    Options {
+        rules: Value::Absent,
+        check: true,
+        minimum: Value::Absent,
+        skip: Value::Absent,
+        withheld: Stretches::Absent,
+    }
+}
+
+fn is_value_given(value: Value) -> bool
+    ensures { λ r. ⌜ r ≡ valueGiven value ⌝ }
+{
+    match value {
+        Value::Absent => false,
+        Value::Given(_) => true,
+    }
+}
+
+fn is_stretch_given(value: Stretches) -> bool
+    ensures { λ r. ⌜ r ≡ stretchGiven value ⌝ }
+{
+    match value {
+        Stretches::Absent => false,
+        Stretches::Given(_) => true,
+    }
+}
+
+// Whether an option has its value already.
+pub fn is_given(o: Options, option: Valued) -> bool
+    ensures { λ r. ⌜ r ≡ isGiven o option ⌝ }
+{
+    let rules = o.rules;
+    let minimum = o.minimum;
+    let skip = o.skip;
+    let withheld = o.withheld;
+    match option {
+        Valued::Rules => is_value_given(rules),
+        Valued::Minimum => is_value_given(minimum),
+        Valued::Skip => is_value_given(skip),
+        Valued::Withhold => is_stretch_given(withheld),
+    }
+}
+
+fn with_rules(o: Options, read: Read) -> Options
+    ensures { λ r. ⌜ r ≡ withRules o read ⌝ }
+{
+    let minimum = o.minimum;
+    let skip = o.skip;
+    let withheld = o.withheld;
+    Options {
+        rules: Value::Given(read),
+        check: o.check,
+        minimum,
+        skip,
+        withheld,
+    }
+}
+
+fn with_minimum(o: Options, read: Read) -> Options
+    ensures { λ r. ⌜ r ≡ withMinimum o read ⌝ }
+{
+    let rules = o.rules;
+    let skip = o.skip;
+    let withheld = o.withheld;
+    Options {
+        rules,
+        check: o.check,
+        minimum: Value::Given(read),
+        skip,
+        withheld,
+    }
+}
+
+fn with_skip(o: Options, read: Read) -> Options
+    ensures { λ r. ⌜ r ≡ withSkip o read ⌝ }
+{
+    let rules = o.rules;
+    let minimum = o.minimum;
+    let withheld = o.withheld;
+    Options {
+        rules,
+        check: o.check,
+        minimum,
+        skip: Value::Given(read),
+        withheld,
+    }
+}
+
+fn with_withheld(o: Options, read: Withheld) -> Options
+    ensures { λ r. ⌜ r ≡ withWithheld o read ⌝ }
+{
+    let rules = o.rules;
+    let minimum = o.minimum;
+    let skip = o.skip;
+    Options {
+        rules,
+        check: o.check,
+        minimum,
+        skip,
+        withheld: Stretches::Given(read),
+    }
+}
+
+// The options with the value of one more, which is word i.
+pub fn with_value(o: Options, option: Valued, word: &[u8], i: usize) -> Options
+    ensures { λ r. ⌜ r ≡ withValue o option (now (word .entry)) i ⌝ }
+{
+    match option {
+        Valued::Rules => with_rules(o, rules_value(word, i)),
+        Valued::Minimum => with_minimum(o, number_value(word, i)),
+        Valued::Skip => with_skip(o, number_value(word, i)),
+        Valued::Withhold => with_withheld(o, stretch_value(word, i)),
+    }
+}
+
+// The options with --no-check.
+pub fn unchecked(o: Options) -> Options
+    ensures { λ r. ⌜ r ≡ uncheckedOf o ⌝ }
+{
+    let mut next = o;
+    next.check = false;
+    next
+}

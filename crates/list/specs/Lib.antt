@@ -1,3 +1,0 @@
--- Numbers on the command line.
-pub mod Numbers
-pub mod NumberLaws
