@@ -1,7 +1,7 @@
 #!/usr/bin/env python3
 """tally.py FILE..: for each library what is in it, and how many rows and pattern bytes its collection takes under either rule set, as a line of a table.
 
-collection.py of tools/oracle computes the rows themselves, but goes through all definitions for each fixup; here they are only counted, by tables."""
+collection.py of tools/oracle/model computes the rows themselves, but goes through all definitions for each fixup; here they are only counted, by tables."""
 import sys
 from bisect import bisect_left
 from collections import Counter

@@ -1,5 +1,5 @@
-"""Document 01's "Collecting segments", written from its text and apart from the Rust: what the modules of a library come to, as segments, as
-rows of numbers, and as the lent lists are left."""
+"""Document 01's "Collecting segments", written from its text and apart from the Rust: what the modules of a library come to,
+as segments and as rows of numbers."""
 from dataclasses import dataclass
 
 RELATIVE, WORD, INBLOCK = 2, 4, 5

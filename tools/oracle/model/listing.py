@@ -1,5 +1,5 @@
-"""Document 01's "Grades and listing", written from its text and apart from the Rust: which names are listed at which addresses and with which
-grade, of what a search left; how that is printed; and the lines as rows of numbers and as the lent lists are left."""
+"""Document 01's "Grades and listing", written from its text and apart from the Rust: which names are listed at which
+addresses and with which grade, of what a search left; how that is printed; and the lines as rows of numbers."""
 from dataclasses import dataclass
 
 # Numbers in a row of lines.

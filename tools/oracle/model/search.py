@@ -1,5 +1,5 @@
-"""Document 01's "Matching and references", written from its text and apart from the Rust: where the segments match in an image, which symbols
-they place there, which names their references note; and these as rows of numbers and as the lent lists are left."""
+"""Document 01's "Matching and references", written from its text and apart from the Rust: where the segments match in an
+image, which symbols they place there, which names their references note; and these as rows of numbers."""
 from dataclasses import dataclass
 
 from model.collection import DOCUMENTED, INBLOCK, RELATIVE, WORD

@@ -51,9 +51,9 @@ def any_content(rng):
     return Content(rng.choice(IDS), any_word(rng), rng.randbytes(rng.choice((0, 1, 2, 5, 12))), fixups)
 
 
-def any_module(rng, definitions=None, contents=None):
-    """Of given counts, or of some."""
-    definitions = rng.choice((0, 1, 2, 3, 4, 6)) if definitions is None else definitions
+def any_module(rng, contents=None):
+    """Of a given count of contents, or of some."""
+    definitions = rng.choice((0, 1, 2, 3, 4, 6))
     contents = rng.choice((0, 1, 1, 2, 3)) if contents is None else contents
     made = [any_definition(rng) for _ in range(definitions)]
     if rng.random() < 0.5:

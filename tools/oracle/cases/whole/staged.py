@@ -65,7 +65,7 @@ def made(rng, makers):
 def read(rng):
     """Libraries for the reading: the sweeps, and random ones."""
     swept = [lib for sweep in READING_SWEEPS for lib in sweep(rng)]
-    return [run_of(rng, "reading swept", lib) for lib in swept] + [run_of(rng, "reading", lib) for lib in made(rng, READING)]
+    return [run_of(rng, "reading swept", lib) for lib in swept] + [run_of(rng, "reading random", lib) for lib in made(rng, READING)]
 
 
 def collected(rng):
