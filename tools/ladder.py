@@ -12,7 +12,7 @@ Every citation is then written by these names, as `at-entry (at-loop c) .args`; 
 than once gets a `let` there. Which places get a name is a matter of length only: names are added as long as they make
 the proof shorter. Then `rt fmt` runs, and long lines are broken. A second run changes nothing.
 
-    rt dev NAME --generated /tmp/gen     the modules of a crate whose proofs hold
+    rt dev NAME --generated /tmp/gen     the modules; they are written where a proof fails, too
     tools/ladder.py /tmp/gen NAME        all proofs of crates/NAME; or NAME/proofs/entry: those in that folder
     rt dev NAME                          the check
 
