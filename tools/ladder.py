@@ -136,7 +136,7 @@ class Proof:
             equations += " ".join(f"({lets[name]})" for name in sorted(words(equations) & {*lets}))
             for run in RUN.finditer(equations):
                 goal = run[1] in scope and self.goal(scope[run[1]], run[2], run[3])
-                if goal in self.places.up(scope.get(run[1])) and not re.match("Start|At-loop", goal):
+                if goal in self.places.up(scope.get(run[1])) and goal != "Start":
                     steps.append(self.places.up(scope[run[1]]).index(goal))
         return max(steps)
 
