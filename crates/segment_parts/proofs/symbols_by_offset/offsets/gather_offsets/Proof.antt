@@ -71,8 +71,8 @@ at-loop c = c .before .before .before .before
 abbrev at-entry : tie.After-known-told Inv-loop μ-loop → tie.Start Inv-loop μ-loop
 at-entry c = at-loop c .before .before .before .before .before
 
-abbrev after-known-told : tie.After-struct-known Inv-loop μ-loop → tie.After-known-told Inv-loop μ-loop
-after-known-told c = c .before .before .before .before
+abbrev after-known-told : tie.After-known-told2 Inv-loop μ-loop → tie.After-known-told Inv-loop μ-loop
+after-known-told c = c .before .before .before
 
 -- the next definition, once it is known
 abbrev Told : Type 0
@@ -123,12 +123,12 @@ this c =
     let definition2 = c .before in
     Public (definition2 .definition2 .given .0 .0) (definition2 .definition2 .given .0 .1 .0) (definition2 .definition2 .given .0 .1 .1 .0)
 
-step-public : (c : Found) → nextDefinition (now (at-entry (c .before .before .before) .args .library)) (at-loop (c .before .before .before) .loop .c)
-    ≡ Item (this c) (c .before .before .before .before .definition .given .0 .1 .0)
-step-public c = step (c .before .before .before) ∙ ap (λ d. Item d (c .before .before .before .before .definition .given .0 .1 .0)) (c .before .definition2 .given .1)
+step-public : (c : Found) → nextDefinition (now (at-entry (after-known-told c) .args .library)) (at-loop (after-known-told c) .loop .c)
+    ≡ Item (this c) (after-known-told c .before .definition .given .0 .1 .0)
+step-public c = step (after-known-told c) ∙ ap (λ d. Item d (after-known-told c .before .definition .given .0 .1 .0)) (c .before .definition2 .given .1)
 
-again : (c : Found) → PublicAgain (now (at-entry (c .before .before .before) .args .library)) (c .before .definition2 .given .0 .1 .0) (c .before .definition2 .given .0 .1 .1 .0)
-again c = public-again (at-entry (c .before .before .before) .args .library .now) (at-loop (c .before .before .before) .loop .c) (step-public c)
+again : (c : Found) → PublicAgain (now (at-entry (after-known-told c) .args .library)) (c .before .definition2 .given .0 .1 .0) (c .before .definition2 .given .0 .1 .1 .0)
+again c = public-again (at-entry (after-known-told c) .args .library .now) (at-loop (after-known-told c) .loop .c) (step-public c)
 
 loop-holds : tie.Need-loop-holds Inv-loop μ-loop
 loop-holds c =
@@ -147,7 +147,7 @@ loop-holds c =
 
 cast-keys : tie.Need-cast-keys Inv-loop μ-loop
 cast-keys c =
-    let known-told = after-known-told (c .before) in
+    let known-told = after-known-told (c .before .before) in
     omega (
       arith,
       again (c .before .before) .offset-is,
@@ -156,55 +156,54 @@ cast-keys c =
     )
 
 mul-keys : tie.Need-mul-keys Inv-loop μ-loop
-mul-keys c = omega (arith, below (after-known-told (c .before)))
+mul-keys c = omega (arith, below (after-known-told (c .before .before)))
 
 slice-write-keys : tie.Need-slice-write-keys Inv-loop μ-loop
-slice-write-keys c = room (after-known-told (c .before)) .0
+slice-write-keys c = room (after-known-told (c .before .before)) .0
 
 sub-places : tie.Need-sub-places Inv-loop μ-loop
 sub-places c = omega (arith, again (c .before .before .before) .front)
 
 cast-places : tie.Need-cast-places Inv-loop μ-loop
-cast-places c = omega (arith, again (c .before .before .before) .inside, at-entry (after-known-told (c .before .before)) .pre .short)
+cast-places c = omega (arith, again (c .before .before .before) .inside, at-entry (after-known-told (c .before .before .before)) .pre .short)
 
 mul-places : tie.Need-mul-places Inv-loop μ-loop
-mul-places c = omega (arith, below (after-known-told (c .before .before)))
+mul-places c = omega (arith, below (after-known-told (c .before .before .before)))
 
 slice-write-places : tie.Need-slice-write-places Inv-loop μ-loop
-slice-write-places c = room (after-known-told (c .before .before)) .1
+slice-write-places c = room (after-known-told (c .before .before .before)) .1
 
 add-n : tie.Need-add-n Inv-loop μ-loop
-add-n c = omega (arith, below (after-known-told (c .before .before)))
+add-n c = omega (arith, below (after-known-told (c .before .before .before)))
 
 loop-less : tie.Need-loop-less Inv-loop μ-loop
 loop-less c =
-    let known-told = after-known-told (c .before .before) in
+    let known-told = after-known-told (c .before .before .before) in
     fewer-definitions (at-entry known-told .args .library .now) (at-loop known-told .loop .c) (step known-told)
 
 loop-again : tie.Need-loop-again Inv-loop μ-loop
 loop-again c =
-    let definition2 = c .before .before .before .before in
-    let known-told = after-known-told (c .before .before) in
-    let lib = at-entry known-told .args .library .now in
-    let l = at-loop known-told .loop in
+    let lib = c .before .before .before .before .before .before .before .before .before .before .before .before .before .before .before .args .library .now in
+    let l = c .before .before .before .before .before .before .before .before .before .before .loop in
     let d : Definition = this (c .before .before .before) in
-    let name = definition2 .definition2 .given .0 .1 .1 .0 in
-    goes-on known-told (l .n + 1) _ _ d (sym (definition2 .definition2 .given .1)) (length-set (l .keys) (l .n) _ ∙ l .inv .keys-long)
+    let name = c .before .before .before .before .definition2 .given .0 .1 .1 .0 in
+    goes-on (c .before .before .before .before .before .before) (l .n + 1) _ _ d (sym (c .before .before .before .before .definition2 .given .1)) (length-set (l .keys) (l .n) _ ∙ l .inv .keys-long)
     (length-set (l .places) (l .n) _ ∙ l .inv .places-long) (omega (arith, l .inv .few))
     (rw (zero-kept (l .inv .done) d refl (eq-eqb _ _ (c .before .if1 .taken)))
     (gather-turn offsetKey (Stands lib) noDefinition (zeroPublics (l .inv .done)) (l .keys) (l .places) (l .n) d (name .at - 4)
-    (room known-told .0) (room known-told .1) (read-again lib _ _ name (again (c .before .before .before))) (l .inv .gathered)))
+    (room (c .before .before .before .before .before .before) .0) (room (c .before .before .before .before .before .before) .1)
+    (read-again lib _ _ name (again (c .before .before .before))) (l .inv .gathered)))
 
 loop-less-2 : tie.Need-loop-less-2 Inv-loop μ-loop
 loop-less-2 c =
-    let known-told = after-known-told (c .before) in
+    let known-told = after-known-told (c .before .before) in
     fewer-definitions (at-entry known-told .args .library .now) (at-loop known-told .loop .c) (step known-told)
 
 loop-again-2 : tie.Need-loop-again-2 Inv-loop μ-loop
 loop-again-2 c =
-    let l = at-loop (after-known-told (c .before)) .loop in
+    let l = c .before .before .before .before .before .before .before .before .before .loop in
     let d : Definition = this (c .before .before) in
-    goes-on (after-known-told (c .before)) (l .n) (l .keys) (l .places) d (sym (c .before .before .before .definition2 .given .1))
+    goes-on (c .before .before .before .before .before) (l .n) (l .keys) (l .places) d (sym (c .before .before .before .definition2 .given .1))
     (l .inv .keys-long) (l .inv .places-long) (omega (arith, l .inv .few)) (rw (other-id-passed (l .inv .done) d refl (ne-eqb _ _ (c .if1 .left))) (l .inv .gathered))
 
 loop-less-3 : tie.Need-loop-less-3 Inv-loop μ-loop
