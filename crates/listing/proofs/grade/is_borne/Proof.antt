@@ -19,8 +19,10 @@ abbrev bears : tie.Start → Reference → Bool
 bears c = bearsOut (isFound (c .args .library .now) 8 (c .args .placed .now) (c .args .positions .now)) (view (c .args .image .now) (c .args .s)) (c .args .rules) (c .args .base)
 
 returns : tie.Need-returns
-returns c = rw (le-ltb (c .before .before .before .before .before .before .before .args .number)
-    (c .before .before .before .before .before .before .before .args .n) (c .if1 .taken)) (sym (all-end (bears (c .before .before .before .before .before .before .before)) refl))
+returns c =
+    let entry = c .before .before .before .before .before .before .before in
+    rw (le-ltb (entry .args .number)
+    (entry .args .n) (c .if1 .taken)) (sym (all-end (bears entry) refl))
 
 returns-2 : tie.Need-returns-2
 returns-2 c =
