@@ -12,7 +12,7 @@ Every citation is then written by these names, as `at-entry (at-loop c) .args`; 
 than once gets a `let` there. Which places get a name is a matter of length only: names are added as long as they make
 the proof shorter. Then `rt fmt` runs, and long lines are broken. A second run changes nothing.
 
-    rt dev NAME --generated /tmp/gen     the modules of a crate whose proofs hold
+    rt dev NAME --generated /tmp/gen     the modules; they are written where a proof fails, too
     tools/ladder.py /tmp/gen NAME        all proofs of crates/NAME; or NAME/proofs/entry: those in that folder
     rt dev NAME                          the check
 
@@ -35,7 +35,7 @@ START, END = r"(?<![^\s(\[{,;])", r"(?![^\s()\[\]{},;])"
 NAME = r"(?!=\s)[^\s()\[\]{},;.]+"
 STEPS = rf"(?:\s+\.before{END}|\s+\.▸{NAME})"     # `.▸Start`: the name of a place, while an earlier ladder is taken out
 RUN = re.compile(rf"({NAME})({STEPS}*)(?:\s+\.({NAME}))?")
-BINDER_OR_RW = re.compile(rf"λ\s*([^.λ]*)\.(?=\s)|\blet\s+({NAME})(?=\s+[:=])|\brw\s+(?=\()")
+BINDER = re.compile(rf"λ\s*([^.λ]*)\.(?=\s)|\blet\s+({NAME})(?=\s+[:=])")
 ONLY_NAMES = re.compile(rf"\blet\s+({NAME})\s+=\s+({NAME})({STEPS}+)\s+in\s+")
 OPERATOR = re.compile(r"(?:[=∙→+*<≤≡≢×∷-]|in|\+\+|λ.*\.|.*[(\[{,;]|)$")
 RESERVED = set("as data do elim in let module open record unfold use using where yes no refl tt".split())
@@ -90,14 +90,15 @@ class Proof:
     def walk(self, replace, answer):
         """The chunks, with each run replaced; a clause goes to `answer` as head, body and the places of its names."""
         kinds, new = {}, []
-        for chunk in self.chunks:
+        for chunk, following in zip(self.chunks, [*self.chunks[1:], ""]):
             signature = re.match(rf"(?:(?:pub|abbrev|unfoldable) )*({NAME}) :\s(.*)", chunk, re.S)
             clause = re.match(rf"({NAME})((?:\s+[^\s=]\S*)*)\s+=\s", chunk)
             if "tie.spec" in chunk:
                 chunk = self.walk_spec(chunk, replace)
             elif signature and not re.match("--|use |record ", chunk):
                 kinds[signature[1]] = self.domains(signature[2].rstrip())
-                chunk = self.rewrite(chunk, {name: place for name, place in kinds[signature[1]] if name and place}, replace)
+                scope = {name: place for name, place in kinds[signature[1]] if name and place}
+                chunk = self.rewrite(chunk, scope, replace, self.replaced(following, scope))
             elif clause and clause[1] in kinds:
                 given = [p for p in outer(clause[2], " ") if p[0] != "{"]
                 scope = {p: place for p, (_, place) in zip(given, kinds[clause[1]]) if place}
@@ -127,25 +128,38 @@ class Proof:
                 body = body[:let.start()] + re.sub(name, lambda m: run if at_head(rest[:m.start()]) else f"({run})", rest)
         return body
 
-    def rewrite(self, text, scope, replace):
-        """The text, with each run that begins at a name of the scope replaced; `rw` likes its equations plain."""
-        done, at, plain, scope = "", 0, 0, dict(scope)
+    def replaced(self, body, scope):
+        """How many steps back the equations of a `rw` go: it does not see through a name what it replaces."""
+        steps, lets = [-1], dict(re.findall(rf"\blet\s+({NAME})\s+=\s(.*?)\sin\s", body, re.S))
+        for rw in re.finditer(r"\brw\s+(?=\()", body):
+            equations = body[rw.end():closed(body, rw.end())]
+            equations += " ".join(f"({lets[name]})" for name in sorted(words(equations) & {*lets}))
+            for run in RUN.finditer(equations):
+                goal = run[1] in scope and self.goal(scope[run[1]], run[2], run[3])
+                if goal in self.places.up(scope.get(run[1])) and goal != "Start":
+                    steps.append(self.places.up(scope[run[1]]).index(goal))
+        return max(steps)
+
+    def rewrite(self, text, scope, replace, hidden=None):
+        """The text, with each run that begins at a name of the scope replaced."""
+        hidden = self.replaced(text, scope) if hidden is None else hidden
+        done, at, scope = "", 0, dict(scope)
         while run := RUN.search(text, at):
-            bound = BINDER_OR_RW.search(text, at)
+            bound = BINDER.search(text, at)
             if bound and bound.start() <= run.start():
                 done, at = done + text[at:bound.end()], bound.end()
-                plain = plain if bound[1] or bound[2] else closed(text, at)
-                for name in (bound[1] or bound[2] or "").split():
+                for name in (bound[1] or bound[2]).split():
                     scope.pop(name, None)
                 continue
             goal = run[1] in scope and at_head(text[:run.start()]) and self.goal(scope[run[1]], run[2], run[3])
-            goal = goal in self.places.up(scope.get(run[1])) and goal
             end = run.end(2) if run[2] else run.end(1)
-            new = text[run.start():end]
-            if goal:
-                steps = self.places.up(scope[run[1]]).index(goal)
-                simple = run.start() < plain and steps <= LONGEST or not steps
-                new = run[1] + " .before" * steps if simple else replace(run[1], scope[run[1]], goal)
+            new, way = text[run.start():end], self.places.up(scope.get(run[1]))
+            if goal in way:
+                steps = way.index(goal)
+                if steps > max(hidden, 0):
+                    new = replace(run[1] + " .before" * (hidden + 1), way[hidden + 1], goal)
+                else:
+                    new = run[1] + " .before" * steps if steps <= LONGEST else replace(run[1], way[0], goal)
             done, at = done + text[at:run.start()] + new, end
         return done + text[at:]
 
@@ -172,10 +186,10 @@ def lay(path, places):
 
     def write_answer(head, body, scope):
         """An answer names a place by a `let` if it goes there, or on from there, more than once."""
-        uses, steps, known, lets = Counter(), set(), dict(scope), ""
+        uses, steps, known, lets = Counter(), set(), {}, {}
 
         def use(name, late, early):
-            stops = ladder.stops(late, early)
+            stops, known[name] = ladder.stops(late, early), late
             uses[late, early] += 1
             steps.update((late, stop, following) for stop, following in zip(stops, stops[1:]))
             return name
@@ -185,12 +199,12 @@ def lay(path, places):
         for (late, early), n in sorted(uses.items(), key=lambda use: (ladder.gap[use[0]], use)):
             if n > 2 or n > 1 and ladder.way(late, early)[0] > LET:
                 name = fresh(short(early), taken)
-                lets += f"    let {name} = {ladder.cite(known, early)} in\n"
+                lets[name] = f"    let {name} = {ladder.cite(known, early)} in\n"
                 known[name] = early
         body = proof.rewrite(body, scope, lambda name, late, early: ladder.cite(known, early))
-        for name in known:
+        for name in lets:
             body = body.replace(f"({name})", name)
-        return head.rstrip() + "\n" + lets + "    " + body.lstrip() if lets else head + body
+        return head.rstrip() + "\n" + "".join(lets.values()) + "    " + body.lstrip() if lets else head + body
     proof.walk(count, count_once)
     ladder = Ladder(places, cited, words("".join(proof.chunks)))
     chunks = proof.walk(lambda name, late, early: ladder.cite({name: late}, early), write_answer)

@@ -9,8 +9,9 @@ use Rattle.module_index.proofs.forget.Tie as tie
 
 returns : tie.Need-returns
 returns c =
-    let a = c .before .before .before .before .before .before .before .args in
-    subst (λ i. Cleared (take i (a .keys .now)) (a .first .now) (c .before .before .unlink .last .1 .0)) (sub-zero (a .n)) (c .before .before .unlink .ensures)
+    let unlink = c .before .before in
+    let a = unlink .before .before .before .before .before .args in
+    subst (λ i. Cleared (take i (a .keys .now)) (a .first .now) (unlink .unlink .last .1 .0)) (sub-zero (a .n)) (unlink .unlink .ensures)
 
 pub forget-spec : {M : Type 1} → statement M
 forget-spec =

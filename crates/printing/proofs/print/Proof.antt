@@ -17,7 +17,8 @@ put-all-requires c κs = let a = c .before .before .before .before .before .befo
 returns : tie.Need-returns
 returns c = let a = c .before .before .before .before .before .before .before .before .before .args in
     let t = printed (a .library .now) (storedLines (a .lines .now) (a .n)) in
-    fitting t (a .out .now) (leb-true (length t) (length (a .out .now)) (sym (c .before .before .before .before .before .fits2 .ensures) ∙ c .before .before .before .before .if1 .taken)) (c .before .before .put-all .ensures)
+    fitting t (a .out .now) (leb-true (length t) (length (a .out .now))
+    (sym (c .before .before .before .before .before .fits2 .ensures) ∙ c .before .before .before .before .if1 .taken)) (c .before .before .put-all .ensures)
 
 returns-2 : tie.Need-returns-2
 returns-2 c = let a = c .before .before .before .before .before .args in

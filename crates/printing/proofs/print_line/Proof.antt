@@ -10,7 +10,8 @@ returns : tie.Need-returns
 returns c = let a = c .before .before .before .before .args in too-long (printedLine (a .library .now) (a .line)) (a .out .now) (omega (arith, c .before .line .ensures))
 
 returns-2 : tie.Need-returns-2
-returns-2 c = let a = c .before .before .before .before .before .before .before .before .args in fitting (printedLine (a .library .now) (a .line)) (a .out .now) (omega (arith, c .before .before .before .before .before .line .ensures, c .before .before .before .before .if1 .left)) (c .before .before .put-line .ensures)
+returns-2 c = let a = c .before .before .before .before .before .before .before .before .args in fitting (printedLine (a .library .now) (a .line))
+    (a .out .now) (omega (arith, c .before .before .before .before .before .line .ensures, c .before .before .before .before .if1 .left)) (c .before .before .put-line .ensures)
 
 pub print-line-spec : {M : Type 1} → statement M
 print-line-spec =

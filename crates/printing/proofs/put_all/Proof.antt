@@ -28,22 +28,34 @@ Inv-loop library lines n out₀ at₀ i₀ out at i = Turn library lines n out�
 abbrev μ-loop : tie.MeasureT-loop
 μ-loop library lines n out₀ at₀ i₀ out at i = n - i
 
+-- The ladder: places of the code that the answers cite, each as it is seen from a later place.
+abbrev at-entry : tie.At-loop Inv-loop μ-loop → tie.Start Inv-loop μ-loop
+at-entry c = c .before .before .before .before .before .before .before .before
+
+abbrev at-loop : tie.After-line-at Inv-loop μ-loop → tie.At-loop Inv-loop μ-loop
+at-loop c = c .before .before .before
+
 put-heading-requires : tie.Need-put-heading-requires Inv-loop μ-loop
 put-heading-requires c κs = let a = c .before .before .before .before .args in omega (arith, printed-length (a .library .now) (a .lines .now) (a .n))
 
 loop-holds : tie.Need-loop-holds Inv-loop μ-loop
-loop-holds c = record { done = []; long = refl; wrote = put-nothing (c .before .before .put-heading .last .0) (c .before .before .put-heading .result); whole = refl }
+loop-holds c =
+    let put-heading = c .before .before in
+    record { done = []; long = refl; wrote = put-nothing (put-heading .put-heading .last .0) (put-heading .put-heading .result); whole = refl }
 
 put-line-requires : tie.Need-put-line-requires Inv-loop μ-loop
-put-line-requires c κs = let a = c .before .before .before .before .before .before .before .before .before .before .before .args in
-    let l = c .before .before .before .loop in
+put-line-requires c κs =
+    let loop = at-loop c in
+    let entry = at-entry loop in
+    let a = entry .args in
+    let l = loop .loop in
     omega (
       arith,
       l .inv .wrote .ends,
       l .inv .long,
-      c .before .before .before .before .before .out .given,
-      c .before .before .before .before .before .before .put-heading .ensures .ends,
-      c .before .before .before .before .before .before .before .before .before .before .before .pre,
+      loop .before .before .out .given,
+      loop .before .before .before .put-heading .ensures .ends,
+      entry .pre,
       printed-length (a .library .now) (a .lines .now) (a .n),
       ap (λ r. length (printedLine (a .library .now) r)) (c .line-at .ensures),
       line-fits (a .library .now) (a .lines .now) (a .n) (l .i) (l .inv .done) (l .inv .whole) (c .before .before .loop-test .taken),
@@ -56,8 +68,10 @@ loop-less : tie.Need-loop-less Inv-loop μ-loop
 loop-less c = omega arith
 
 loop-again : tie.Need-loop-again Inv-loop μ-loop
-loop-again c = let a = c .before .before .before .before .before .before .before .before .before .before .before .before .before .before .args in
-    let l = c .before .before .before .before .before .before .loop in
+loop-again c =
+    let loop = at-loop (c .before .before .before) in
+    let a = at-entry loop .args in
+    let l = loop .loop in
     record {
       done = l .inv .done ++ printedLine (a .library .now) (lineAt (a .lines .now) (l .i));
       long = search needs;
@@ -66,7 +80,7 @@ loop-again c = let a = c .before .before .before .before .before .before .before
     }
 
 returns : tie.Need-returns Inv-loop μ-loop
-returns c = let a = c .before .before .before .before .before .before .before .before .before .args in
+returns c = let a = at-entry (c .before) .args in
     let l = c .before .loop in
     put-as (lines-all (a .library .now) (a .lines .now) (a .n))
     (c .before .before .before .before .put-heading .ensures

@@ -49,8 +49,8 @@ abbrev μ-loop : tie.MeasureT-loop
     c₀ segments references symbols bytes masks apart flags last here c = 2 ^ 32 - last
 
 -- The ladder: places of the code that the answers cite, each as it is seen from a later place.
-abbrev after-shared-slice-known4 : tie.After-number-at Inv-loop μ-loop → tie.After-shared-slice-known4 Inv-loop μ-loop
-after-shared-slice-known4 c = c .before .before .before .before .before .before .before .before .before .before .before .before .before
+abbrev after-shared-slice-known4 : tie.After-slice-known7 Inv-loop μ-loop → tie.After-shared-slice-known4 Inv-loop μ-loop
+after-shared-slice-known4 c = c .before .before .before .before .before .before .before .before .before .before .before .before
 
 abbrev at-in-loop-from-enum-told : tie.After-enum-told Inv-loop μ-loop → tie.In-loop Inv-loop μ-loop
 at-in-loop-from-enum-told c = c .before .before .before .before
@@ -61,11 +61,11 @@ after-content c = c .before .before .before .before .before .before .before .bef
 abbrev at-in-loop-from-store-absolute-arg7 : tie.After-store-absolute-arg7 Inv-loop μ-loop → tie.In-loop Inv-loop μ-loop
 at-in-loop-from-store-absolute-arg7 c = after-content c .before .before .before .before
 
+abbrev at-entry : tie.After-store-absolute-arg7 Inv-loop μ-loop → tie.Start Inv-loop μ-loop
+at-entry c = after-shared-slice-known4 (at-in-loop-from-store-absolute-arg7 c .before .before .before) .before .before .before .before
+
 abbrev at-loop : tie.After-store-absolute Inv-loop μ-loop → tie.At-loop Inv-loop μ-loop
 at-loop c = at-in-loop-from-store-absolute-arg7 (c .before) .before
-
-abbrev at-entry : tie.After-store-absolute Inv-loop μ-loop → tie.Start Inv-loop μ-loop
-at-entry c = after-shared-slice-known4 (at-loop c .before) .before .before .before .before
 
 abbrev after-store-absolute-from-slice-known14 : tie.After-slice-known14 Inv-loop μ-loop → tie.After-store-absolute Inv-loop μ-loop
 after-store-absolute-from-slice-known14 c = c .before .before .before .before .before .before .before .before .before .before .before .before .before .before
@@ -73,26 +73,26 @@ after-store-absolute-from-slice-known14 c = c .before .before .before .before .b
 abbrev after-store-absolute-from-enum-told2 : tie.After-enum-told2 Inv-loop μ-loop → tie.After-store-absolute Inv-loop μ-loop
 after-store-absolute-from-enum-told2 c = after-store-absolute-from-slice-known14 (c .before .before)
 
-abbrev after-store-absolute-from-number-at3 : tie.After-number-at3 Inv-loop μ-loop → tie.After-store-absolute Inv-loop μ-loop
-after-store-absolute-from-number-at3 c = after-store-absolute-from-slice-known14 (c .before .before .before .before)
+abbrev after-store-absolute-from-known-told2 : tie.After-known-told2 Inv-loop μ-loop → tie.After-store-absolute Inv-loop μ-loop
+after-store-absolute-from-known-told2 c = after-store-absolute-from-slice-known14 (c .before .before .before)
 
 -- once a content is stored: it is the one that stands there
 abbrev Kept : Type 0
 Kept = tie.After-store-absolute Inv-loop μ-loop
 
-stored-here : (c : Kept) (rules : Rules) (m : Module) (gs : List Collected) → at-entry c .args .own ≡ ownBy rules
-    → ByOffset (at-entry c .args .library .now) m (at-entry c .args .table .now) (at-entry c .args .first .now) (at-entry c .args .next .now)
-    (at-entry c .args .places .now) (at-entry c .args .keys .now) (at-entry c .args .n) (at-entry c .args .entries .now)
-    (at-entry c .args .heads .now) (at-entry c .args .onward .now) (at-entry c .args .flags .now)
-    → (s : Section) → SectionIs (at-entry c .args .library .now) (at-entry c .args .places .now) (at-loop c .loop .here - 1) s → Stores gs
+stored-here : (c : Kept) (rules : Rules) (m : Module) (gs : List Collected) → at-entry (c .before) .args .own ≡ ownBy rules
+    → ByOffset (at-entry (c .before) .args .library .now) m (at-entry (c .before) .args .table .now) (at-entry (c .before) .args .first .now) (at-entry (c .before) .args .next .now)
+    (at-entry (c .before) .args .places .now) (at-entry (c .before) .args .keys .now) (at-entry (c .before) .args .n) (at-entry (c .before) .args .entries .now)
+    (at-entry (c .before) .args .heads .now) (at-entry (c .before) .args .onward .now) (at-entry (c .before) .args .flags .now)
+    → (s : Section) → SectionIs (at-entry (c .before) .args .library .now) (at-entry (c .before) .args .places .now) (at-loop c .loop .here - 1) s → Stores gs
     (lists (at-loop c .loop .segments) (at-loop c .loop .references) (at-loop c .loop .symbols) (at-loop c .loop .bytes) (at-loop c .loop .masks)) (at-loop c .loop .c)
-    → After (gs ++ one (absoluteSegment rules (at-entry c .args .library .now) m (at-entry c .args .number) s))
+    → After (gs ++ one (absoluteSegment rules (at-entry (c .before) .args .library .now) m (at-entry (c .before) .args .number) s))
     (lists (c .store-absolute .last .1 .1 .1 .1 .1 .1 .1 .1 .1 .1 .1 .1 .0) (c .store-absolute .last .1 .1 .1 .1 .1 .1 .1 .1 .1 .1 .1 .1 .1 .0)
     (c .store-absolute .last .1 .1 .1 .1 .1 .1 .1 .1 .1 .1 .1 .1 .1 .1 .0)
     (c .store-absolute .last .1 .1 .1 .1 .1 .1 .1 .1 .1 .1 .1 .1 .1 .1 .1 .0) (c .store-absolute .last .1 .1 .1 .1 .1 .1 .1 .1 .1 .1 .1 .1 .1 .1 .1 .1 .0)) (c .store-absolute .result)
 stored-here c rules m gs o x s i stores =
     let content = after-content (c .before) in
-    let a = at-entry c .args in
+    let a = at-entry (c .before) .args in
     let lib = a .library .now in
     let r = c .store-absolute in
     let after = lists (r .last .1 .1 .1 .1 .1 .1 .1 .1 .1 .1 .1 .1 .0) (r .last .1 .1 .1 .1 .1 .1 .1 .1 .1 .1 .1 .1 .1 .0)
@@ -108,7 +108,7 @@ stored-here c rules m gs o x s i stores =
 
 loop-holds : tie.Need-loop-holds Inv-loop μ-loop
 loop-holds c =
-    let entry = after-shared-slice-known4 c .before .before .before .before in
+    let entry = after-shared-slice-known4 (c .before) .before .before .before .before in
     let a = entry .args in
     let lib = a .library .now in
     let l = lists (a .segments .now) (a .references .now) (a .symbols .now) (a .bytes .now) (a .masks .now) in
@@ -117,7 +117,7 @@ loop-holds c =
       apart-long = refl;
       flags-long = refl;
       clear = entry .pre .1 .1;
-      small = rw (c .number-at .ensures) (omega (arith, after-shared-slice-known4 c .before .shared-slice-known3 .given 0));
+      small = rw (c .number-at .ensures) (omega (arith, after-shared-slice-known4 (c .before) .before .shared-slice-known3 .given 0));
       storing = λ rules m gs o x s. absolutes-start (SectionIs lib (a .places .now)) (a .next .now) rules lib m (a .number) gs
           (subst (λ k. Follows (SectionIs lib (a .places .now)) (a .next .now) 0 k (sectionsOf m absoluteId)) (sym (c .number-at .ensures)) (x .sections 0 (omega arith))) s;
     }
@@ -145,7 +145,7 @@ same-length-7 c = at-in-loop-from-enum-told c .before .loop .inv .flags-long
 
 returns : tie.Need-returns Inv-loop μ-loop
 returns c =
-    let a = after-shared-slice-known4 (at-in-loop-from-enum-told c .before .before) .before .before .before .before .args in
+    let a = after-shared-slice-known4 (at-in-loop-from-enum-told c .before .before .before) .before .before .before .before .args in
     let lib = a .library .now in
     let l = at-in-loop-from-enum-told c .before .loop in
     record {
@@ -163,8 +163,7 @@ returns c =
 store-absolute-requires : tie.Need-store-absolute-requires Inv-loop μ-loop
 store-absolute-requires c κs =
     let content = after-content c in
-    let shared-slice-known4 = after-shared-slice-known4 (at-in-loop-from-store-absolute-arg7 c .before .before) in
-    let shared-slice-known = shared-slice-known4 .before .before .before in
+    let shared-slice-known = after-shared-slice-known4 (at-in-loop-from-store-absolute-arg7 c .before .before .before) .before .before .before in
     let entry = shared-slice-known .before in
     let a = entry .args in
     let l = at-in-loop-from-store-absolute-arg7 c .before .loop in
@@ -207,7 +206,7 @@ same-length-14 c = after-store-absolute-from-enum-told2 c .store-absolute .ensur
 returns-2 : tie.Need-returns-2 Inv-loop μ-loop
 returns-2 c =
     let store-absolute = after-store-absolute-from-enum-told2 c in
-    let a = at-entry store-absolute .args in
+    let a = at-entry (store-absolute .before) .args in
     let lib = a .library .now in
     let l = at-loop store-absolute .loop in
     let s = store-absolute .store-absolute in
@@ -225,16 +224,18 @@ returns-2 c =
     }
 
 sub-number-at-2 : tie.Need-sub-number-at-2 Inv-loop μ-loop
-sub-number-at-2 c = omega (arith, at-in-loop-from-store-absolute-arg7 (after-store-absolute-from-slice-known14 (c .before .before .before) .before) .loop-test .taken)
+sub-number-at-2 c = omega (arith, at-in-loop-from-store-absolute-arg7 (after-store-absolute-from-known-told2 c .before) .loop-test .taken)
 
 loop-less : tie.Need-loop-less Inv-loop μ-loop
-loop-less c = omega (arith, at-loop (after-store-absolute-from-number-at3 c) .loop .inv .small, at-in-loop-from-store-absolute-arg7 (after-store-absolute-from-number-at3 c .before) .loop-test .taken)
+loop-less c =
+    let store-absolute = after-store-absolute-from-known-told2 (c .before) in
+    omega (arith, at-loop store-absolute .loop .inv .small, at-in-loop-from-store-absolute-arg7 (store-absolute .before) .loop-test .taken)
 
 loop-again : tie.Need-loop-again Inv-loop μ-loop
 loop-again c =
-    let store-absolute = after-store-absolute-from-number-at3 c in
+    let store-absolute = after-store-absolute-from-known-told2 (c .before) in
     let loop = at-loop store-absolute in
-    let a = at-entry store-absolute .args in
+    let a = at-entry (store-absolute .before) .args in
     let lib = a .library .now in
     let l = loop .loop in
     let s = store-absolute .store-absolute in
@@ -246,7 +247,7 @@ loop-again c =
       apart-long = s .ensures .apart-long ∙ l .inv .apart-long;
       flags-long = s .ensures .flags-long ∙ l .inv .flags-long;
       clear = s .ensures .clear;
-      small = rw (c .number-at3 .ensures) (omega (arith, after-shared-slice-known4 (loop .before) .shared-slice-known4 .given (l .here - 1)));
+      small = rw (c .number-at3 .ensures) (omega (arith, after-shared-slice-known4 (loop .before .before) .shared-slice-known4 .given (l .here - 1)));
       storing = λ rules m gs o x stores. rw (c .number-at3 .ensures)
           (absolutes-on (SectionIs lib (a .places .now)) (a .next .now) rules lib m (a .number) gs (l .last) (l .here) now-lists after (l .c)
           (s .result) (omega (arith, at-in-loop-from-store-absolute-arg7 (store-absolute .before) .loop-test .taken)) (l .inv .storing rules m gs o x stores)
@@ -276,7 +277,7 @@ same-length-21 c = c .before .loop .inv .flags-long
 
 returns-3 : tie.Need-returns-3 Inv-loop μ-loop
 returns-3 c =
-    let a = after-shared-slice-known4 (c .before .before) .before .before .before .before .args in
+    let a = after-shared-slice-known4 (c .before .before .before) .before .before .before .before .args in
     let l = c .before .loop in
     record {
       long = l .inv .long;

@@ -9,6 +9,10 @@ use borrow.Author.Needs.{needs}
 use Rattle.describe.proofs.entry.describe.Statement.{statement}
 use Rattle.describe.proofs.entry.describe.Tie as tie
 
+-- The ladder: places of the code that the answers cite, each as it is seen from a later place.
+abbrev after-s : tie.After-slice-known2 → tie.After-s
+after-s c = c .before .before .before .before .before .before .before
+
 parse-requires : tie.Need-parse-requires
 parse-requires c κs = search needs
 
@@ -32,8 +36,10 @@ same-length : tie.Need-same-length
 same-length c = search needs
 
 returns-2 : tie.Need-returns-2
-returns-2 c = let a = c .before .before .before .before .before .before .before .before .before .before .before .before .args in
-    fits (now (a .name)) (now (a .out)) (ap sentenceIn (sym (c .before .before .before .before .before .before .before .s .given .1)) ∙ c .before .before .before .before .before .before .before .before .before .parse .ensures) (omega arith) (c .before .before .write .ensures)
+returns-2 c =
+    let s = after-s c in
+    let a = s .before .before .before .before .before .args in
+    fits (now (a .name)) (now (a .out)) (ap sentenceIn (sym (s .s .given .1)) ∙ s .before .before .parse .ensures) (omega arith) (c .before .before .write .ensures)
 
 returns-3 : tie.Need-returns-3
 returns-3 c = let a = c .before .before .before .before .before .args in

@@ -8,6 +8,16 @@ use borrow.Author.Needs.{needs}
 use Rattle.describe.proofs.entry.parse.Statement.{statement}
 use Rattle.describe.proofs.entry.parse.Tie as tie
 
+-- The ladder: places of the code that the answers cite, each as it is seen from a later place.
+abbrev after-try-word : tie.After-perhaps → tie.After-try-word
+after-try-word c = c .before .before .before .before .before
+
+abbrev after-perhaps : tie.After-operation → tie.After-perhaps
+after-perhaps c = c .before .before .before .before .before .before
+
+abbrev after-operation : tie.After-known-told3 → tie.After-operation
+after-operation c = c .before .before .before
+
 try-word-requires : tie.Need-try-word-requires
 try-word-requires c κs = search needs
 
@@ -37,12 +47,14 @@ enum-told-2 : tie.Need-enum-told-2
 enum-told-2 c = search needs
 
 returns-2 : tie.Need-returns-2
-returns-2 c = let p = c .before .before .before .before in
-    let q = p .before .before .before in
-    let name = now (q .before .before .before .before .before .before .args .name) in
+returns-2 c =
+    let sign = c .before .before .before .before .before in
+    let from = sign .before .before in
+    let try-word = from .before .before in
+    let name = now (try-word .before .before .before .before .args .name) in
     no-kind name
-    (known name (q .before .before .try-word .ensures) (q .from .given .1))
-    (perhaps-said signs name (q .from .given .0 .1 .0) (p .before .sign .result) (p .before .sign .ensures) (p .perhaps .ensures))
+    (known name (try-word .try-word .ensures) (from .from .given .1))
+    (perhaps-said signs name (from .from .given .0 .1 .0) (sign .sign .result) (sign .sign .ensures) (c .before .before .before .before .perhaps .ensures))
     (known name (c .before .before .kind .ensures) (c .enum-told2 .given .1))
 
 operation-requires : tie.Need-operation-requires
@@ -58,27 +70,32 @@ parse-moving-requires : tie.Need-parse-moving-requires
 parse-moving-requires c κs = search needs
 
 returns-3 : tie.Need-returns-3
-returns-3 c = let k = c .before .before .before .before .before in
-    let p = k .before .before .before .before in
-    let q = p .before .before .before in
-    let name = now (q .before .before .before .before .before .before .args .name) in
+returns-3 c =
+    let perhaps = after-perhaps (c .before .before .before) in
+    let sign = perhaps .before in
+    let from = sign .before .before in
+    let try-word = after-try-word perhaps in
+    let name = now (try-word .before .before .before .before .args .name) in
     c .parse-moving .ensures
     ∙ moves-on name
-    (known name (q .before .before .try-word .ensures) (q .from .given .1))
-    (perhaps-said signs name (q .from .given .0 .1 .0) (p .before .sign .result) (p .before .sign .ensures) (p .perhaps .ensures))
-    (known name (k .before .before .kind .ensures) (k .kind2 .given .1))
+    (known name (try-word .try-word .ensures) (from .from .given .1))
+    (perhaps-said signs name (from .from .given .0 .1 .0) (sign .sign .result) (sign .sign .ensures) (perhaps .perhaps .ensures))
+    (known name (c .before .before .before .before .before .before .before .kind .ensures) (c .before .before .before .before .before .kind2 .given .1))
     (known name (c .before .before .before .operation .ensures) (c .before .enum-told3 .given .1))
 
 returns-4 : tie.Need-returns-4
-returns-4 c = let k = c .before .before .before .before .before in
-    let p = k .before .before .before .before in
-    let q = p .before .before .before in
-    let name = now (q .before .before .before .before .before .before .args .name) in
+returns-4 c =
+    let operation = after-operation c in
+    let perhaps = after-perhaps operation in
+    let sign = perhaps .before in
+    let from = sign .before .before in
+    let try-word = after-try-word perhaps in
+    let name = now (try-word .before .before .before .before .args .name) in
     operates name
-    (known name (q .before .before .try-word .ensures) (q .from .given .1))
-    (perhaps-said signs name (q .from .given .0 .1 .0) (p .before .sign .result) (p .before .sign .ensures) (p .perhaps .ensures))
-    (known name (k .before .before .kind .ensures) (k .kind2 .given .1))
-    (known name (c .before .before .before .operation .ensures) (c .before .verb .given .1))
+    (known name (try-word .try-word .ensures) (from .from .given .1))
+    (perhaps-said signs name (from .from .given .0 .1 .0) (sign .sign .result) (sign .sign .ensures) (perhaps .perhaps .ensures))
+    (known name (operation .before .before .before .before .kind .ensures) (operation .before .before .kind2 .given .1))
+    (known name (operation .operation .ensures) (c .before .verb .given .1))
 
 pub parse-spec : {M : Type 1} → statement M
 parse-spec =

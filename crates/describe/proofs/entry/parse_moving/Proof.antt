@@ -9,6 +9,10 @@ use borrow.Author.Needs.{needs}
 use Rattle.describe.proofs.entry.parse_moving.Statement.{statement}
 use Rattle.describe.proofs.entry.parse_moving.Tie as tie
 
+-- The ladder: places of the code that the answers cite, each as it is seen from a later place.
+abbrev after-memory2 : tie.After-into → tie.After-memory2
+after-memory2 c = c .before .before .before .before .before .before
+
 movement-requires : tie.Need-movement-requires
 movement-requires c κs = search needs
 
@@ -45,13 +49,13 @@ perhaps-requires c κs = search needs
 
 returns-3 : tie.Need-returns-3
 returns-3 c =
-    let m = c .before .before .before .before .before .before in
-    let v = m .before .before .before .before in
-    let s = v .before .before .before .before .args in
+    let try-word = c .before .before in
+    let memory2 = after-memory2 c in
+    let s = memory2 .before .before .before .before .before .before .before .before .args in
     all-moved (say (s .sign)) (say (s .kind)) (drop (s .at) (now (s .name)))
-    (known (now (s .name)) (v .before .before .movement .ensures) (v .verb .given .1))
-    (known (now (s .name)) (m .before .before .memory .ensures) (m .memory2 .given .1))
-    (perhaps-said into (now (s .name)) (m .memory2 .given .0 .1 .0) (c .before .before .try-word .result) (c .before .before .try-word .ensures) (c .before .perhaps .ensures))
+    (known (now (s .name)) (memory2 .before .before .before .before .before .before .movement .ensures) (memory2 .before .before .before .before .verb .given .1))
+    (known (now (s .name)) (memory2 .before .before .memory .ensures) (memory2 .memory2 .given .1))
+    (perhaps-said into (now (s .name)) (memory2 .memory2 .given .0 .1 .0) (try-word .try-word .result) (try-word .try-word .ensures) (c .before .perhaps .ensures))
 
 pub parse-moving-spec : {M : Type 1} → statement M
 parse-moving-spec =

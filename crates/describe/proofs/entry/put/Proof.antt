@@ -19,6 +19,10 @@ Inv-loop out₀ at from n j₀ out j =
 abbrev μ-loop : tie.MeasureT-loop
 μ-loop out₀ at from n j₀ out j = n - j
 
+-- The ladder: places of the code that the answers cite, each as it is seen from a later place.
+abbrev at-entry : tie.At-loop Inv-loop μ-loop → tie.Start Inv-loop μ-loop
+at-entry c = c .before .before .before .before
+
 cast-from : tie.Need-cast-from Inv-loop μ-loop
 cast-from c = search needs
 
@@ -36,12 +40,12 @@ said-at-requires c κs = search needs
 
 add-out : tie.Need-add-out Inv-loop μ-loop
 add-out c =
-    let a = c .before .before .before .before .before .before .args in
+    let a = at-entry (c .before .before) .args in
     omega (arith, length-say (a .s .at) (a .s .len))
 
 slice-write-out : tie.Need-slice-write-out Inv-loop μ-loop
 slice-write-out c =
-    let a = c .before .before .before .before .before .before .args in
+    let a = at-entry (c .before .before) .args in
     omega (arith, length-say (a .s .at) (a .s .len))
 
 add-j : tie.Need-add-j Inv-loop μ-loop
@@ -52,13 +56,13 @@ loop-less c = omega arith
 
 loop-again : tie.Need-loop-again Inv-loop μ-loop
 loop-again c =
-    let a = c .before .before .before .before .before .before .args in
+    let a = at-entry (c .before .before) .args in
     let l = c .before .before .loop in
     (omega arith, simp length-set (l .inv .1), puts-more (a .at) (a .s .at) (a .s .len) (l .out) (l .j) (omega arith) (c .said-at .ensures) ∙ l .inv .2)
 
 add-result : tie.Need-add-result Inv-loop μ-loop
 add-result c =
-    let a = c .before .before .before .before .before .args in
+    let a = at-entry (c .before) .args in
     omega (arith, length-say (a .s .at) (a .s .len))
 
 same-length : tie.Need-same-length Inv-loop μ-loop
@@ -66,7 +70,7 @@ same-length c = c .before .loop .inv .1
 
 returns : tie.Need-returns Inv-loop μ-loop
 returns c =
-    let a = c .before .before .before .before .before .args in
+    let a = at-entry (c .before) .args in
     let l = c .before .loop in
     record {
       ends = ap (λ n. a .at + n) (sym (length-say (a .s .at) (a .s .len)));

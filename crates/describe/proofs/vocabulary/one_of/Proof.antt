@@ -19,6 +19,10 @@ Inv-loop name at words lengths says k₀ k =
 abbrev μ-loop : tie.MeasureT-loop
 μ-loop name at words lengths says k₀ k = length words - k
 
+-- The ladder: places of the code that the answers cite, each as it is seen from a later place.
+abbrev at-loop : tie.After-try-word Inv-loop μ-loop → tie.At-loop Inv-loop μ-loop
+at-loop c = c .before .before .before .before .before
+
 loop-holds : tie.Need-loop-holds Inv-loop μ-loop
 loop-holds c = (omega arith, refl)
 
@@ -54,8 +58,9 @@ enum-known-says c = search needs
 
 returns : tie.Need-returns Inv-loop μ-loop
 returns c =
-    let s = c .before .before .before .before .before .before .before .before .before .before .before .args in
-    let l = c .before .before .before .before .before .before .before .before .loop in
+    let loop = at-loop (c .before .before .before) in
+    let s = loop .before .before .before .args in
+    let l = loop .loop in
     table-turn (now (s .words)) (now (s .lengths)) (now (s .says)) (l .k) (omega arith) (now (s .name)) (s .at)
     (c .before .before .before .try-word .ensures) (c .before .says .given .1)
     ∙ l .inv .1
@@ -71,8 +76,9 @@ loop-less c = omega arith
 
 loop-again : tie.Need-loop-again Inv-loop μ-loop
 loop-again c =
-    let s = c .before .before .before .before .before .before .before .before .before .before .args in
-    let l = c .before .before .before .before .before .before .before .loop in (
+    let loop = at-loop (c .before .before) in
+    let s = loop .before .before .before .args in
+    let l = loop .loop in (
       omega arith,
       table-turn (now (s .words)) (now (s .lengths)) (now (s .says)) (l .k) (omega arith) (now (s .name)) (s .at)
           (c .before .before .try-word .ensures) (c .enum-told .given .1)

@@ -6,10 +6,15 @@ use native.Mathlib.Omega.{arith}
 use Rattle.listing.specs.ListedLaws.{behind-none, behind-cleared}
 
 returns : tie.Need-returns
-returns c = behind-none (c .before .before .args .m .now) (c .before .before .args .count) (c .if1 .taken)
+returns c =
+    let entry = c .before .before in
+    behind-none (entry .args .m .now) (entry .args .count) (c .if1 .taken)
 
 returns-2 : tie.Need-returns-2
-returns-2 c = behind-cleared (c .before .before .before .before .before .before .args .m .now) (c .before .before .before .before .before .before .args .count) (c .before .before .clear .last .0) (omega (arith, c .before .before .before .before .if1 .left)) (c .before .before .clear .ensures)
+returns-2 c =
+    let clear = c .before .before in
+    let entry = clear .before .before .before .before in
+    behind-cleared (entry .args .m .now) (entry .args .count) (clear .clear .last .0) (omega (arith, clear .before .before .if1 .left)) (clear .clear .ensures)
 
 pub clear-behind-spec : {M : Type 1} → statement M
 clear-behind-spec =

@@ -6,16 +6,23 @@ use native.Mathlib.Omega.{arith}
 use Rattle.listing.specs.ListedLaws.{leaves-over, leaves-none, leaves-cleared}
 
 returns : tie.Need-returns
-returns c = leaves-over (c .before .before .args .m .now) (c .before .before .args .f) (c .if1 .taken)
+returns c =
+    let entry = c .before .before in
+    leaves-over (entry .args .m .now) (entry .args .f) (c .if1 .taken)
 
 returns-2 : tie.Need-returns-2
-returns-2 c = leaves-none (c .before .before .before .before .args .m .now) (c .before .before .before .before .args .f) (c .if2 .taken)
+returns-2 c =
+    let entry = c .before .before .before .before in
+    leaves-none (entry .args .m .now) (entry .args .f) (c .if2 .taken)
 
 mul-clear-behind : tie.Need-mul-clear-behind
 mul-clear-behind c = omega (arith, c .before .before .if2 .left, c .before .before .before .before .before .before .good .0)
 
 returns-3 : tie.Need-returns-3
-returns-3 c = leaves-cleared (c .before .before .before .before .before .before .before .before .before .args .m .now) (c .before .before .before .before .before .before .before .before .before .args .f) (c .before .before .clear-behind .last .0) (c .before .before .clear-behind .ensures)
+returns-3 c =
+    let clear-behind = c .before .before in
+    let entry = clear-behind .before .before .before .before .before .before .before in
+    leaves-cleared (entry .args .m .now) (entry .args .f) (clear-behind .clear-behind .last .0) (clear-behind .clear-behind .ensures)
 
 pub leave-spec : {M : Type 1} → statement M
 leave-spec =

@@ -32,47 +32,75 @@ Inv-loop image s rules library references placed positions base at len k₀ k = 
 abbrev μ-loop : tie.MeasureT-loop
 μ-loop image s rules library references placed positions base at len k₀ k = len - k
 
-fits : (c : tie.In-loop Inv-loop μ-loop) → c .before .before .before .before .before .before .before .before .before .args .part .at + c .before .before .before .before .before .before .before .before .before .args .part .len ≤ length (c .before .before .before .before .before .before .before .before .before .args .references .now) / 6
-fits c = rows-few referenceLayout (c .before .before .before .before .before .before .before .before .before .args .references .now) (c .before .before .before .before .before .before .before .before .before .args .part) (c .before .before .before .lies-within .result) (c .before .before .before .lies-within .ensures) (c .before .before .if1 .left)
+-- The ladder: places of the code that the answers cite, each as it is seen from a later place.
+abbrev at-entry : tie.At-loop Inv-loop μ-loop → tie.Start Inv-loop μ-loop
+at-entry c = c .before .before .before .before .before .before .before .before
+
+abbrev at-in-loop : tie.Else2 Inv-loop μ-loop → tie.In-loop Inv-loop μ-loop
+at-in-loop c = c .before .before .before
+
+fits : (c : tie.In-loop Inv-loop μ-loop) → at-entry (c .before) .args .part .at + at-entry (c .before) .args .part .len ≤ length (at-entry (c .before) .args .references .now) / 6
+fits c =
+    let lies-within = c .before .before .before in
+    let entry = at-entry (c .before) in
+    rows-few referenceLayout (entry .args .references .now) (entry .args .part) (lies-within .lies-within .result) (lies-within .lies-within .ensures) (c .before .before .if1 .left)
 
 returns : tie.Need-returns Inv-loop μ-loop
 returns c = let a = c .before .before .before .before .before .before .before .args in
-    sym (all-end (bears (a .image .now) (a .s) (a .rules) (a .library .now) (a .placed .now) (a .positions .now) (a .base)) (rows-past referenceLayout (a .references .now) (a .part) (c .before .lies-within .result) (c .before .lies-within .ensures) (c .if1 .taken)))
+    sym (all-end (bears (a .image .now) (a .s) (a .rules) (a .library .now) (a .placed .now) (a .positions .now) (a .base))
+    (rows-past referenceLayout (a .references .now) (a .part) (c .before .lies-within .result) (c .before .lies-within .ensures) (c .if1 .taken)))
 
 loop-holds : tie.Need-loop-holds Inv-loop μ-loop
 loop-holds c = record { within = omega arith; left = refl }
 
 add-reference-at : tie.Need-add-reference-at Inv-loop μ-loop
-add-reference-at c = omega (arith, c .loop-test .taken, fits c, c .before .before .before .before .before .before .before .before .before .good .1 .1 .1 .1 .0)
+add-reference-at c = omega (arith, c .loop-test .taken, fits c, at-entry (c .before) .good .1 .1 .1 .1 .0)
 
 returns-2 : tie.Need-returns-2 Inv-loop μ-loop
-returns-2 c = let a = c .before .before .before .before .before .before .before .before .before .before .before .before .args in
-    sym (ap (all (bears (a .image .now) (a .s) (a .rules) (a .library .now) (a .placed .now) (a .positions .now) (a .base))) (rows-within referenceLayout (a .references .now) (a .part) (c .before .before .before .before .before .before .lies-within .result) (c .before .before .before .before .before .before .lies-within .ensures) (c .before .before .before .before .before .if1 .left))
-    ∙ sym (c .before .before .before .before .loop .inv .left)
-    ∙ all-fails (bears (a .image .now) (a .s) (a .rules) (a .library .now) (a .placed .now) (a .positions .now) (a .base)) (rows-turn referenceLayout (a .references .now) (a .part) (c .before .before .before .before .loop .k) (omega (arith, c .before .before .before .loop-test .taken)))
-    (ap (bears (a .image .now) (a .s) (a .rules) (a .library .now) (a .placed .now) (a .positions .now) (a .base)) (sym (c .before .before .reference-at .ensures)) ∙ turned-true (c .before .bears-out .result) (c .before .bears-out .ensures) (c .if2 .taken)))
+returns-2 c =
+    let loop = c .before .before .before .before in
+    let lies-within = loop .before .before in
+    let a = at-entry loop .args in
+    sym (ap (all (bears (a .image .now) (a .s) (a .rules) (a .library .now) (a .placed .now) (a .positions .now) (a .base)))
+    (rows-within referenceLayout (a .references .now) (a .part) (lies-within .lies-within .result) (lies-within .lies-within .ensures) (loop .before .if1 .left))
+    ∙ sym (loop .loop .inv .left)
+    ∙ all-fails (bears (a .image .now) (a .s) (a .rules) (a .library .now) (a .placed .now) (a .positions .now) (a .base))
+    (rows-turn referenceLayout (a .references .now) (a .part) (loop .loop .k) (omega (arith, c .before .before .before .loop-test .taken)))
+    (ap (bears (a .image .now) (a .s) (a .rules) (a .library .now) (a .placed .now) (a .positions .now) (a .base))
+    (sym (c .before .before .reference-at .ensures)) ∙ turned-true (c .before .bears-out .result) (c .before .bears-out .ensures) (c .if2 .taken)))
 
 add-k : tie.Need-add-k Inv-loop μ-loop
-add-k c = omega (arith, c .before .before .before .loop-test .taken, fits (c .before .before .before), c .before .before .before .before .before .before .before .before .before .before .before .before .good .1 .1 .1 .1 .0)
+add-k c =
+    let in-loop = at-in-loop c in
+    omega (arith, in-loop .loop-test .taken, fits in-loop, at-entry (in-loop .before) .good .1 .1 .1 .1 .0)
 
 loop-less : tie.Need-loop-less Inv-loop μ-loop
-loop-less c = omega (arith, c .before .before .before .loop-test .taken)
+loop-less c = omega (arith, at-in-loop c .loop-test .taken)
 
 loop-again : tie.Need-loop-again Inv-loop μ-loop
-loop-again c = let a = c .before .before .before .before .before .before .before .before .before .before .before .before .args in
+loop-again c =
+    let in-loop = at-in-loop c in
+    let loop = in-loop .before in
+    let a = at-entry loop .args in
     record {
-      within = omega (arith, c .before .before .before .loop-test .taken);
+      within = omega (arith, in-loop .loop-test .taken);
       left =
-          sym (all-on (bears (a .image .now) (a .s) (a .rules) (a .library .now) (a .placed .now) (a .positions .now) (a .base)) (rows-turn referenceLayout (a .references .now) (a .part) (c .before .before .before .before .loop .k) (omega (arith, c .before .before .before .loop-test .taken)))
-          (ap (bears (a .image .now) (a .s) (a .rules) (a .library .now) (a .placed .now) (a .positions .now) (a .base)) (sym (c .before .before .reference-at .ensures)) ∙ turned-false (c .before .bears-out .result) (c .before .bears-out .ensures) (c .if2 .left)))
-          ∙ c .before .before .before .before .loop .inv .left;
+          sym (all-on (bears (a .image .now) (a .s) (a .rules) (a .library .now) (a .placed .now) (a .positions .now) (a .base))
+          (rows-turn referenceLayout (a .references .now) (a .part) (loop .loop .k) (omega (arith, in-loop .loop-test .taken)))
+          (ap (bears (a .image .now) (a .s) (a .rules) (a .library .now) (a .placed .now) (a .positions .now) (a .base))
+          (sym (c .before .before .reference-at .ensures)) ∙ turned-false (c .before .bears-out .result) (c .before .bears-out .ensures) (c .if2 .left)))
+          ∙ loop .loop .inv .left;
     }
 
 returns-3 : tie.Need-returns-3 Inv-loop μ-loop
-returns-3 c = let a = c .before .before .before .before .before .before .before .before .before .args in
-    sym (ap (all (bears (a .image .now) (a .s) (a .rules) (a .library .now) (a .placed .now) (a .positions .now) (a .base))) (rows-within referenceLayout (a .references .now) (a .part) (c .before .before .before .lies-within .result) (c .before .before .before .lies-within .ensures) (c .before .before .if1 .left))
+returns-3 c =
+    let lies-within = c .before .before .before in
+    let a = at-entry (c .before) .args in
+    sym (ap (all (bears (a .image .now) (a .s) (a .rules) (a .library .now) (a .placed .now) (a .positions .now) (a .base)))
+    (rows-within referenceLayout (a .references .now) (a .part) (lies-within .lies-within .result) (lies-within .lies-within .ensures) (c .before .before .if1 .left))
     ∙ sym (c .before .loop .inv .left)
-    ∙ all-end (bears (a .image .now) (a .s) (a .rules) (a .library .now) (a .placed .now) (a .positions .now) (a .base)) (rows-end referenceLayout (a .references .now) (a .part) (c .before .loop .k) (omega (arith, c .loop-test .left))))
+    ∙ all-end (bears (a .image .now) (a .s) (a .rules) (a .library .now) (a .placed .now) (a .positions .now) (a .base))
+    (rows-end referenceLayout (a .references .now) (a .part) (c .before .loop .k) (omega (arith, c .loop-test .left))))
 
 pub bear-out-spec : {M : Type 1} → statement M
 bear-out-spec =

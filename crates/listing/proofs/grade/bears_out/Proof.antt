@@ -6,13 +6,20 @@ use mathlib.Core.Path.{sym, ap, _∙_}
 use Rattle.listing.specs.grade.Grades.{isFound, asksOf}
 
 returns : tie.Need-returns
-returns c = ap (asksOf (isFound (c .before .before .before .before .before .before .before .args .library .now) 8 (c .before .before .before .before .before .before .before .args .placed .now) (c .before .before .before .before .before .before .before .args .positions .now)) (c .before .before .before .before .before .before .before .args .r .goal)) (sym (sym (c .before .before .target-of .ensures) ∙ c .enum-told .given .1))
+returns c =
+    let entry = c .before .before .before .before .before .before .before in
+    ap (asksOf (isFound (entry .args .library .now) 8 (entry .args .placed .now) (entry .args .positions .now)) (entry .args .r .goal))
+    (sym (sym (c .before .before .target-of .ensures) ∙ c .enum-told .given .1))
 
 returns-2 : tie.Need-returns-2
 returns-2 c = rw (sym (c .before .before .before .before .before .target-of .ensures) ∙ c .before .before .before .t .given .1, c .enum-told2 .given .1)
 
 returns-3 : tie.Need-returns-3
-returns-3 c = c .is-found .ensures ∙ sym (rw (sym (c .before .before .before .before .before .before .before .target-of .ensures) ∙ c .before .before .before .before .before .t .given .1, c .before .before .goal .given .1))
+returns-3 c = c .is-found .ensures ∙ sym (rw (
+  sym (c .before .before .before .before .before .before .before .target-of .ensures) ∙
+      c .before .before .before .before .before .t .given .1,
+  c .before .before .goal .given .1,
+))
 
 pub bears-out-spec : {M : Type 1} → statement M
 bears-out-spec =

@@ -19,13 +19,19 @@ abbrev bears : tie.Start → Reference → Bool
 bears c = bearsOut (isFound (c .args .library .now) 8 (c .args .placed .now) (c .args .positions .now)) (view (c .args .image .now) (c .args .s)) (c .args .rules) (c .args .base)
 
 returns : tie.Need-returns
-returns c = rw (le-ltb (c .before .before .before .before .before .before .before .args .number) (c .before .before .before .before .before .before .before .args .n) (c .if1 .taken)) (sym (all-end (bears (c .before .before .before .before .before .before .before)) refl))
+returns c =
+    let entry = c .before .before .before .before .before .before .before in
+    rw (le-ltb (entry .args .number)
+    (entry .args .n) (c .if1 .taken)) (sym (all-end (bears entry) refl))
 
 returns-2 : tie.Need-returns-2
-returns-2 c = let a = c .before .before .before .before .before .before .before .before .before .args in
+returns-2 c =
+    let entry = c .before .before .before .before .before .before .before .before .before in
+    let a = entry .args in
     c .bear-out .ensures
-    ∙ ap (λ row. all (bears (c .before .before .before .before .before .before .before .before .before)) (rowsOf referenceLayout (a .references .now) (row .references))) (c .before .segment-at .ensures)
-    ∙ sym (ap (λ t. all (bears (c .before .before .before .before .before .before .before .before .before)) (if t then rowsOf referenceLayout (a .references .now) (segmentRowAt (a .segments .now) (a .number) .references) else [])) (lt-ltb (a .number) (a .n) (c .before .before .if1 .left)))
+    ∙ ap (λ row. all (bears entry) (rowsOf referenceLayout (a .references .now) (row .references))) (c .before .segment-at .ensures)
+    ∙ sym (ap (λ t. all (bears entry) (if t then rowsOf referenceLayout (a .references .now)
+    (segmentRowAt (a .segments .now) (a .number) .references) else [])) (lt-ltb (a .number) (a .n) (c .before .before .if1 .left)))
 
 pub is-borne-spec : {M : Type 1} → statement M
 is-borne-spec = tie.close (tie.spec returns (λ c κs. search needs) (λ c κs. search needs) returns-2)

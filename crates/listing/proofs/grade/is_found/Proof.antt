@@ -7,7 +7,9 @@ use Rattle.lent.specs.Parts.{bytesOf}
 use Rattle.tables.specs.by_name.NamedLaws.{bucket-small}
 
 add-head-at : tie.Need-add-head-at
-add-head-at c = omega (arith, c .bucket .ensures, bucket-small (c .before .before .before .before .args .key) (bytesOf (c .before .before .before .before .args .library .now) (c .before .before .before .before .args .name)))
+add-head-at c =
+    let entry = c .before .before .before .before in
+    omega (arith, c .bucket .ensures, bucket-small (entry .args .key) (bytesOf (entry .args .library .now) (entry .args .name)))
 
 returns : tie.Need-returns
 returns c = rw (c .find .ensures, c .before .head-at .ensures, c .before .before .bucket .ensures)

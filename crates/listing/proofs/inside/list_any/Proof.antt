@@ -8,7 +8,8 @@ use Rattle.listing.specs.InsideLaws.{empty-extends}
 
 returns : tie.Need-returns
 returns c = let a = c .before .before .before .before .before .before .before .before .before .before .before .before .before .args in
-    λ k small. empty-extends (view (a .image .now) (a .s)) k (a .skip) (a .at) (a .m .now) (a .f) small (sym (c .before .before .if1 .taken) ∙ c .before .before .before .head-at .ensures) (sym (c .if2 .taken) ∙ c .before .head-at2 .ensures)
+    λ k small. empty-extends (view (a .image .now) (a .s)) k (a .skip) (a .at) (a .m .now) (a .f) small
+    (sym (c .before .before .if1 .taken) ∙ c .before .before .before .head-at .ensures) (sym (c .if2 .taken) ∙ c .before .head-at2 .ensures)
 
 pub list-any-spec : {M : Type 1} → statement M
 list-any-spec =

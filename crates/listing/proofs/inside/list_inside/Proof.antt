@@ -16,45 +16,60 @@ use Rattle.listing.specs.position.RowsAt.{Known}
 use Rattle.listing.specs.InsideLaws.{LeadsFrom, inside-first, inside-on, inside-last}
 use borrow.Author.Needs.{needs}
 
-record Inv (cells : List ℕ) (rules : Rules) (skip : Skip) (library segments : List ℕ) (n : ℕ) (references placed positions noted goals m₀ : List ℕ) (f₀ : Fill) (m : List ℕ) (f : Fill) (at : ℕ) : Type 0 where
+record Inv (cells : List ℕ) (rules : Rules) (skip : Skip) (library segments : List ℕ) (n : ℕ) (references placed positions noted goals m₀ : List ℕ)
+    (f₀ : Fill) (m : List ℕ) (f : Fill) (at : ℕ) : Type 0 where
   long : length m ≡ length m₀
   leads : (k : Known rules library segments references n placed positions noted goals) → length cells ≤ keyBuckets → LeadsFrom cells k skip (length cells) m₀ f₀ at m f
 
 abbrev Inv-loop : tie.InvT-loop
-Inv-loop image s rules skip library segments n references placed positions noted goals m₀ f₀ at₀ m f at = Inv (view image s) rules skip library segments n references placed positions noted goals m₀ f₀ m f at
+Inv-loop image s rules skip library segments n references placed positions noted goals m₀ f₀ at₀ m f at = Inv (view image s) rules skip library
+    segments n references placed positions noted goals m₀ f₀ m f at
 
 abbrev μ-loop : tie.MeasureT-loop
 μ-loop image s rules skip library segments n references placed positions noted goals m₀ f₀ at₀ m f at = length image - at
 
+-- The ladder: places of the code that the answers cite, each as it is seen from a later place.
+abbrev at-entry : tie.After-slice-known Inv-loop μ-loop → tie.Start Inv-loop μ-loop
+at-entry c = c .before .before .before .before .before .before .before .before .before
+
+abbrev at-in-loop : tie.After-slice-known2 Inv-loop μ-loop → tie.In-loop Inv-loop μ-loop
+at-in-loop c = c .before .before .before .before
+
 loop-holds : tie.Need-loop-holds Inv-loop μ-loop
-loop-holds c = let a = c .before .before .before .before .before .before .before .before .before .args in
+loop-holds c = let a = at-entry c .args in
     record { long = refl; leads = λ k small. inside-first (view (a .image .now) (a .s)) k (a .skip) (length (view (a .image .now) (a .s))) (a .m .now) (a .before) }
 
 add-at : tie.Need-add-at Inv-loop μ-loop
-add-at c = omega (arith, c .before .before .before .before .loop-test .taken, c .before .before .before .before .before .before .before .before .before .before .before .before .before .before .before .good .0)
+add-at c = omega (arith, at-in-loop c .loop-test .taken, at-entry (at-in-loop c .before .before) .good .0)
 
 loop-less : tie.Need-loop-less Inv-loop μ-loop
-loop-less c = omega (arith, c .before .before .before .before .loop-test .taken)
+loop-less c = omega (arith, at-in-loop c .loop-test .taken)
 
 loop-again : tie.Need-loop-again Inv-loop μ-loop
-loop-again c = let a = c .before .before .before .before .before .before .before .before .before .before .before .before .before .before .before .args in
-    let l = c .before .before .before .before .before .loop in
+loop-again c =
+    let list-any = c .before .before in
+    let in-loop = at-in-loop c in
+    let a = at-entry (in-loop .before .before) .args in
+    let l = in-loop .before .loop in
     let cells = view (a .image .now) (a .s) in
     record {
       long = c .before .m .given ∙ l .inv .long;
       leads = λ k small.
-          inside-on cells k (a .skip) (length cells) (a .m .now) (a .before) (l .at) (l .m) (l .f) (c .before .before .list-any .last .1 .1 .1 .1 .1 .1 .1 .1 .1 .1 .1 .1 .1 .0) (c .before .before .list-any .result) (omega (arith, c .before .before .before .before .loop-test .taken, view-length (a .image .now) (a .s))) (l .inv .leads k small)
-          (c .before .before .list-any .ensures k (omega (arith, c .before .before .before .before .loop-test .taken, view-length (a .image .now) (a .s), small)));
+          inside-on cells k (a .skip) (length cells) (a .m .now) (a .before) (l .at) (l .m) (l .f)
+          (list-any .list-any .last .1 .1 .1 .1 .1 .1 .1 .1 .1 .1 .1 .1 .1 .0) (list-any .list-any .result)
+          (omega (arith, in-loop .loop-test .taken, view-length (a .image .now) (a .s))) (l .inv .leads k small)
+          (list-any .list-any .ensures k (omega (arith, in-loop .loop-test .taken, view-length (a .image .now) (a .s), small)));
     }
 
 same-length : tie.Need-same-length Inv-loop μ-loop
 same-length c = c .before .loop .inv .long
 
 returns : tie.Need-returns Inv-loop μ-loop
-returns c = let a = c .before .before .before .before .before .before .before .before .before .before .before .args in
+returns c = let a = at-entry (c .before .before) .args in
     let l = c .before .loop in
     let cells = view (a .image .now) (a .s) in
-    λ k small. inside-last cells k (a .skip) (length cells) (a .m .now) (a .before) (l .at) (l .m) (l .f) (omega (arith, c .loop-test .left, view-length (a .image .now) (a .s))) (l .inv .leads k small)
+    λ k small. inside-last cells k (a .skip) (length cells) (a .m .now) (a .before) (l .at) (l .m) (l .f)
+    (omega (arith, c .loop-test .left, view-length (a .image .now) (a .s))) (l .inv .leads k small)
 
 pub list-inside-spec : {M : Type 1} → statement M
 list-inside-spec =

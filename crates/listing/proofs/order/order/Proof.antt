@@ -49,7 +49,9 @@ same-length : tie.Need-same-length Inv-loop μ-loop
 same-length c = c .before .loop .inv .long
 
 returns-3 : tie.Need-returns-3 Inv-loop μ-loop
-returns-3 c = λ r h. stands-last r (c .before .loop .m) (c .before .loop .gap) (c .before .loop .inv .passed r h) (omega (arith, c .loop-test .left)) (c .before .loop .inv .some)
+returns-3 c =
+    let loop = c .before in
+    λ r h. stands-last r (loop .loop .m) (loop .loop .gap) (loop .loop .inv .passed r h) (omega (arith, c .loop-test .left)) (loop .loop .inv .some)
 
 pub order-spec : {M : Type 1} → statement M
 order-spec =

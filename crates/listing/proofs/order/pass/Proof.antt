@@ -29,7 +29,8 @@ loop-again c =
     record {
       long = c .before .m .given ∙ l .inv .long;
       passed = λ r s.
-          let t = c .before .before .sink .ensures (c .before .before .before .before .before .before .before .before .args .n) r (l .inv .passed r s) (c .before .before .before .before .loop-test .taken) in
+          let t = c .before .before .sink .ensures (c .before .before .before .before .before .before .before .before .args .n) r
+          (l .inv .passed r s) (c .before .before .before .before .loop-test .taken) in
           record { now = t .now; rising = λ g p h. t .rising g p (omega (arith, h)) };
     }
 

@@ -10,10 +10,24 @@ returns-2 : tie.Need-returns-2
 returns-2 c = rw (ne-eqb (c .before .before .args .n) 2 (c .before .if1 .left), eq-eqb (c .before .before .args .n) 4 (c .if2 .taken))
 
 returns-3 : tie.Need-returns-3
-returns-3 c = rw (ne-eqb (c .before .before .before .args .n) 2 (c .before .before .if1 .left), ne-eqb (c .before .before .before .args .n) 4 (c .before .if2 .left), eq-eqb (c .before .before .before .args .n) 5 (c .if3 .taken))
+returns-3 c =
+    let entry = c .before .before .before in
+    rw (
+      ne-eqb (c .before .before .before .args .n) 2 (c .before .before .if1 .left),
+      ne-eqb (c .before .before .before .args .n) 4
+          (c .before .if2 .left),
+      eq-eqb (c .before .before .before .args .n) 5 (c .if3 .taken),
+    )
 
 returns-4 : tie.Need-returns-4
-returns-4 c = rw (ne-eqb (c .before .before .before .args .n) 2 (c .before .before .if1 .left), ne-eqb (c .before .before .before .args .n) 4 (c .before .if2 .left), ne-eqb (c .before .before .before .args .n) 5 (c .if3 .left))
+returns-4 c =
+    let entry = c .before .before .before in
+    rw (
+      ne-eqb (c .before .before .before .args .n) 2 (c .before .before .if1 .left),
+      ne-eqb (c .before .before .before .args .n) 4
+          (c .before .if2 .left),
+      ne-eqb (c .before .before .before .args .n) 5 (c .if3 .left),
+    )
 
 pub kind-of-spec : {M : Type 1} → statement M
 kind-of-spec = tie.close (tie.spec returns returns-2 returns-3 returns-4)

@@ -4,7 +4,13 @@ use Rattle.module_ids.proofs.row.put_id.Statement.{statement}
 use Rattle.module_ids.proofs.row.put_id.Tie as tie
 
 returns : tie.Need-returns
-returns c = rw (← c .before .before .before .before .before .before .before .before .mark-number .ensures .0, ← c .before .before .before .before .before .before .mark-number2 .ensures .0, ← c .before .before .before .before .before .before .before .before .before .kept-cells .ensures .0) (c .before .before .put .ensures)
+returns c = rw (
+  ← c .before .before .before .before .before .before .before .before .mark-number .ensures .0,
+  ←
+      c .before .before .before .before .before .before .mark-number2 .ensures .0,
+  ←
+      c .before .before .before .before .before .before .before .before .before .kept-cells .ensures .0,
+) (c .before .before .put .ensures)
 
 pub put-id-spec : {M : Type 1} → statement M
 put-id-spec =

@@ -42,11 +42,21 @@ Inv-loop library first table₀ at₀ table at = Inv library table₀ table firs
 abbrev μ-loop : tie.MeasureT-loop
 μ-loop library first table₀ at₀ table at = length library - at
 
+-- The ladder: places of the code that the answers cite, each as it is seen from a later place.
+abbrev at-loop : tie.After-places Inv-loop μ-loop → tie.At-loop Inv-loop μ-loop
+at-loop c = c .before .before .before
+
+abbrev after-fill : tie.After-slice-known3 Inv-loop μ-loop → tie.After-fill Inv-loop μ-loop
+after-fill c = c .before .before .before .before .before .before .before .before
+
+abbrev after-places : tie.After-slice-known3 Inv-loop μ-loop → tie.After-places Inv-loop μ-loop
+after-places c = after-fill c .before .before .before
+
 -- the module at the place, once it is known
 abbrev Told : Type 0
 Told = tie.After-places Inv-loop μ-loop
 
-stands : (c : Told) → placesAt (now (c .before .before .before .before .before .before .args .library)) (c .before .before .before .loop .at) ≡ placesRead (Whole (c .places .given .0 .0))
+stands : (c : Told) → placesAt (now (at-loop c .before .before .before .args .library)) (at-loop c .loop .at) ≡ placesRead (Whole (c .places .given .0 .0))
 stands c = sym (c .before .before .module-at .ensures) ∙ ap placesRead (c .places .given .1)
 
 loop-holds : tie.Need-loop-holds Inv-loop μ-loop
@@ -57,43 +67,53 @@ same-length c = c .before .before .loop .inv .long
 
 returns : tie.Need-returns Inv-loop μ-loop
 returns c =
-    let l = c .before .before .loop in
-    let lib = c .before .before .before .before .before .args .library .now in
-    let none = modules-end lib (l .at) (c .before .module-at .result) (sym (c .before .module-at .ensures)) (ends (c .before .module-at .result) (c .match .keys2)) in
+    let module-at = c .before in
+    let l = module-at .before .loop in
+    let lib = module-at .before .before .before .before .args .library .now in
+    let none = modules-end lib (l .at) (module-at .module-at .result) (sym (module-at .module-at .ensures)) (ends (module-at .module-at .result) (c .match .keys2)) in
     record { clear-again = l .inv .clear; says = ap verdictOf (sym no-module ∙ ap collectRefusal (sym none) ∙ l .inv .same) }
 
 fill-requires : tie.Need-fill-requires Inv-loop μ-loop
-fill-requires c κs = c .before .before .before .before .before .loop .inv .clear
+fill-requires c κs = at-loop (c .before .before) .loop .inv .clear
 
 clear-requires : tie.Need-clear-requires Inv-loop μ-loop
 clear-requires c κs = c .before .before .before .before .before .fill .ensures .tells
 
 returns-2 : tie.Need-returns-2 Inv-loop μ-loop
 returns-2 c =
-    let i = c .before .before .before .before .before .before .before .before .before .before .before .before .before .before in
-    let l = i .before .before .before .loop in
-    let lib = i .before .before .before .before .before .before .args .library .now in
-    let p = i .places .given .0 .0 in
-    let e = told {o = sectionsFault (moduleOf lib p .definitions) (moduleOf lib p .sections)} (sym (c .before .before .before .before .before .before .before .sections-fault .ensures _ (c .before .before .before .before .before .before .before .before .before .before .before .fill .ensures .tells)) ∙ c .before .verdict .given .1) in
+    let places = after-places (c .before .before .before) in
+    let loop = at-loop places in
+    let l = loop .loop in
+    let lib = loop .before .before .before .args .library .now in
+    let p = places .places .given .0 .0 in
+    let e = told {o = sectionsFault (moduleOf lib p .definitions) (moduleOf lib p .sections)}
+    (sym (c .before .before .before .before .before .before .before .sections-fault .ensures _ (after-fill (c .before .before .before) .fill .ensures .tells)) ∙ c .before .verdict .given .1) in
     record {
       clear-again = c .before .before .before .before .before .clear .ensures;
-      says = ap verdictOf (ap (λ o. orElse o (collectRefusal (itemsAt lib (moduleAt lib) (p .next)))) (sym e) ∙ sym (module-fault (moduleOf lib p) (itemsAt lib (moduleAt lib) (p .next))) ∙ ap collectRefusal (sym (modules-step lib (l .at) (stands i))) ∙ l .inv .same);
+      says = ap verdictOf (ap (λ o. orElse o (collectRefusal (itemsAt lib (moduleAt lib) (p .next)))) (sym e) ∙ sym
+          (module-fault (moduleOf lib p) (itemsAt lib (moduleAt lib) (p .next))) ∙ ap collectRefusal (sym (modules-step lib (l .at) (stands places))) ∙ l .inv .same);
     }
 
 loop-less : tie.Need-loop-less Inv-loop μ-loop
-loop-less c = omega (arith, module-moved (c .before .before .before .before .before .before .before .before .before .before .before .before .before .before .before .before .before .before .before .args .library .now) (c .before .before .before .before .before .before .before .before .before .before .before .before .before .before .before .before .loop .at) (stands (c .before .before .before .before .before .before .before .before .before .before .before .before .before)))
+loop-less c =
+    let places = after-places (c .before .before) in
+    let loop = at-loop places in
+    omega (arith, module-moved (loop .before .before .before .args .library .now) (loop .loop .at) (stands places))
 
 loop-again : tie.Need-loop-again Inv-loop μ-loop
 loop-again c =
-    let i = c .before .before .before .before .before .before .before .before .before .before .before .before .before in
-    let l = i .before .before .before .loop in
-    let lib = i .before .before .before .before .before .before .args .library .now in
-    let p = i .places .given .0 .0 in
-    let e = told {o = sectionsFault (moduleOf lib p .definitions) (moduleOf lib p .sections)} (sym (c .before .before .before .before .before .before .sections-fault .ensures _ (c .before .before .before .before .before .before .before .before .before .before .fill .ensures .tells)) ∙ c .enum-told .given .1) in
+    let places = after-places (c .before .before) in
+    let loop = at-loop places in
+    let l = loop .loop in
+    let lib = loop .before .before .before .args .library .now in
+    let p = places .places .given .0 .0 in
+    let e = told {o = sectionsFault (moduleOf lib p .definitions) (moduleOf lib p .sections)}
+    (sym (c .before .before .before .before .before .before .sections-fault .ensures _ (after-fill (c .before .before) .fill .ensures .tells)) ∙ c .enum-told .given .1) in
     record {
       long = search needs;
       clear = c .before .before .before .before .clear .ensures;
-      same = ap (λ o. orElse o (collectRefusal (itemsAt lib (moduleAt lib) (p .next)))) (sym e) ∙ sym (module-fault (moduleOf lib p) (itemsAt lib (moduleAt lib) (p .next))) ∙ ap collectRefusal (sym (modules-step lib (l .at) (stands i))) ∙ l .inv .same;
+      same = ap (λ o. orElse o (collectRefusal (itemsAt lib (moduleAt lib) (p .next)))) (sym e) ∙ sym
+          (module-fault (moduleOf lib p) (itemsAt lib (moduleAt lib) (p .next))) ∙ ap collectRefusal (sym (modules-step lib (l .at) (stands places))) ∙ l .inv .same;
     }
 
 pub scan-spec : {M : Type 1} → statement M

@@ -4,7 +4,13 @@ use Rattle.module_ids.proofs.table.changed.Statement.{statement}
 use Rattle.module_ids.proofs.table.changed.Tie as tie
 
 returns : tie.Need-returns
-returns c = rw (c .first-kept .ensures, c .before .is-kept .ensures, c .before .before .first-mark .ensures, c .before .before .before .code-info .ensures, c .before .before .before .before .before .d .given .1)
+returns c = rw (
+  c .first-kept .ensures,
+  c .before .is-kept .ensures,
+  c .before .before .first-mark .ensures,
+  c .before .before .before .code-info .ensures,
+  c .before .before .before .before .before .d .given .1,
+)
 
 returns-2 : tie.Need-returns-2
 returns-2 c = rw (c .before .d2 .given .1)

@@ -25,19 +25,26 @@ Inv-loop library at table₀ c₀ table c = Inv library table₀ table c
 abbrev μ-loop : tie.MeasureT-loop
 μ-loop library at table₀ c₀ table c = length (definitionsLeft library c)
 
+-- The ladder: places of the code that the answers cite, each as it is seen from a later place.
+abbrev at-loop : tie.After-known-told Inv-loop μ-loop → tie.At-loop Inv-loop μ-loop
+at-loop c = c .before .before .before .before
+
 -- the next definition, once it is known
 abbrev Told : Type 0
 Told = tie.After-known-told Inv-loop μ-loop
 
-yields : (c : Told) → definitionsLeft (now (c .before .before .before .before .before .before .before .before .args .library)) (c .before .before .before .before .loop .c) ≡ c .before .definition .given .0 .0 ∷ definitionsLeft (now (c .before .before .before .before .before .before .before .before .args .library)) (c .before .definition .given .0 .1 .0)
+yields : (c : Told) → definitionsLeft (now (at-loop c .before .before .before .before .args .library)) (at-loop c .loop .c) ≡
+    c .before .definition .given .0 .0 ∷ definitionsLeft (now (at-loop c .before .before .before .before .args .library)) (c .before .definition .given .0 .1 .0)
 yields c =
-    let a = c .before .before .before .before .before .before .before .before .args in
-    next-definition-yields (a .library .now) (c .before .before .before .before .loop .c) ∙ ap (definitionsAfter (a .library .now)) (sym (c .before .before .before .next-definition .ensures) ∙ c .before .definition .given .1)
+    let a = at-loop c .before .before .before .before .args in
+    next-definition-yields (a .library .now) (at-loop c .loop .c) ∙ ap (definitionsAfter (a .library .now))
+    (sym (c .before .before .before .next-definition .ensures) ∙ c .before .definition .given .1)
 
 loop-holds : tie.Need-loop-holds Inv-loop μ-loop
 loop-holds c =
-    let a = c .before .before .before .args in
-    rw (c .start .ensures) (record { long = refl; clearing = rw (definitions-start (a .library .now) (a .at)) (clearing-starts _ (a .table .now) (c .before .before .before .pre)) })
+    let entry = c .before .before .before in
+    let a = entry .args in
+    rw (c .start .ensures) (record { long = refl; clearing = rw (definitions-start (a .library .now) (a .at)) (clearing-starts _ (a .table .now) (entry .pre)) })
 
 loop-less : tie.Need-loop-less Inv-loop μ-loop
 loop-less c = rw (yields (c .before .before .before .before .before .before)) (omega arith)
@@ -50,7 +57,8 @@ loop-again c =
     let e = c .before .before .put-id .ensures in
     record {
       long = ap length e ∙ put-length 6 (l .table) _ _ ∙ l .inv .long;
-      clearing = rw (e, c .before .before .before .no-row .ensures, i .0) (clearing-step d _ (l .table) (subst (λ (x : ModuleId). x .0 < 65536) (i .0) (i .1)) (rw (yields (c .before .before .before .before .before .before)) at (l .inv .clearing)));
+      clearing = rw (e, c .before .before .before .no-row .ensures, i .0)
+          (clearing-step d _ (l .table) (subst (λ (x : ModuleId). x .0 < 65536) (i .0) (i .1)) (rw (yields (c .before .before .before .before .before .before)) at (l .inv .clearing)));
     }
 
 same-length : tie.Need-same-length Inv-loop μ-loop

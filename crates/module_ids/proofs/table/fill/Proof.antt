@@ -35,25 +35,49 @@ Inv-loop library at table₀ c₀ n₀ table c n = Inv library at table₀ table
 abbrev μ-loop : tie.MeasureT-loop
 μ-loop library at table₀ c₀ n₀ table c n = length (definitionsLeft library c)
 
+-- The ladder: places of the code that the answers cite, each as it is seen from a later place.
+abbrev at-entry : tie.At-loop Inv-loop μ-loop → tie.Start Inv-loop μ-loop
+at-entry c = c .before .before .before .before
+
+abbrev after-next-definition : tie.After-known-told Inv-loop μ-loop → tie.After-next-definition Inv-loop μ-loop
+after-next-definition c = c .before .before .before
+
 -- the next definition, once it is known
 abbrev Told : Type 0
 Told = tie.After-known-told Inv-loop μ-loop
 
-yields : (c : Told) → definitionsLeft (now (c .before .before .before .before .before .before .before .before .args .library)) (c .before .before .before .before .loop .c) ≡ c .before .definition .given .0 .0 ∷ definitionsLeft (now (c .before .before .before .before .before .before .before .before .args .library)) (c .before .definition .given .0 .1 .0)
+yields : (c : Told) → definitionsLeft (now (at-entry (after-next-definition c .before) .args .library)) (after-next-definition c .before .loop .c) ≡
+    c .before .definition .given .0 .0 ∷ definitionsLeft (now (at-entry (after-next-definition c .before) .args .library)) (c .before .definition .given .0 .1 .0)
 yields c =
-    let a = c .before .before .before .before .before .before .before .before .args in
-    next-definition-yields (a .library .now) (c .before .before .before .before .loop .c) ∙ ap (definitionsAfter (a .library .now)) (sym (c .before .before .before .next-definition .ensures) ∙ c .before .definition .given .1)
+    let next-definition = after-next-definition c in
+    let a = at-entry (next-definition .before) .args in
+    next-definition-yields (a .library .now) (next-definition .before .loop .c) ∙ ap (definitionsAfter (a .library .now))
+    (sym (next-definition .next-definition .ensures) ∙ c .before .definition .given .1)
 
-goes : (c : Told) → Forward (now (c .before .before .before .before .before .before .before .before .args .library)) (c .before .before .before .before .loop .c) (c .before .definition .given .0 .1 .0)
-goes c = definition-goes (c .before .before .before .before .before .before .before .before .args .library .now) (c .before .before .before .before .loop .c) (c .before .before .before .before .loop .inv .ordered) (sym (c .before .before .before .next-definition .ensures) ∙ c .before .definition .given .1)
+goes : (c : Told) → Forward (now (at-entry (after-next-definition c .before) .args .library)) (after-next-definition c .before .loop .c) (c .before .definition .given .0 .1 .0)
+goes c =
+    let next-definition = after-next-definition c in
+    let loop = next-definition .before in
+    definition-goes (at-entry loop .args .library .now) (loop .loop .c) (loop .loop .inv .ordered) (sym (next-definition .next-definition .ensures) ∙ c .before .definition .given .1)
 
 loop-holds : tie.Need-loop-holds Inv-loop μ-loop
 loop-holds c =
-    let a = c .before .before .before .args in
-    rw (c .start .ensures) (record { long = refl; done = []; whole = definitions-start (a .library .now) (a .at); tells = c .before .before .before .pre; number = none-kept; few = omega arith; ordered = record { before = omega arith; body-before = omega arith } })
+    let entry = c .before .before .before in
+    let a = entry .args in
+    rw (c .start .ensures) (record {
+      long = refl;
+      done = [];
+      whole = definitions-start (a .library .now) (a .at);
+      tells = entry .pre;
+      number = none-kept;
+      few = omega arith;
+      ordered = record { before = omega arith; body-before = omega arith };
+    })
 
 kept-after-requires : tie.Need-kept-after-requires Inv-loop μ-loop
-kept-after-requires c κs = omega (arith, c .before .before .before .before .before .before .before .before .loop .inv .few, goes (c .before .before .before .before), c .before .before .before .before .before .before .before .before .before .before .before .shared-slice-known .given 0)
+kept-after-requires c κs =
+    let next-definition = after-next-definition (c .before .before .before .before) in
+    omega (arith, next-definition .before .loop .inv .few, goes (c .before .before .before .before), next-definition .before .before .before .before .shared-slice-known .given 0)
 
 loop-less : tie.Need-loop-less Inv-loop μ-loop
 loop-less c = rw (yields (c .before .before .before .before .before)) (omega arith)
@@ -65,7 +89,8 @@ loop-again c =
     let d = c .before .before .before .before .before .before .definition .given .0 .0 in
     let f = goes (c .before .before .before .before .before) in
     record {
-      long = ap length (c .before .before .before .note .ensures .0) ∙ note-length (c .before .before .before .before .before .before .before .before .before .loop .table) (c .before .before .before .before .before .before .before .before .before .loop .n) d ∙ i .long;
+      long = ap length (c .before .before .before .note .ensures .0) ∙ note-length
+          (c .before .before .before .before .before .before .before .before .before .loop .table) (c .before .before .before .before .before .before .before .before .before .loop .n) d ∙ i .long;
       done = i .done ++ one d;
       whole = append-assoc (i .done) (one d) _ ∙ ap (λ xs. i .done ++ xs) (sym (yields (c .before .before .before .before .before))) ∙ i .whole;
       tells = rw (c .before .before .before .note .ensures .0, i .number) (noted (i .done) _ d (i .tells) (c .before .before .before .note .ensures .1));
@@ -80,7 +105,7 @@ same-length c = c .before .before .before .loop .inv .long
 returns : tie.Need-returns Inv-loop μ-loop
 returns c =
     let l = c .before .before .before .loop in
-    let lib = c .before .before .before .before .before .before .before .args .library .now in
+    let lib = at-entry (c .before .before .before) .args .library .now in
     let e = next-definition-yields lib (l .c) ∙ ap (definitionsAfter lib) (sym (c .before .before .next-definition .ensures) ∙ c .enum-told .given .1) in
     all-noted (l .table) (l .inv .whole) e (l .inv .tells) (l .inv .number)
 

@@ -9,10 +9,20 @@ returns : tie.Need-returns
 returns c = rw (c .before .before .before .d .given .1, eq-eqb (c .before .before .before .d .given .0 .0 .0) 0 (c .if1 .taken))
 
 returns-2 : tie.Need-returns-2
-returns-2 c = rw (c .before .before .before .before .before .d .given .1, ne-eqb (c .before .before .before .before .before .d .given .0 .0 .0) 0 (c .before .before .if1 .left), sym (c .before .code-info .ensures) ∙ c .if2 .taken)
+returns-2 c = rw (
+  c .before .before .before .before .before .d .given .1,
+  ne-eqb (c .before .before .before .before .before .d .given .0 .0 .0) 0
+      (c .before .before .if1 .left),
+  sym (c .before .code-info .ensures) ∙ c .if2 .taken,
+)
 
 returns-3 : tie.Need-returns-3
-returns-3 c = rw (c .before .before .before .before .before .d .given .1, ne-eqb (c .before .before .before .before .before .d .given .0 .0 .0) 0 (c .before .before .if1 .left), sym (c .before .code-info .ensures) ∙ c .if2 .left)
+returns-3 c = rw (
+  c .before .before .before .before .before .d .given .1,
+  ne-eqb (c .before .before .before .before .before .d .given .0 .0 .0) 0
+      (c .before .before .if1 .left),
+  sym (c .before .code-info .ensures) ∙ c .if2 .left,
+)
 
 returns-4 : tie.Need-returns-4
 returns-4 c = rw (c .before .d2 .given .1)

@@ -10,8 +10,11 @@ use Rattle.module_ids.proofs.table.note.Tie as tie
 returns : tie.Need-returns
 returns c =
     let a = c .before .before .before .before .before .before .before .before .before .args in
-    let i = c .before .before .before .before .before .before .before .id-of .ensures in
-    (note-steps (a .table .now) (a .n) (a .d) (i .0) (c .before .before .before .before .before .id-row .ensures .0) (c .before .before .before .changed .ensures) (c .before .before .put-id .ensures), subst (λ (x : ModuleId). x .0 < 65536) (i .0) (i .1))
+    let i = c .before .before .before .before .before .before .before .id-of .ensures in (
+      note-steps (a .table .now) (a .n) (a .d) (i .0) (c .before .before .before .before .before .id-row .ensures .0)
+          (c .before .before .before .changed .ensures) (c .before .before .put-id .ensures),
+      subst (λ (x : ModuleId). x .0 < 65536) (i .0) (i .1),
+    )
 
 pub note-spec : {M : Type 1} → statement M
 note-spec =

@@ -7,7 +7,8 @@ use Rattle.module_index.proofs.owner.link_at.Statement.{statement}
 use Rattle.module_index.proofs.owner.link_at.Tie as tie
 
 returns : tie.Need-returns
-returns c = let a = c .before .before .before .before .args in c .head-of .ensures ∙ sym (ap (λ t. if t then getD (a .heads .now) (a .id .0) 0 else 0) (sym (c .before .before .is-first .ensures) ∙ c .before .if1 .taken))
+returns c = let a = c .before .before .before .before .args in c .head-of .ensures ∙ sym
+    (ap (λ t. if t then getD (a .heads .now) (a .id .0) 0 else 0) (sym (c .before .before .is-first .ensures) ∙ c .before .if1 .taken))
 
 returns-2 : tie.Need-returns-2
 returns-2 c = let a = c .before .before .before .args in sym (ap (λ t. if t then getD (a .heads .now) (a .id .0) 0 else 0) (sym (c .before .is-first .ensures) ∙ c .if1 .left))

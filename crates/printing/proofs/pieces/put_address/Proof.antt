@@ -8,6 +8,10 @@ use Rattle.printing.specs.StoreLaws.{digits-length}
 use Rattle.printing.specs.PieceLaws.{digits-most, address-length}
 use Rattle.printing.specs.PutLaws.{address-put}
 
+-- The ladder: places of the code that the answers cite, each as it is seen from a later place.
+abbrev after-digits : tie.After-put-blanks-arg → tie.After-digits
+after-digits c = c .before .before .before .before .before .before .before .before .before .before
+
 put-requires : tie.Need-put-requires
 put-requires c κs = omega (arith, address-length (c .before .before .before .before .args .address))
 
@@ -15,13 +19,19 @@ put-digits-requires : tie.Need-put-digits-requires
 put-digits-requires c κs = omega (arith, address-length (c .before .before .before .before .before .before .before .before .args .address))
 
 add-blanks : tie.Need-add-blanks
-add-blanks c = omega (arith, digits-most 12 (c .before .before .before .before .before .before .before .before .before .before .before .before .args .address / 0x10000))
+add-blanks c = omega (arith, digits-most 12 (after-digits c .before .before .args .address / 0x10000))
 
 put-blanks-requires : tie.Need-put-blanks-requires
-put-blanks-requires c κs = let a = c .before .before .before .before .before .before .before .before .before .before .before .before .before .args .address in omega (arith, address-length a, digits-length (c .before .before .before .before .before .before .before .before .before .before .before .digits .result) a, c .blanks .ensures)
+put-blanks-requires c κs =
+    let digits = after-digits (c .before) in
+    let a = digits .before .before .args .address in omega (arith, address-length a, digits-length (digits .digits .result) a, c .blanks .ensures)
 
 returns : tie.Need-returns
-returns c = address-put (c .before .before .before .before .before .before .before .before .before .before .before .before .before .before .before .before .args .address) (c .before .before .before .before .before .before .before .before .before .before .before .before .before .before .digits .ensures) (c .before .before .before .blanks .ensures) (c .before .before .before .before .before .before .before .before .before .before .before .put .ensures) (c .before .before .before .before .before .before .before .put-digits .ensures) (c .before .before .put-blanks .ensures)
+returns c =
+    let digits = after-digits (c .before .before .before .before) in
+    address-put (digits .before .before .args .address) (digits .digits .ensures) (c .before .before .before .blanks .ensures)
+    (c .before .before .before .before .before .before .before .before .before .before .before .put .ensures)
+    (c .before .before .before .before .before .before .before .put-digits .ensures) (c .before .before .put-blanks .ensures)
 
 pub put-address-spec : {M : Type 1} → statement M
 put-address-spec =

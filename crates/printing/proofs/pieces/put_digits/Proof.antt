@@ -40,7 +40,12 @@ loop-less c = omega arith
 loop-again : tie.Need-loop-again Inv-loop μ-loop
 loop-again c = let a = c .before .before .before .before .args in
     let l = c .before .before .loop in
-    record { within = omega arith; long = simp length-set (l .inv .long); same = ap (λ d. sets (set (l .out) (a .at + (l .j - 1)) d) (a .at) (digits (l .j - 1) (l .rest / 16))) (c .digit .ensures) ∙ digits-more (a .at) (l .j) (l .rest) (l .out) (c .before .loop-test .taken) ∙ l .inv .same }
+    record {
+      within = omega arith;
+      long = simp length-set (l .inv .long);
+      same = ap (λ d. sets (set (l .out) (a .at + (l .j - 1)) d) (a .at) (digits (l .j - 1) (l .rest / 16))) (c .digit .ensures) ∙ digits-more
+          (a .at) (l .j) (l .rest) (l .out) (c .before .loop-test .taken) ∙ l .inv .same;
+    }
 
 add-result : tie.Need-add-result Inv-loop μ-loop
 add-result c = omega arith

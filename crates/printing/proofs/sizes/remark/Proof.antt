@@ -8,16 +8,23 @@ use lib.ListN.{replicate}
 use Rattle.printing.specs.PieceLaws.{held, held-length}
 
 add-result : tie.Need-add-result
-add-result c = omega (arith, held (c .before .before .before .before .before .before .before .args .bytes .now) (replicate 88 0) refl (c .before .before .before .before .describe .ensures) (c .before .n .given .1) .short)
+add-result c = omega (
+  arith,
+  held (c .before .before .before .before .before .before .before .args .bytes .now) (replicate 88 0) refl
+      (c .before .before .before .before .describe .ensures) (c .before .n .given .1) .short,
+)
 
 returns : tie.Need-returns
-returns c = let b = c .before .before .before .before .before .before .before .args .bytes .now in held-length b (held b (replicate 88 0) refl (c .before .before .before .before .describe .ensures) (c .before .n .given .1))
+returns c = let b = c .before .before .before .before .before .before .before .args .bytes .now in held-length b
+    (held b (replicate 88 0) refl (c .before .before .before .before .describe .ensures) (c .before .n .given .1))
 
 returns-2 : tie.Need-returns-2
-returns-2 c = let b = c .before .before .before .before .before .before .args .bytes .now in held-length b (held b (replicate 88 0) refl (c .before .before .before .describe .ensures) (c .enum-told .given .1))
+returns-2 c = let b = c .before .before .before .before .before .before .args .bytes .now in held-length b
+    (held b (replicate 88 0) refl (c .before .before .before .describe .ensures) (c .enum-told .given .1))
 
 returns-3 : tie.Need-returns-3
-returns-3 c = let b = c .before .before .before .before .before .before .args .bytes .now in held-length b (held b (replicate 88 0) refl (c .before .before .before .describe .ensures) (c .enum-told2 .given .1))
+returns-3 c = let b = c .before .before .before .before .before .before .args .bytes .now in held-length b
+    (held b (replicate 88 0) refl (c .before .before .before .describe .ensures) (c .enum-told2 .given .1))
 
 pub remark-spec : {M : Type 1} → statement M
 remark-spec =

@@ -10,10 +10,15 @@ use borrow.Author.Needs.{needs}
 use Rattle.segment_parts.proofs.patterns.merge_content.Statement.{statement}
 use Rattle.segment_parts.proofs.patterns.merge_content.Tie as tie
 
+-- The ladder: places of the code that the answers cite, each as it is seen from a later place.
+abbrev after-merge-at : tie.After-slice-known6 → tie.After-merge-at
+after-merge-at c = c .before .before .before .before .before .before .before .before .before
+
 merge-masks-requires : tie.Need-merge-masks-requires
 merge-masks-requires c κs =
-    let a = c .before .before .before .before .before .before .before .before .before .before .before .args in
-    omega (arith, ap length (c .before .before .before .before .before .before .name .ensures), part-short (a .library .now) (a .content .part), c .before .before .before .before .before .before .before .before .before .before .before .pre)
+    let entry = c .before .before .before .before .before .before .before .before .before .before .before in
+    let a = entry .args in
+    omega (arith, ap length (c .before .before .before .before .before .before .name .ensures), part-short (a .library .now) (a .content .part), entry .pre)
 
 same-length : tie.Need-same-length
 same-length c = search needs
@@ -26,11 +31,14 @@ same-length-3 c = c .before .before .before .before .merge-masks .ensures .1
 
 returns : tie.Need-returns
 returns c =
-    let a = c .before .before .before .before .before .before .before .before .before .before .before .before .before .before .before .before .args in
+    let merge-masks = c .before .before .before .before in
+    let merge-at = after-merge-at c in
+    let name = merge-at .before .before in
+    let a = name .before .before .before .before .before .args in
     record {
-      long = c .before .before .before .before .merge-masks .ensures .1;
-      bytes-are = c .before .before .before .before .before .before .before .before .before .merge-at .ensures ∙ ap (mergedIn (a .spot) (a .bytes .now)) (c .before .before .before .before .before .before .before .before .before .before .before .name .ensures);
-      masks-are = c .before .before .before .before .merge-masks .ensures .0 ∙ ap (λ xs. mergedIn (a .spot) (a .masks .now) (masksOf (length xs) (fixupsLeft (a .library .now) (a .fixups)))) (c .before .before .before .before .before .before .before .before .before .before .before .name .ensures);
+      long = merge-masks .merge-masks .ensures .1;
+      bytes-are = merge-at .merge-at .ensures ∙ ap (mergedIn (a .spot) (a .bytes .now)) (name .name .ensures);
+      masks-are = merge-masks .merge-masks .ensures .0 ∙ ap (λ xs. mergedIn (a .spot) (a .masks .now) (masksOf (length xs) (fixupsLeft (a .library .now) (a .fixups)))) (name .name .ensures);
     }
 
 pub merge-content-spec : {M : Type 1} → statement M

@@ -12,12 +12,17 @@ use Rattle.segment_parts.proofs.patterns.merge_masks.Tie as tie
 
 returns : tie.Need-returns
 returns c =
-    let a = c .before .before .before .before .before .before .before .before .before .before .before .before .before .args in
+    let content-masks = c .before .before .before .before .before .before .before .before in
+    let entry = content-masks .before .before .before .before .before in
+    let a = entry .args in
     let fixups = fixupsLeft (a .library .now) (a .fixups) in
-    let new = c .before .before .before .before .before .before .before .before .content-masks .last .1 .1 .0 in
-    let made = c .before .before .before .before .before .before .before .before .content-masks .ensures ∙ ap (λ n. masksOf n fixups) (front-length (a .apart .now) (a .len) (c .before .before .before .before .before .before .before .before .before .before .before .before .before .pre)) in
-    let long = ap length made ∙ masks-length (a .len) fixups in
-    (c .before .before .merge-at .ensures ∙ ap (mergedAt (a .masks .now) (a .spot .start) (a .spot .size) (a .spot .offset)) (apart-read (a .apart .now) new (a .len) long ∙ made), apart-long (a .apart .now) new (a .len) (c .before .before .before .before .before .before .before .before .before .before .before .before .before .pre) long)
+    let new = content-masks .content-masks .last .1 .1 .0 in
+    let made = content-masks .content-masks .ensures ∙ ap (λ n. masksOf n fixups) (front-length (a .apart .now) (a .len) (entry .pre)) in
+    let long = ap length made ∙ masks-length (a .len) fixups in (
+      c .before .before .merge-at .ensures ∙ ap (mergedAt (a .masks .now) (a .spot .start) (a .spot .size) (a .spot .offset))
+          (apart-read (a .apart .now) new (a .len) long ∙ made),
+      apart-long (a .apart .now) new (a .len) (entry .pre) long,
+    )
 
 pub merge-masks-spec : {M : Type 1} → statement M
 merge-masks-spec =

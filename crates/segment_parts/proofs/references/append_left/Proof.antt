@@ -13,7 +13,12 @@ returns : tie.Need-returns
 returns c =
     let a = c .before .before .before .before .before .before .before .before .args in
     let r = c .before .before .before .before .before .leaves .given .0 .0 in
-    rw (c .before .before .before .before .before .leaves .given .1, c .before .before .append-reference .ensures .0, c .before .before .append-reference .ensures .1) (adds-one referenceLayout reference-width (λ e. absurd (omega arith)) (a .m .now) (a .f) r, put-more-length referenceLayout (a .f) r (a .m .now))
+    rw (
+      c .before .before .before .before .before .leaves .given .1,
+      c .before .before .append-reference .ensures .0,
+      c .before .before .append-reference .ensures .1,
+    )
+    (adds-one referenceLayout reference-width (λ e. absurd (omega arith)) (a .m .now) (a .f) r, put-more-length referenceLayout (a .f) r (a .m .now))
 
 returns-2 : tie.Need-returns-2
 returns-2 c =

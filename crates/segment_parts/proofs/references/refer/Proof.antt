@@ -34,33 +34,54 @@ Inv-loop library table number base m₀ c₀ f₀ m c f = Inv library table numb
 abbrev μ-loop : tie.MeasureT-loop
 μ-loop library table number base m₀ c₀ f₀ m c f = length (fixupsLeft library c)
 
+-- The ladder: places of the code that the answers cite, each as it is seen from a later place.
+abbrev at-entry : tie.At-loop Inv-loop μ-loop → tie.Start Inv-loop μ-loop
+at-entry c = c .before .before .before .before
+
+abbrev after-next-fixup : tie.After-known-told Inv-loop μ-loop → tie.After-next-fixup Inv-loop μ-loop
+after-next-fixup c = c .before .before .before
+
+abbrev after-id-row : tie.After-slice-known2 Inv-loop μ-loop → tie.After-id-row Inv-loop μ-loop
+after-id-row c = c .before .before .before .before .before
+
 -- the next fixup, once it is known
 abbrev Told : Type 0
 Told = tie.After-known-told Inv-loop μ-loop
 
-yields : (c : Told) → fixupsLeft (now (c .before .before .before .before .before .before .before .before .args .library)) (c .before .before .before .before .loop .c) ≡ c .before .fixup .given .0 .0 ∷ fixupsLeft (now (c .before .before .before .before .before .before .before .before .args .library)) (c .before .fixup .given .0 .1 .0)
-yields c = let lib = c .before .before .before .before .before .before .before .before .args .library .now in next-fixup-yields lib (c .before .before .before .before .loop .c) ∙ ap (fixupsAfter lib) (sym (c .before .before .before .next-fixup .ensures) ∙ c .before .fixup .given .1)
+yields : (c : Told) → fixupsLeft (now (at-entry (after-next-fixup c .before) .args .library)) (after-next-fixup c .before .loop .c) ≡
+    c .before .fixup .given .0 .0 ∷ fixupsLeft (now (at-entry (after-next-fixup c .before) .args .library)) (c .before .fixup .given .0 .1 .0)
+yields c =
+    let next-fixup = after-next-fixup c in
+    let lib = at-entry (next-fixup .before) .args .library .now in next-fixup-yields lib (next-fixup .before .loop .c) ∙ ap (fixupsAfter lib)
+    (sym (next-fixup .next-fixup .ensures) ∙ c .before .fixup .given .1)
 
 loop-holds : tie.Need-loop-holds Inv-loop μ-loop
 loop-holds c = record { long = refl; leads = λ ds t n g h. h }
 
 reference-of-requires : tie.Need-reference-of-requires Inv-loop μ-loop
 reference-of-requires c κs =
-    let a = c .before .before .before .before .before .before .before .before .before .args in
+    let next-fixup = after-next-fixup (c .before) in
+    let entry = at-entry (next-fixup .before) in
+    let a = entry .args in
     let f = c .before .before .fixup .given .0 .0 in
-    let place = fixup-small (a .library .now) (c .before .before .before .before .before .loop .c) (λ i. omega (arith, c .before .before .before .before .before .before .before .before .shared-slice-known .given i)) (sym (c .before .before .before .before .next-fixup .ensures) ∙ c .before .before .fixup .given .1) in
-    (rw (c .id-row .ensures .0) (c .before .before .before .before .before .before .before .before .before .pre .numbers (f .id) (c .id-row .ensures .1)), omega (arith, c .before .before .before .before .before .before .before .before .before .pre .places, place))
+    let place = fixup-small (a .library .now) (next-fixup .before .loop .c)
+    (λ i. omega (arith, next-fixup .before .before .before .before .shared-slice-known .given i)) (sym (next-fixup .next-fixup .ensures) ∙ c .before .before .fixup .given .1) in
+    (rw (c .id-row .ensures .0) (entry .pre .numbers (f .id) (c .id-row .ensures .1)), omega (arith, entry .pre .places, place))
 
 loop-less : tie.Need-loop-less Inv-loop μ-loop
 loop-less c = rw (yields (c .before .before .before .before .before .before)) (omega arith)
 
 loop-again : tie.Need-loop-again Inv-loop μ-loop
 loop-again c =
-    let a = c .before .before .before .before .before .before .before .before .before .before .before .before .before .before .args in
-    let l = c .before .before .before .before .before .before .before .before .before .before .loop in
+    let append-left = c .before .before in
+    let id-row = after-id-row c in
+    let next-fixup = after-next-fixup (id-row .before) in
+    let a = at-entry (next-fixup .before) .args in
+    let l = next-fixup .before .loop in
     record {
-      long = c .before .before .append-left .ensures .1 ∙ l .inv .long;
-      leads = λ ds t. refer-on ds (a .table .now) (a .number) (a .base) (c .before .before .before .before .before .before .before .fixup .given .0 .0) t (c .before .before .before .before .before .id-row .ensures) (yields (c .before .before .before .before .before .before)) (c .before .before .before .before .reference-of .ensures) (c .before .before .append-left .ensures .0) (l .inv .leads ds t);
+      long = append-left .append-left .ensures .1 ∙ l .inv .long;
+      leads = λ ds t. refer-on ds (a .table .now) (a .number) (a .base) (id-row .before .before .fixup .given .0 .0) t (id-row .id-row .ensures)
+          (yields (id-row .before)) (append-left .before .before .reference-of .ensures) (append-left .append-left .ensures .0) (l .inv .leads ds t);
     }
 
 same-length : tie.Need-same-length Inv-loop μ-loop
@@ -68,7 +89,7 @@ same-length c = c .before .before .before .loop .inv .long
 
 returns : tie.Need-returns Inv-loop μ-loop
 returns c =
-    let a = c .before .before .before .before .before .before .before .args in
+    let a = at-entry (c .before .before .before) .args in
     let l = c .before .before .before .loop in
     let e = next-fixup-yields (a .library .now) (l .c) ∙ ap (fixupsAfter (a .library .now)) (sym (c .before .before .next-fixup .ensures) ∙ c .enum-told .given .1) in
     record { long = l .inv .long; adds = λ ds t. all-added referenceLayout (joined-end (leavesIn ds (a .number) (a .base)) e) (l .inv .leads ds t) }

@@ -36,46 +36,70 @@ Inv-loop library table number link next places m₀ last₀ here₀ f₀ m last 
 abbrev μ-loop : tie.MeasureT-loop
 μ-loop library table number link next places m₀ last₀ here₀ f₀ m last here f = 2 ^ 32 - last
 
+-- The ladder: places of the code that the answers cite, each as it is seen from a later place.
+abbrev at-entry : tie.After-slice-known Inv-loop μ-loop → tie.Start Inv-loop μ-loop
+at-entry c = c .before .before .before .before .before
+
+abbrev after-next-content : tie.After-refer-arg Inv-loop μ-loop → tie.After-next-content Inv-loop μ-loop
+after-next-content c = c .before .before .before .before
+
+abbrev at-loop : tie.After-refer-arg Inv-loop μ-loop → tie.At-loop Inv-loop μ-loop
+at-loop c = after-next-content c .before .before .before
+
 loop-holds : tie.Need-loop-holds Inv-loop μ-loop
 loop-holds c =
-    let a = c .before .before .before .before .before .args in
-    record { long = refl; small = omega (arith, c .before .before .before .before .before .fits); adding = λ ds ss t f. adding-starts (SectionIs (a .library .now) (a .places .now)) (a .next .now) ss (a .m .now) referenceLayout (sectionLeaves ds (a .number)) (a .before) f }
+    let a = at-entry c .args in
+    record {
+      long = refl;
+      small = omega (arith, at-entry c .fits);
+      adding = λ ds ss t f. adding-starts (SectionIs (a .library .now) (a .places .now)) (a .next .now) ss (a .m .now) referenceLayout (sectionLeaves ds (a .number)) (a .before) f;
+    }
 
 same-length : tie.Need-same-length Inv-loop μ-loop
 same-length c = c .before .before .before .before .before .loop .inv .long
 
 returns : tie.Need-returns Inv-loop μ-loop
 returns c =
-    let a = c .before .before .before .before .before .before .before .before .before .before .before .args in
+    let a = at-entry (c .before .before .before .before .before .before) .args in
     let l = c .before .before .before .before .before .loop in
     record {
       long = l .inv .long;
       adds = λ ds ss t f.
           let w = l .inv .adding ds ss t f in
-          none-met (a .library .now) (sym (c .before .before .next-content .ensures) ∙ c .enum-told .given .1) (ap (λ p. sectionIn (a .library .now) (nextContent (a .library .now) p)) (c .before .before .before .number-at .ensures) ∙ follows-step (SectionIs (a .library .now) (a .places .now)) (a .next .now) (l .last) (l .here) (w .left) (omega arith) (w .follows) .stands);
+          none-met (a .library .now) (sym (c .before .before .next-content .ensures) ∙ c .enum-told .given .1)
+          (ap (λ p. sectionIn (a .library .now) (nextContent (a .library .now) p)) (c .before .before .before .number-at .ensures) ∙ follows-step
+          (SectionIs (a .library .now) (a .places .now)) (a .next .now) (l .last) (l .here) (w .left) (omega arith) (w .follows) .stands);
     }
 
 refer-requires : tie.Need-refer-requires Inv-loop μ-loop
 refer-requires c κs =
-    let a = c .before .before .before .before .before .before .before .before .before .before .before .before .before .args in
-    let g = content-goes (a .library .now) (c .before .before .before .before .before .number-at .result) (sym (c .before .before .before .before .next-content .ensures) ∙ c .before .before .content .given .1) in
-    record { numbers = c .before .before .before .before .before .before .before .before .before .before .before .before .before .pre .numbers; places = omega (arith, g .offset-small (λ i. omega (arith, c .before .before .before .before .before .before .before .before .before .before .before .before .shared-slice-known .given i))) }
+    let entry = at-entry (at-loop c .before) in
+    let a = entry .args in
+    let g = content-goes (a .library .now) (after-next-content c .before .number-at .result) (sym (after-next-content c .next-content .ensures) ∙ c .before .before .content .given .1) in
+    record { numbers = entry .pre .numbers; places = omega (arith, g .offset-small (λ i. omega (arith, at-loop c .before .before .before .before .before .shared-slice-known .given i))) }
 
 loop-less : tie.Need-loop-less Inv-loop μ-loop
-loop-less c = omega (arith, c .before .before .before .before .before .before .before .before .before .before .before .loop .inv .small)
+loop-less c = omega (arith, at-loop (c .before .before .before .before) .loop .inv .small)
 
 loop-again : tie.Need-loop-again Inv-loop μ-loop
 loop-again c =
-    let a = c .before .before .before .before .before .before .before .before .before .before .before .before .before .before .before .before .before .args in
-    let l = c .before .before .before .before .before .before .before .before .before .before .before .loop in
+    let next-content = after-next-content (c .before .before .before .before) in
+    let loop = next-content .before .before .before in
+    let a = at-entry (loop .before) .args in
+    let l = loop .loop in
     let is = SectionIs (a .library .now) (a .places .now) in
     let r = c .before .before .before .refer in
     let new = r .last .1 .1 .1 .1 .1 .0 in
     record {
       long = r .ensures .long ∙ l .inv .long;
-      small = rw (c .number-at2 .ensures) (omega (arith, c .before .before .before .before .before .before .before .before .before .before .before .before .before .before .shared-slice-known3 .given (l .here - 1)));
-      adding = λ ds ss t f. rw (c .number-at2 .ensures) (adding-on is (a .next .now) ss (a .m .now) referenceLayout (sectionLeaves ds (a .number)) (a .before) (l .last) (l .here) (l .m) new (l .f) (r .result) (omega arith) (l .inv .adding ds ss t f)
-          (λ s i. subst (λ x. Adds referenceLayout (sectionLeaves ds (a .number) x) (l .m) (l .f) new (r .result)) (section-met (a .library .now) (sym (c .before .before .before .before .before .before .before .before .next-content .ensures) ∙ c .before .before .before .before .before .before .content .given .1) (ap (λ p. sectionIn (a .library .now) (nextContent (a .library .now) p)) (c .before .before .before .before .before .before .before .before .before .number-at .ensures) ∙ i)) (r .ensures .adds ds t)));
+      small = rw (c .number-at2 .ensures) (omega (arith, loop .before .before .before .shared-slice-known3 .given (l .here - 1)));
+      adding = λ ds ss t f. rw (c .number-at2 .ensures)
+          (adding-on is (a .next .now) ss (a .m .now) referenceLayout (sectionLeaves ds (a .number)) (a .before) (l .last) (l .here) (l .m) new
+          (l .f) (r .result) (omega arith) (l .inv .adding ds ss t f)
+          (λ s i. subst (λ x. Adds referenceLayout (sectionLeaves ds (a .number) x) (l .m) (l .f) new (r .result))
+          (section-met (a .library .now) (sym (next-content .next-content .ensures) ∙
+          c .before .before .before .before .before .before .content .given .1)
+          (ap (λ p. sectionIn (a .library .now) (nextContent (a .library .now) p)) (next-content .before .number-at .ensures) ∙ i)) (r .ensures .adds ds t)));
     }
 
 same-length-2 : tie.Need-same-length-2 Inv-loop μ-loop
@@ -83,9 +107,13 @@ same-length-2 c = c .before .loop .inv .long
 
 returns-2 : tie.Need-returns-2 Inv-loop μ-loop
 returns-2 c =
-    let a = c .before .before .before .before .before .before .before .args in
+    let a = at-entry (c .before .before) .args in
     let l = c .before .loop in
-    record { long = l .inv .long; adds = λ ds ss t f. adding-ends (SectionIs (a .library .now) (a .places .now)) (a .next .now) ss (a .m .now) referenceLayout (sectionLeaves ds (a .number)) (a .before) (l .last) (l .here) (l .m) (l .f) (omega arith) (l .inv .adding ds ss t f) }
+    record {
+      long = l .inv .long;
+      adds = λ ds ss t f. adding-ends (SectionIs (a .library .now) (a .places .now)) (a .next .now) ss (a .m .now) referenceLayout
+          (sectionLeaves ds (a .number)) (a .before) (l .last) (l .here) (l .m) (l .f) (omega arith) (l .inv .adding ds ss t f);
+    }
 
 pub refer-along-spec : {M : Type 1} → statement M
 refer-along-spec =

@@ -16,10 +16,20 @@ returns : tie.Need-returns
 returns c =
     let a = c .before .before .before .before .before .before .before .before .before .before .before .before .args in
     let w = c .before .before .before .before .before .before .before .before .before .word .ensures in
-    let e = ap (carriesAt (a .c)) (sym w) ∙ sym (c .before .before .before .before .before .before .before .before .carries .ensures) ∙ c .before .before .before .before .before .before .before .if1 .taken in
+    let e = ap (carriesAt (a .c)) (sym w) ∙ sym (c .before .before .before .before .before .before .before .before .carries .ensures) ∙
+    c .before .before .before .before .before .before .before .if1 .taken in
     record {
       long = ap length (c .before .before .append-symbol .ensures .0) ∙ put-more-length symbolLayout (a .f) _ (a .m .now);
-      adds = λ id. rw (symbol-carried (a .library .now) (a .place) (a .c) id e, c .before .before .append-symbol .ensures .0, c .before .before .append-symbol .ensures .1, c .before .before .before .before .before .wide .ensures, c .before .before .before .before .before .before .byte-at .ensures, c .before .before .before .before .offset-in .ensures, w) (adds-one symbolLayout symbol-width (λ z. absurd (omega arith)) (a .m .now) (a .f) _);
+      adds = λ id. rw (
+        symbol-carried (a .library .now) (a .place) (a .c) id e,
+        c .before .before .append-symbol .ensures .0,
+        c .before .before .append-symbol .ensures .1,
+        c .before .before .before .before .before .wide .ensures,
+        c .before .before .before .before .before .before .byte-at .ensures,
+        c .before .before .before .before .offset-in .ensures,
+        w,
+      )
+          (adds-one symbolLayout symbol-width (λ z. absurd (omega arith)) (a .m .now) (a .f) _);
     }
 
 returns-2 : tie.Need-returns-2

@@ -31,28 +31,42 @@ Inv-loop library link next places c m₀ last₀ here₀ f₀ m last here f = In
 abbrev μ-loop : tie.MeasureT-loop
 μ-loop library link next places c m₀ last₀ here₀ f₀ m last here f = 2 ^ 32 - last
 
+-- The ladder: places of the code that the answers cite, each as it is seen from a later place.
+abbrev at-loop : tie.After-slice-known2 Inv-loop μ-loop → tie.At-loop Inv-loop μ-loop
+at-loop c = c .before .before .before .before .before .before
+
 loop-holds : tie.Need-loop-holds Inv-loop μ-loop
 loop-holds c =
-    let a = c .before .before .before .before .args in
-    record { long = refl; small = omega (arith, c .before .before .before .before .fits); adding = λ publics f. adding-starts (PublicIs (a .library .now) (a .places .now)) (a .next .now) publics (a .m .now) symbolLayout (symbolBy (a .c)) (a .before) f }
+    let entry = c .before .before .before .before in
+    let a = entry .args in
+    record {
+      long = refl;
+      small = omega (arith, entry .fits);
+      adding = λ publics f. adding-starts (PublicIs (a .library .now) (a .places .now)) (a .next .now) publics (a .m .now) symbolLayout (symbolBy (a .c)) (a .before) f;
+    }
 
 append-public-requires : tie.Need-append-public-requires Inv-loop μ-loop
 append-public-requires c κs = rw (c .before .number-at .ensures) (omega (arith, c .before .before .before .before .before .shared-slice-known3 .given (c .before .before .before .loop .here - 1)))
 
 loop-less : tie.Need-loop-less Inv-loop μ-loop
-loop-less c = omega (arith, c .before .before .before .before .before .before .before .loop .inv .small)
+loop-less c = omega (arith, at-loop (c .before) .loop .inv .small)
 
 loop-again : tie.Need-loop-again Inv-loop μ-loop
 loop-again c =
-    let a = c .before .before .before .before .before .before .before .before .before .before .before .before .args in
-    let l = c .before .before .before .before .before .before .before .loop in
+    let append-public = c .before .before .before in
+    let loop = at-loop (c .before) in
+    let a = loop .before .before .before .before .before .args in
+    let l = loop .loop in
     let is = PublicIs (a .library .now) (a .places .now) in
-    let new = c .before .before .before .append-public .last .1 .1 .1 .0 in
+    let new = append-public .append-public .last .1 .1 .1 .0 in
     record {
-      long = c .before .before .before .append-public .ensures .long ∙ l .inv .long;
-      small = rw (c .number-at2 .ensures) (omega (arith, c .before .before .before .before .before .before .before .before .before .before .shared-slice-known2 .given (l .here - 1)));
-      adding = λ publics f. rw (c .number-at2 .ensures) (adding-on is (a .next .now) publics (a .m .now) symbolLayout (symbolBy (a .c)) (a .before) (l .last) (l .here) (l .m) new (l .f) (c .before .before .before .append-public .result) (omega arith) (l .inv .adding publics f)
-          (λ d s. subst (λ x. Adds symbolLayout (symbolBy (a .c) x) (l .m) (l .f) new (c .before .before .before .append-public .result)) (ap (publicAt (a .library .now) (idOf d)) (c .before .before .before .before .before .number-at .ensures) ∙ s) (c .before .before .before .append-public .ensures .adds (idOf d))));
+      long = append-public .append-public .ensures .long ∙ l .inv .long;
+      small = rw (c .number-at2 .ensures) (omega (arith, loop .before .before .before .shared-slice-known2 .given (l .here - 1)));
+      adding = λ publics f. rw (c .number-at2 .ensures)
+          (adding-on is (a .next .now) publics (a .m .now) symbolLayout (symbolBy (a .c)) (a .before) (l .last) (l .here) (l .m) new (l .f)
+          (append-public .append-public .result) (omega arith) (l .inv .adding publics f)
+          (λ d s. subst (λ x. Adds symbolLayout (symbolBy (a .c) x) (l .m) (l .f) new (append-public .append-public .result))
+          (ap (publicAt (a .library .now) (idOf d)) (append-public .before .before .number-at .ensures) ∙ s) (append-public .append-public .ensures .adds (idOf d))));
     }
 
 same-length : tie.Need-same-length Inv-loop μ-loop
@@ -62,7 +76,11 @@ returns : tie.Need-returns Inv-loop μ-loop
 returns c =
     let a = c .before .before .before .before .before .before .args in
     let l = c .before .loop in
-    record { long = l .inv .long; adds = λ publics f. adding-ends (PublicIs (a .library .now) (a .places .now)) (a .next .now) publics (a .m .now) symbolLayout (symbolBy (a .c)) (a .before) (l .last) (l .here) (l .m) (l .f) (omega arith) (l .inv .adding publics f) }
+    record {
+      long = l .inv .long;
+      adds = λ publics f. adding-ends (PublicIs (a .library .now) (a .places .now)) (a .next .now) publics (a .m .now) symbolLayout (symbolBy (a .c))
+          (a .before) (l .last) (l .here) (l .m) (l .f) (omega arith) (l .inv .adding publics f);
+    }
 
 pub name-along-spec : {M : Type 1} → statement M
 name-along-spec =

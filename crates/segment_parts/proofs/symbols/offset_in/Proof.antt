@@ -9,9 +9,10 @@ use Rattle.segment_parts.proofs.symbols.offset_in.Tie as tie
 
 returns : tie.Need-returns
 returns c =
-    let o = c .before .before .before .before .before .args .offset in
-    let below : 0 ≡ o - c .before .before .before .c .given .0 .0 = omega arith in
-    below ∙ own-offset (c .before .before .before .c .given .1) o (c .before .if1 .taken)
+    let c-place = c .before .before .before in
+    let o = c-place .before .before .args .offset in
+    let below : 0 ≡ o - c-place .c .given .0 .0 = omega arith in
+    below ∙ own-offset (c-place .c .given .1) o (c .before .if1 .taken)
 
 returns-2 : tie.Need-returns-2
 returns-2 c = own-offset (c .before .before .before .c .given .1) (c .before .before .before .before .before .args .offset) (c .before .if1 .taken)

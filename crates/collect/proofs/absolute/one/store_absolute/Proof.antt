@@ -33,14 +33,14 @@ at-entry c = c .before .before .before .before .before .before .before .before .
 abbrev after-merge-content : tie.After-filled-to2 → tie.After-merge-content
 after-merge-content c = c .before .before .before .before .before .before .before .before .before .before .before .before .before .before
 
-abbrev after-fits3 : tie.After-name-inside → tie.After-fits3
-after-fits3 c = after-merge-content (c .before) .before .before .before .before .before
+abbrev after-fits3 : tie.After-struct-known → tie.After-fits3
+after-fits3 c = after-merge-content (c .before .before .before .before .before .before) .before .before .before .before .before
 
-abbrev after-fits2 : tie.After-name-inside → tie.After-fits2
+abbrev after-fits2 : tie.After-struct-known → tie.After-fits2
 after-fits2 c = after-fits3 c .before .before
 
-abbrev after-name-inside : tie.After-slice-known14 → tie.After-name-inside
-after-name-inside c = c .before .before .before .before .before .before .before .before .before
+abbrev after-name-inside : tie.After-finish-arg → tie.After-name-inside
+after-name-inside c = c .before .before .before .before .before .before
 
 returns : tie.Need-returns
 returns c =
@@ -79,42 +79,42 @@ name-inside-requires c κs = let w = at-entry (after-merge-content c .before .be
 
 add-finish : tie.Need-add-finish
 add-finish c =
-    let fits2 = after-fits2 (c .before .before .before .before .before) in
+    let fits2 = after-fits2 c in
     let entry = at-entry fits2 in
     let a = entry .args in
     omega (
       arith,
       leb-true (a .c .pattern + a .content .part .len) (length (a .bytes .now))
           (sym (fits2 .fits2 .ensures) ∙ not-false (fits2 .fits2 .result)
-          (after-fits3 (c .before .before .before .before .before) .before .if1 .left)),
+          (after-fits3 c .before .if1 .left)),
       entry .good .1 .1 .1 .1 .1 .1 .1 .1 .1 .1 .1 .1 .1 .1 .1 .0,
     )
 
 same-length-4 : tie.Need-same-length-4
 same-length-4 c =
-    let entry = at-entry (after-fits2 (after-name-inside c)) in
-    ap length (after-merge-content (after-name-inside c .before) .merge-content .ensures .bytes-are) ∙ merged-at-length (entry .args .bytes .now)
+    let entry = at-entry (after-fits2 (c .before .before .before .before)) in
+    ap length (after-merge-content (after-name-inside (c .before .before .before) .before) .merge-content .ensures .bytes-are) ∙ merged-at-length (entry .args .bytes .now)
     (entry .args .c .pattern) (entry .args .content .part .len) 0 (bytesOf (entry .args .library .now) (entry .args .content .part))
 
 same-length-5 : tie.Need-same-length-5
 same-length-5 c =
-    let entry = at-entry (after-fits2 (after-name-inside c)) in
-    ap length (after-merge-content (after-name-inside c .before) .merge-content .ensures .masks-are) ∙ merged-at-length (entry .args .masks .now)
+    let entry = at-entry (after-fits2 (c .before .before .before .before)) in
+    ap length (after-merge-content (after-name-inside (c .before .before .before) .before) .merge-content .ensures .masks-are) ∙ merged-at-length (entry .args .masks .now)
     (entry .args .c .pattern) (entry .args .content .part .len) 0
     (masksOf (length (bytesOf (entry .args .library .now) (entry .args .content .part))) (fixupsLeft (entry .args .library .now) (entry .args .fixups)))
 
 same-length-6 : tie.Need-same-length-6
-same-length-6 c = after-merge-content (after-name-inside c .before) .merge-content .ensures .long
+same-length-6 c = after-merge-content (after-name-inside (c .before .before .before) .before) .merge-content .ensures .long
 
 same-length-7 : tie.Need-same-length-7
-same-length-7 c = after-name-inside c .name-inside .ensures .flags-long
+same-length-7 c = after-name-inside (c .before .before .before) .name-inside .ensures .flags-long
 
 returns-3 : tie.Need-returns-3
 returns-3 c =
-    let name-inside = after-name-inside c in
+    let name-inside = after-name-inside (c .before .before .before) in
     let merge-content = after-merge-content (name-inside .before) in
-    let fits3 = after-fits3 name-inside in
-    let fits2 = after-fits2 name-inside in
+    let fits3 = after-fits3 (c .before .before .before .before) in
+    let fits2 = fits3 .before .before in
     let entry = at-entry fits2 in
     let a = entry .args in
     let lib = a .library .now in

@@ -32,11 +32,11 @@ after-refer-along c = c .before .before .before .before .before .before
 abbrev after-merge-along : tie.After-symbols → tie.After-merge-along
 after-merge-along c = after-refer-along c .before .before .before .before .before .before .before .before .before
 
-abbrev after-fits3 : tie.After-symbols → tie.After-fits3
-after-fits3 c = after-merge-along c .before .before .before .before .before
+abbrev after-fits3 : tie.After-struct-known → tie.After-fits3
+after-fits3 c = after-merge-along (c .before .before) .before .before .before .before .before
 
-abbrev after-symbols : tie.After-slice-known12 → tie.After-symbols
-after-symbols c = c .before .before .before .before .before .before
+abbrev after-symbols : tie.After-finish-arg → tie.After-symbols
+after-symbols c = c .before .before .before
 
 returns : tie.Need-returns
 returns c =
@@ -64,7 +64,7 @@ returns-2 c =
 
 add-finish : tie.Need-add-finish
 add-finish c =
-    let fits3 = after-fits3 (c .before .before) in
+    let fits3 = after-fits3 c in
     let fits2 = fits3 .before .before in
     let entry = at-entry fits2 in
     let a = entry .args in
@@ -76,17 +76,17 @@ add-finish c =
     )
 
 same-length-4 : tie.Need-same-length-4
-same-length-4 c = after-merge-along (after-symbols c) .merge-along .ensures .bytes-long
+same-length-4 c = after-merge-along (after-symbols (c .before .before .before)) .merge-along .ensures .bytes-long
 
 same-length-5 : tie.Need-same-length-5
-same-length-5 c = after-merge-along (after-symbols c) .merge-along .ensures .masks-long
+same-length-5 c = after-merge-along (after-symbols (c .before .before .before)) .merge-along .ensures .masks-long
 
 returns-3 : tie.Need-returns-3
 returns-3 c =
-    let symbols-place = after-symbols c in
+    let symbols-place = after-symbols (c .before .before .before) in
     let refer-along = after-refer-along symbols-place in
     let merge-along = after-merge-along symbols-place in
-    let fits3 = after-fits3 symbols-place in
+    let fits3 = after-fits3 (c .before .before .before .before) in
     let fits2 = fits3 .before .before in
     let a = at-entry fits2 .args in
     let lib = a .library .now in

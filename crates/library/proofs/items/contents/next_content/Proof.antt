@@ -93,10 +93,10 @@ add-start c = omega (arith, fits (c .before .before))
 
 returns-2 : tie.Need-returns-2 Inv-loop μ-loop
 returns-2 c =
-    let known-told2 = c .before .before .before in
-    let l = after-section-end known-told2 .before .loop in
+    let l = after-section-end (c .before .before .before) .before .loop in
     rw (c .before .before .content-of .ensures, c .start .ensures)
-    (sym (seek-item (l .inv .count) (at-entry known-told2 .args .library .now) (l .at) (omega (arith, l .inv .enough)) (passes known-told2) (framed known-told2)) ∙ l .inv .same)
+    (sym (seek-item (l .inv .count) (at-entry (c .before .before .before) .args .library .now) (l .at) (omega (arith, l .inv .enough))
+    (passes (c .before .before .before)) (framed (c .before .before .before))) ∙ l .inv .same)
 
 loop-less : tie.Need-loop-less Inv-loop μ-loop
 loop-less c = omega (

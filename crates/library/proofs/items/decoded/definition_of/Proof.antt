@@ -5,13 +5,9 @@ use borrow.Author.Needs.{needs}
 use Rattle.library.proofs.items.decoded.definition_of.Statement.{statement}
 use Rattle.library.proofs.items.decoded.definition_of.Tie as tie
 
--- The ladder: places of the code that the answers cite, each as it is seen from a later place.
-abbrev at-entry : tie.After-is-segment → tie.Start
-at-entry c = c .before .before .before .before .before .before
-
 returns : tie.Need-returns
 returns c =
-    let a = at-entry (c .before .before .before .before .before .before) .args in
+    let a = c .before .before .before .before .before .before .before .before .before .before .before .before .args in
     rw (
       c .before .before .before .id-at .ensures,
       c .segment-size .ensures,
@@ -27,7 +23,7 @@ returns c =
 
 returns-2 : tie.Need-returns-2
 returns-2 c =
-    let a = at-entry (c .before .before .before .before .before) .args in
+    let a = c .before .before .before .before .before .before .before .before .before .before .before .args in
     rw (
       c .before .id-at2 .ensures,
       c .word .ensures,
@@ -42,7 +38,7 @@ returns-2 c =
 
 returns-3 : tie.Need-returns-3
 returns-3 c =
-    let a = at-entry (c .before .before .before .before .before) .args in
+    let a = c .before .before .before .before .before .before .before .before .before .before .before .args in
     rw (
       c .before .id-at3 .ensures,
       c .byte-at4 .ensures,

@@ -69,19 +69,17 @@ entered-requires c κs = let a = at-loop c .before .before .args in record-moved
 
 loop-less : tie.Need-loop-less Inv-loop μ-loop
 loop-less c =
-    let loop = at-loop (c .before) in
-    let a = loop .before .before .args in
+    let a = at-loop (c .before) .before .before .args in
     rw (c .entered .ensures) (omega (
       arith,
-      record-moved (a .what) (a .library .now) (loop .loop .c .next)
+      record-moved (a .what) (a .library .now) (at-loop (c .before) .loop .c .next)
           (sym (c .before .before .before .before .record-end .ensures) ∙ c .before .before .next .given .1),
     ))
 
 loop-again : tie.Need-loop-again Inv-loop μ-loop
 loop-again c =
-    let loop = at-loop (c .before) in
-    let a = loop .before .before .args in
-    let l = loop .loop in
+    let a = at-loop (c .before) .before .before .args in
+    let l = at-loop (c .before) .loop in
     let e = sym (c .before .before .before .before .record-end .ensures) ∙ c .before .before .next .given .1 in
     let m = record-moved (a .what) (a .library .now) (l .c .next) e in
     rw (c .entered .ensures) (record {

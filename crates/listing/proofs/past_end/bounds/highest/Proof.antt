@@ -20,7 +20,9 @@ loop-less : tie.Need-loop-less Inv-loop μ-loop
 loop-less c = omega (arith, c .before .before .loop-test .taken)
 
 loop-again : tie.Need-loop-again Inv-loop μ-loop
-loop-again c = past-more (c .before .before .before .before .before .args .noted .now) (c .before .before .before .loop .i) (c .before .cell .result) (c .before .cell .ensures) (c .before .before .before .loop .top) (c .higher .result) (c .before .before .before .loop .inv) (c .higher .ensures)
+loop-again c =
+    let loop = c .before .before .before in
+    past-more (loop .before .before .args .noted .now) (loop .loop .i) (c .before .cell .result) (c .before .cell .ensures) (loop .loop .top) (c .higher .result) (loop .loop .inv) (c .higher .ensures)
 
 returns : tie.Need-returns Inv-loop μ-loop
 returns c = λ k l. c .before .loop .inv k (omega (arith, l, c .loop-test .left))

@@ -20,10 +20,17 @@ loop-less : tie.Need-loop-less Inv-loop μ-loop
 loop-less c = omega (arith, c .before .before .loop-test .taken)
 
 loop-again : tie.Need-loop-again Inv-loop μ-loop
-loop-again c = before-more (c .before .before .before .before .before .args .noted .now) (c .before .before .before .loop .i) (c .before .cell .result) (c .before .cell .ensures) (c .before .before .before .before .before .args .bound) (c .before .before .before .before .before .args .top) (c .before .before .before .loop .least) (c .lower .result) (c .before .before .before .loop .inv) (c .lower .ensures)
+loop-again c =
+    let loop = c .before .before .before in
+    let entry = loop .before .before in
+    before-more (entry .args .noted .now) (loop .loop .i) (c .before .cell .result) (c .before .cell .ensures) (entry .args .bound)
+    (entry .args .top) (loop .loop .least) (c .lower .result) (loop .loop .inv) (c .lower .ensures)
 
 returns : tie.Need-returns Inv-loop μ-loop
-returns c = before-all (c .before .before .before .args .noted .now) (c .before .before .before .args .n) (c .before .loop .i) (c .before .before .before .args .bound) (c .before .before .before .args .top) (c .before .loop .least) (omega (arith, c .loop-test .left)) (c .before .loop .inv)
+returns c =
+    let loop = c .before in
+    let entry = loop .before .before in
+    before-all (entry .args .noted .now) (entry .args .n) (loop .loop .i) (entry .args .bound) (entry .args .top) (loop .loop .least) (omega (arith, c .loop-test .left)) (loop .loop .inv)
 
 pub lowest-spec : {M : Type 1} → statement M
 lowest-spec =

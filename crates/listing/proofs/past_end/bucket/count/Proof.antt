@@ -13,7 +13,9 @@ abbrev μ-loop : tie.MeasureT-loop
 μ-loop noted head t all n₀ here₀ n here = here
 
 loop-holds : tie.Need-loop-holds Inv-loop μ-loop
-loop-holds c = counted-first (c .before .args .noted .now) (c .before .args .head) (c .before .args .t) (c .before .args .all)
+loop-holds c =
+    let entry = c .before in
+    counted-first (entry .args .noted .now) (entry .args .head) (entry .args .t) (entry .args .all)
 
 sub-noted-at : tie.Need-sub-noted-at Inv-loop μ-loop
 sub-noted-at c = omega (arith, c .loop-test .taken)
@@ -26,14 +28,19 @@ loop-less c = c .onward .ensures .less (c .before .before .before .before .loop-
 
 loop-again : tie.Need-loop-again Inv-loop μ-loop
 loop-again c =
-    let a = c .before .before .before .before .before .before .before .args in
-    let l = c .before .before .before .before .before .loop in
-    counted-on (a .noted .now) (a .head) (a .t) (a .all) (l .here) (l .n) (l .inv) (c .before .before .before .before .loop-test .taken) (c .before .before .before .noted-at .result) (c .before .before .before .noted-at .ensures) (c .onward .result) (c .onward .ensures)
-    (c .before .before .is-sought .result) (c .before .before .is-sought .ensures) (c .before .if1 .n)
+    let is-sought = c .before .before in
+    let noted-at = is-sought .before in
+    let a = noted-at .before .before .before .before .args in
+    let l = noted-at .before .before .loop in
+    counted-on (a .noted .now) (a .head) (a .t) (a .all) (l .here) (l .n) (l .inv) (noted-at .before .loop-test .taken) (noted-at .noted-at .result)
+    (noted-at .noted-at .ensures) (c .onward .result) (c .onward .ensures)
+    (is-sought .is-sought .result) (is-sought .is-sought .ensures) (c .before .if1 .n)
     (⊎-elim (λ w. inl (w .0 .taken, w .1)) (λ w. inr (w .0 .left, w .1)) (c .before .if1 .came))
 
 returns : tie.Need-returns Inv-loop μ-loop
-returns c = let a = c .before .before .before .args in counted-last (a .noted .now) (a .head) (a .t) (a .all) (c .before .loop .here) (c .before .loop .n) (c .before .loop .inv) (c .loop-test .left)
+returns c =
+    let loop = c .before in
+    let a = loop .before .before .args in counted-last (a .noted .now) (a .head) (a .t) (a .all) (loop .loop .here) (loop .loop .n) (loop .loop .inv) (c .loop-test .left)
 
 pub count-spec : {M : Type 1} → statement M
 count-spec =

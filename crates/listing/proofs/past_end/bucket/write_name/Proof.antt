@@ -15,12 +15,15 @@ returns c = record {
 }
 
 returns-2 : tie.Need-returns-2
-returns-2 c = record {
-  one-less = λ e l. omega (arith, l);
-  written = λ e l. c .before .before .put-line .ensures;
-  none-less = λ e. absurd (false≢true (sym e ∙ sym (c .before .before .before .before .before .before .is-sought .ensures) ∙ c .before .before .before .before .before .if2 .taken));
-  unchanged = λ e. absurd (false≢true (sym e ∙ sym (c .before .before .before .before .before .before .is-sought .ensures) ∙ c .before .before .before .before .before .if2 .taken));
-}
+returns-2 c =
+    let then2 = c .before .before .before .before .before in
+    let is-sought = then2 .before in
+    record {
+      one-less = λ e l. omega (arith, l);
+      written = λ e l. c .before .before .put-line .ensures;
+      none-less = λ e. absurd (false≢true (sym e ∙ sym (is-sought .is-sought .ensures) ∙ then2 .if2 .taken));
+      unchanged = λ e. absurd (false≢true (sym e ∙ sym (is-sought .is-sought .ensures) ∙ then2 .if2 .taken));
+    }
 
 returns-3 : tie.Need-returns-3
 returns-3 c = record {

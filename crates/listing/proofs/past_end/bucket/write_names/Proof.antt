@@ -11,6 +11,10 @@ Inv-loop noted head t end lines₀ k₀ here₀ lines k here = Writing (noted) h
 abbrev μ-loop : tie.MeasureT-loop
 μ-loop noted head t end lines₀ k₀ here₀ lines k here = here
 
+-- The ladder: places of the code that the answers cite, each as it is seen from a later place.
+abbrev after-noted-at : tie.After-onward Inv-loop μ-loop → tie.After-noted-at Inv-loop μ-loop
+after-noted-at c = c .before .before .before .before .before
+
 loop-holds : tie.Need-loop-holds Inv-loop μ-loop
 loop-holds c = let a = c .before .before .args in writing-first (a .noted .now) (a .head) (a .t) (a .end) (a .lines .now)
 
@@ -18,20 +22,26 @@ sub-noted-at : tie.Need-sub-noted-at Inv-loop μ-loop
 sub-noted-at c = omega (arith, c .loop-test .taken)
 
 loop-less : tie.Need-loop-less Inv-loop μ-loop
-loop-less c = c .onward .ensures .less (c .before .before .before .before .before .before .loop-test .taken)
+loop-less c = c .onward .ensures .less (after-noted-at c .before .loop-test .taken)
 
 loop-again : tie.Need-loop-again Inv-loop μ-loop
 loop-again c =
-    let a = c .before .before .before .before .before .before .before .before .before .before .args in
-    let l = c .before .before .before .before .before .before .before .loop in
-    writing-on (a .noted .now) (a .head) (a .t) (a .end) (a .lines .now) (l .lines) (l .k) (l .here) (l .inv) (c .before .before .before .before .before .before .loop-test .taken) (c .before .before .before .before .before .noted-at .result) (c .before .before .before .before .before .noted-at .ensures) (c .onward .result) (c .onward .ensures)
-    (c .before .before .before .write-name .last .1 .1 .0) (c .before .before .before .write-name .result) (c .before .before .before .write-name .ensures) (c .before .before .lines .given)
+    let write-name = c .before .before .before in
+    let noted-at = after-noted-at c in
+    let a = noted-at .before .before .before .before .before .args in
+    let l = noted-at .before .before .loop in
+    writing-on (a .noted .now) (a .head) (a .t) (a .end) (a .lines .now) (l .lines) (l .k) (l .here) (l .inv) (noted-at .before .loop-test .taken)
+    (noted-at .noted-at .result) (noted-at .noted-at .ensures) (c .onward .result) (c .onward .ensures)
+    (write-name .write-name .last .1 .1 .0) (write-name .write-name .result) (write-name .write-name .ensures) (c .before .before .lines .given)
 
 same-length : tie.Need-same-length Inv-loop μ-loop
 same-length c = c .before .loop .inv .long
 
 returns : tie.Need-returns Inv-loop μ-loop
-returns c = let a = c .before .before .before .before .args in writing-last (a .noted .now) (a .head) (a .t) (a .end) (a .lines .now) (c .before .loop .lines) (c .before .loop .k) (c .before .loop .here) (c .before .loop .inv) (c .loop-test .left)
+returns c =
+    let loop = c .before in
+    let a = loop .before .before .before .args in writing-last (a .noted .now) (a .head) (a .t) (a .end) (a .lines .now) (loop .loop .lines)
+    (loop .loop .k) (loop .loop .here) (loop .loop .inv) (c .loop-test .left)
 
 pub write-names-spec : {M : Type 1} → statement M
 write-names-spec =

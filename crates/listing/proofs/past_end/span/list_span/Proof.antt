@@ -23,24 +23,30 @@ Inv-loop noted goals first last skip lines₀ f₀ t₀ lines f t = Inv (noted) 
 abbrev μ-loop : tie.MeasureT-loop
 μ-loop noted goals first last skip lines₀ f₀ t₀ lines f t = last - t
 
+-- The ladder: places of the code that the answers cite, each as it is seen from a later place.
+abbrev at-in-loop : tie.After-slice-known2 Inv-loop μ-loop → tie.In-loop Inv-loop μ-loop
+at-in-loop c = c .before .before .before .before
+
 loop-holds : tie.Need-loop-holds Inv-loop μ-loop
 loop-holds c = let a = c .before .before .before .args in record { long = refl; spans = λ ns h. leads-first (spanned (a .skip) ns (a .first) (a .last)) (a .lines .now) (a .before) }
 
 add-t : tie.Need-add-t Inv-loop μ-loop
-add-t c = omega (arith, c .before .before .before .before .loop-test .taken, c .before .before .before .before .before .before .before .before .before .fits)
+add-t c = omega (arith, at-in-loop c .loop-test .taken, at-in-loop c .before .before .before .before .before .fits)
 
 loop-less : tie.Need-loop-less Inv-loop μ-loop
-loop-less c = omega (arith, c .before .before .before .before .loop-test .taken)
+loop-less c = omega (arith, at-in-loop c .loop-test .taken)
 
 loop-again : tie.Need-loop-again Inv-loop μ-loop
 loop-again c =
-    let a = c .before .before .before .before .before .before .before .before .before .args in
-    let l = c .before .before .before .before .before .loop in
+    let list-target = c .before .before in
+    let in-loop = at-in-loop c in
+    let a = in-loop .before .before .before .before .before .args in
+    let l = in-loop .before .loop in
     record {
       long = c .before .lines .given ∙ l .inv .long;
       spans =
           spans-on (a .noted .now) (a .goals .now) (a .first) (a .last) (a .skip) (a .lines .now) (a .before) (l .lines) (l .f) (l .t) (l .inv .spans)
-          (c .before .before .list-target .last .1 .1 .1 .1 .0) (c .before .before .list-target .result) (c .before .before .list-target .ensures) (c .before .before .before .before .loop-test .taken);
+          (list-target .list-target .last .1 .1 .1 .1 .0) (list-target .list-target .result) (list-target .list-target .ensures) (in-loop .loop-test .taken);
     }
 
 same-length : tie.Need-same-length Inv-loop μ-loop
@@ -48,10 +54,11 @@ same-length c = c .before .lines2 .given ∙ c .before .before .before .before .
 
 returns : tie.Need-returns Inv-loop μ-loop
 returns c =
-    let a = c .before .before .before .before .before .before .before .before .before .args in
-    let l = c .before .before .before .before .before .loop in
+    let list-target2 = c .before .before in
+    let a = list-target2 .before .before .before .before .before .before .before .args in
+    let l = list-target2 .before .before .before .loop in
     spans-all (a .noted .now) (a .goals .now) (a .first) (a .last) (a .skip) (a .lines .now) (a .before) (l .lines) (l .f) (l .t) (l .inv .spans)
-    (c .before .before .list-target2 .last .1 .1 .1 .1 .0) (c .before .before .list-target2 .result) (c .before .before .list-target2 .ensures) (omega (arith, c .before .before .before .before .loop-test .left))
+    (list-target2 .list-target2 .last .1 .1 .1 .1 .0) (list-target2 .list-target2 .result) (list-target2 .list-target2 .ensures) (omega (arith, list-target2 .before .before .loop-test .left))
 
 pub list-span-spec : {M : Type 1} → statement M
 list-span-spec =

@@ -8,13 +8,16 @@ returns : tie.Need-returns
 returns c = let a = c .before .before .before .before .args in target-over (a .noted .now) (a .goals .now) (a .t) (a .skip) (a .lines .now) (a .f) (c .if1 .taken)
 
 returns-2 : tie.Need-returns-2
-returns-2 c = let a = c .before .before .before .before .before .before .args in target-empty (a .noted .now) (a .goals .now) (a .t) (a .skip) (a .lines .now) (a .f) (c .before .head-at .result) (c .before .head-at .ensures) (c .if2 .taken)
+returns-2 c = let a = c .before .before .before .before .before .before .args in target-empty (a .noted .now) (a .goals .now) (a .t) (a .skip)
+    (a .lines .now) (a .f) (c .before .head-at .result) (c .before .head-at .ensures) (c .if2 .taken)
 
 returns-3 : tie.Need-returns-3
 returns-3 c =
-    let a = c .before .before .before .before .before .before .before .before .before .before .args in
-    target-bucket (a .noted .now) (a .goals .now) (a .t) (a .skip) (a .lines .now) (a .f) (c .before .before .before .before .before .head-at .result) (c .before .before .before .before .before .head-at .ensures)
-    (c .before .before .list-bucket .last .1 .1 .1 .1 .0) (c .before .before .list-bucket .result) (c .before .before .before .before .before .before .if1 .left) (c .before .before .list-bucket .ensures)
+    let list-bucket = c .before .before in
+    let head-at = list-bucket .before .before .before in
+    let a = head-at .before .before .before .before .before .args in
+    target-bucket (a .noted .now) (a .goals .now) (a .t) (a .skip) (a .lines .now) (a .f) (head-at .head-at .result) (head-at .head-at .ensures)
+    (list-bucket .list-bucket .last .1 .1 .1 .1 .0) (list-bucket .list-bucket .result) (head-at .before .if1 .left) (list-bucket .list-bucket .ensures)
 
 pub list-target-spec : {M : Type 1} → statement M
 list-target-spec =

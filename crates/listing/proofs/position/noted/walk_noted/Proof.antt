@@ -42,23 +42,36 @@ Inv-loop noted goals at m₀ from b₀ here₀ m b here = Inv noted goals at m�
 abbrev μ-loop : tie.MeasureT-loop
 μ-loop noted goals at m₀ from b₀ here₀ m b here = here
 
-started : (c : tie.After-head-at Inv-loop μ-loop) (library : List ℕ) (ns : List Noting) (lines : List Line) → Noted-table library (c .before .before .before .before .args .noted .now) (c .before .before .before .before .args .goals .now) ns
-    → c .before .before .before .before .args .at < keyBuckets → Fronts lines (c .before .before .before .before .args .m .now) → Walked notedSheet library ns (c .before .before .before .before .args .at) (notedAtIt (c .before .before .before .before .args .at)) notedLine lines [] (c .head-at .result) (c .before .before .before .before .args .m .now) (record { count = 0; grade = 0 })
+-- The ladder: places of the code that the answers cite, each as it is seen from a later place.
+abbrev at-entry : tie.After-head-at Inv-loop μ-loop → tie.Start Inv-loop μ-loop
+at-entry c = c .before .before .before .before
+
+abbrev at-in-loop : tie.After-slice-known2 Inv-loop μ-loop → tie.In-loop Inv-loop μ-loop
+at-in-loop c = c .before .before .before .before .before
+
+started : (c : tie.After-head-at Inv-loop μ-loop) (library : List ℕ) (ns : List Noting) (lines : List Line) → Noted-table library (at-entry c .args .noted .now) (at-entry c .args .goals .now) ns
+    → at-entry c .args .at < keyBuckets → Fronts lines (at-entry c .args .m .now) → Walked notedSheet library ns (at-entry c .args .at)
+    (notedAtIt (at-entry c .args .at)) notedLine lines [] (c .head-at .result) (at-entry c .args .m .now) (record { count = 0; grade = 0 })
 started c library ns lines tabled small front =
-    walked-first notedSheet library noted-reads none ns tabled refl (c .before .before .before .before .args .at) (notedAtIt (c .before .before .before .before .args .at)) (noted-within (c .before .before .before .before .args .at) small) notedLine lines [] (c .head-at .result) (c .before .before .before .before .args .m .now) (record { count = 0; grade = 0 }) small (c .head-at .ensures)
-    (none-met lines (c .before .before .before .before .args .m .now) front)
+    let entry = at-entry c in
+    walked-first notedSheet library noted-reads none ns tabled refl (entry .args .at) (notedAtIt (entry .args .at))
+    (noted-within (entry .args .at) small) notedLine lines [] (c .head-at .result) (entry .args .m .now) (record { count = 0; grade = 0 }) small (c .head-at .ensures)
+    (none-met lines (entry .args .m .now) front)
 
 returns : tie.Need-returns Inv-loop μ-loop
-returns c = record {
-  few = omega arith;
-  walked = λ library ns lines tabled small long front.
-      absurd (omega (
-        arith,
-        c .if1 .taken,
-        le-div-iff-mul-le {k = 6} {x = c .before .head-at .result} {y = length (c .before .before .before .before .before .args .noted .now)} (omega arith) .1
-            (walked-room notedSheet library noted-reads none ns tabled refl (c .before .before .before .before .before .args .at) (notedAtIt (c .before .before .before .before .before .args .at)) (noted-within (c .before .before .before .before .before .args .at) small) notedLine lines [] (started (c .before) library ns lines tabled small front)),
-      ));
-}
+returns c =
+    let entry = at-entry (c .before) in
+    record {
+      few = omega arith;
+      walked = λ library ns lines tabled small long front.
+          absurd (omega (
+            arith,
+            c .if1 .taken,
+            le-div-iff-mul-le {k = 6} {x = c .before .head-at .result} {y = length (entry .args .noted .now)} (omega arith) .1
+                (walked-room notedSheet library noted-reads none ns tabled refl (entry .args .at) (notedAtIt (entry .args .at))
+                (noted-within (entry .args .at) small) notedLine lines [] (started (c .before) library ns lines tabled small front)),
+          ));
+    }
 
 loop-holds : tie.Need-loop-holds Inv-loop μ-loop
 loop-holds c = record {
@@ -71,22 +84,28 @@ sub-noted-at : tie.Need-sub-noted-at Inv-loop μ-loop
 sub-noted-at c = omega (arith, c .loop-test .taken)
 
 take-noted-requires : tie.Need-take-noted-requires Inv-loop μ-loop
-take-noted-requires c κs = omega (arith, c .before .before .before .loop .inv .few, c .before .before .loop-test .taken, c .before .before .before .before .before .before .before .before .before .pre, c .before .before .before .before .before .before .before .before .before .good .0, c .before .before .before .before .before .before .before .before .before .good .1 .1 .1 .0)
+take-noted-requires c κs =
+    let entry = at-entry (c .before .before .before .before .before) in
+    omega (arith, c .before .before .before .loop .inv .few, c .before .before .loop-test .taken, entry .pre, entry .good .0, entry .good .1 .1 .1 .0)
 
 same-length : tie.Need-same-length Inv-loop μ-loop
-same-length c = c .before .before .m .given ∙ c .before .before .before .before .before .before .before .loop .inv .long
+same-length c = c .before .before .m .given ∙ at-in-loop (c .before) .before .loop .inv .long
 
 returns-2 : tie.Need-returns-2 Inv-loop μ-loop
-returns-2 c = let a = c .before .before .before .before .before .before .before .before .before .before .before .before .before .args in
-    let l = c .before .before .before .before .before .before .before .loop in
+returns-2 c =
+    let noted-at = c .before .before .before .before .before in
+    let in-loop = noted-at .before in
+    let a = at-entry (in-loop .before .before .before) .args in
+    let l = in-loop .before .loop in
     record {
-      few = omega (arith, l .inv .few, c .before .before .before .take-noted .ensures .few, c .before .before .before .before .before .before .loop-test .taken);
+      few = omega (arith, l .inv .few, c .before .before .before .take-noted .ensures .few, in-loop .loop-test .taken);
       walked = λ library ns lines tabled small long front.
           absurd (omega (
             arith,
             c .if2 .taken,
-            leads-back notedSheet library noted-reads none ns tabled refl (a .at) (notedAtIt (a .at)) (noted-within (a .at) small) notedLine lines [] (l .here) (l .m) (l .b) (l .inv .walked library ns lines tabled small long front) (c .before .before .before .before .before .before .loop-test .taken)
-                (λ r. r .link) (λ x link alike. refl) (notedLines (a .at)) (noted-lines (a .at)) (c .before .before .before .before .before .noted-at .result) (c .before .before .before .before .before .noted-at .ensures),
+            leads-back notedSheet library noted-reads none ns tabled refl (a .at) (notedAtIt (a .at)) (noted-within (a .at) small) notedLine lines []
+                (l .here) (l .m) (l .b) (l .inv .walked library ns lines tabled small long front) (in-loop .loop-test .taken)
+                (λ r. r .link) (λ x link alike. refl) (notedLines (a .at)) (noted-lines (a .at)) (noted-at .noted-at .result) (noted-at .noted-at .ensures),
           ));
     }
 
@@ -94,27 +113,34 @@ loop-less : tie.Need-loop-less Inv-loop μ-loop
 loop-less c = c .if2 .left
 
 loop-again : tie.Need-loop-again Inv-loop μ-loop
-loop-again c = let a = c .before .before .before .before .before .before .before .before .before .before .before .before .before .args in
-    let l = c .before .before .before .before .before .before .before .loop in
+loop-again c =
+    let take-noted = c .before .before .before in
+    let noted-at = take-noted .before .before in
+    let in-loop = noted-at .before in
+    let a = at-entry (in-loop .before .before .before) .args in
+    let l = in-loop .before .loop in
     record {
-      few = omega (arith, l .inv .few, c .before .before .before .take-noted .ensures .few, c .if2 .left);
+      few = omega (arith, l .inv .few, take-noted .take-noted .ensures .few, c .if2 .left);
       long = c .before .before .m .given ∙ l .inv .long;
       walked = λ library ns lines tabled small long front.
-          walked-turn notedSheet library noted-reads none ns tabled refl (a .at) (notedAtIt (a .at)) (noted-within (a .at) small) notedLine lines [] (l .here) (l .m) (l .b) (l .inv .walked library ns lines tabled small long front) (c .before .before .before .before .before .before .loop-test .taken)
-          (λ r. r .link) (λ x link alike. refl) (notedLines (a .at)) (noted-lines (a .at)) (c .before .before .before .before .before .noted-at .result) (c .before .before .before .before .before .noted-at .ensures) (a .from) (c .before .before .before .take-noted .last .0) (c .before .before .before .take-noted .result) long (c .before .before .before .take-noted .ensures);
+          walked-turn notedSheet library noted-reads none ns tabled refl (a .at) (notedAtIt (a .at)) (noted-within (a .at) small) notedLine lines []
+          (l .here) (l .m) (l .b) (l .inv .walked library ns lines tabled small long front) (in-loop .loop-test .taken)
+          (λ r. r .link) (λ x link alike. refl) (notedLines (a .at)) (noted-lines (a .at)) (noted-at .noted-at .result) (noted-at .noted-at .ensures)
+          (a .from) (take-noted .take-noted .last .0) (take-noted .take-noted .result) long (take-noted .take-noted .ensures);
     }
 
 same-length-2 : tie.Need-same-length-2 Inv-loop μ-loop
 same-length-2 c = c .before .loop .inv .long
 
 returns-3 : tie.Need-returns-3 Inv-loop μ-loop
-returns-3 c = let a = c .before .before .before .before .before .before .before .args in
+returns-3 c = let a = at-entry (c .before .before .before) .args in
     let l = c .before .loop in
     record {
       few = omega (arith, l .inv .few);
       walked = λ library ns lines tabled small long front.
           subst (λ ls. Bests lines ls (l .m) (l .b)) (append-nil (map notedLine (keep (notedAtIt (a .at)) ns)))
-          (walked-last notedSheet library noted-reads none ns tabled refl (a .at) (notedAtIt (a .at)) (noted-within (a .at) small) notedLine lines [] (l .here) (l .m) (l .b) (c .loop-test .left) (l .inv .walked library ns lines tabled small long front));
+          (walked-last notedSheet library noted-reads none ns tabled refl (a .at) (notedAtIt (a .at)) (noted-within (a .at) small) notedLine lines []
+          (l .here) (l .m) (l .b) (c .loop-test .left) (l .inv .walked library ns lines tabled small long front));
     }
 
 pub walk-noted-spec : {M : Type 1} → statement M

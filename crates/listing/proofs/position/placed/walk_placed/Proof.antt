@@ -27,38 +27,60 @@ use borrow.Author.Needs.{needs}
 abbrev none : Placing
 none = record { position = 0; name = record { at = 0; len = 0 }; valid = false; segment = 0; base = 0 }
 
-record Inv (cells : List ℕ) (rules : Rules) (library segments : List ℕ) (n : ℕ) (references placed positions noted goals : List ℕ) (at : ℕ) (m₀ : List ℕ) (from : ℕ) (b₀ : Best) (m : List ℕ) (b : Best) (here : ℕ) : Type 0 where
+record Inv (cells : List ℕ) (rules : Rules) (library segments : List ℕ) (n : ℕ) (references placed positions noted goals : List ℕ) (at : ℕ)
+    (m₀ : List ℕ) (from : ℕ) (b₀ : Best) (m : List ℕ) (b : Best) (here : ℕ) : Type 0 where
   few : b .count + here ≤ b₀ .count + length placed / 8
   long : length m ≡ length m₀
   walked : (k : Known rules library segments references n placed positions noted goals) (lines before : List Line) → at < keyBuckets → length lines ≡ from → Bests lines before m₀ b₀
       → Walked placedSheet library (k .ps) at (staysAt cells k at) (lineOf cells k) lines before here m b
 
 abbrev Inv-loop : tie.InvT-loop
-Inv-loop image s rules library segments n references placed positions noted goals at m₀ from b₀ here₀ m b here = Inv (view image s) rules library segments n references placed positions noted goals at m₀ from b₀ m b here
+Inv-loop image s rules library segments n references placed positions noted goals at m₀ from b₀ here₀ m b here = Inv (view image s) rules library
+    segments n references placed positions noted goals at m₀ from b₀ m b here
 
 abbrev μ-loop : tie.MeasureT-loop
 μ-loop image s rules library segments n references placed positions noted goals at m₀ from b₀ here₀ m b here = here
 
-abbrev Known-at : tie.Start Inv-loop μ-loop → Type 0
-Known-at c = Known (c .args .rules) (c .args .library .now) (c .args .segments .now) (c .args .references .now) (c .args .n) (c .args .placed .now) (c .args .positions .now) (c .args .noted .now) (c .args .goals .now)
+-- The ladder: places of the code that the answers cite, each as it is seen from a later place.
+abbrev at-entry : tie.After-head-at Inv-loop μ-loop → tie.Start Inv-loop μ-loop
+at-entry c = c .before .before .before .before .before .before .before .before .before .before
 
-within : (c : tie.Start Inv-loop μ-loop) (k : Known-at c) → c .args .at < keyBuckets → (p : Placing) → staysAt (view (c .args .image .now) (c .args .s)) k (c .args .at) p ≡ true → keyBucket (p .position) ≡ c .args .at
-within c k small = known-within (view (c .args .image .now) (c .args .s)) (c .args .rules) (c .args .library .now) (c .args .segments .now) (c .args .n) (c .args .references .now) (c .args .placed .now) (c .args .positions .now) (c .args .noted .now) (c .args .goals .now) k (c .args .at) small
+abbrev at-in-loop : tie.After-slice-known2 Inv-loop μ-loop → tie.In-loop Inv-loop μ-loop
+at-in-loop c = c .before .before .before .before .before
+
+abbrev Known-at : tie.Start Inv-loop μ-loop → Type 0
+Known-at c = Known (c .args .rules) (c .args .library .now) (c .args .segments .now) (c .args .references .now) (c .args .n) (c .args .placed .now)
+    (c .args .positions .now) (c .args .noted .now) (c .args .goals .now)
+
+within : (c : tie.Start Inv-loop μ-loop) (k : Known-at c) → c .args .at < keyBuckets → (p : Placing) → staysAt
+    (view (c .args .image .now) (c .args .s)) k (c .args .at) p ≡ true → keyBucket (p .position) ≡ c .args .at
+within c k small = known-within (view (c .args .image .now) (c .args .s)) (c .args .rules) (c .args .library .now) (c .args .segments .now)
+    (c .args .n) (c .args .references .now) (c .args .placed .now) (c .args .positions .now) (c .args .noted .now) (c .args .goals .now) k (c .args .at) small
 
 abbrev lines-of : tie.Start Inv-loop μ-loop → Placed → List Line
-lines-of c = rowLines (view (c .args .image .now) (c .args .s)) (c .args .rules) (c .args .library .now) (c .args .segments .now) (c .args .n) (c .args .references .now) (c .args .placed .now) (c .args .positions .now) (c .args .noted .now) (c .args .goals .now) (c .args .at)
+lines-of c = rowLines (view (c .args .image .now) (c .args .s)) (c .args .rules) (c .args .library .now) (c .args .segments .now) (c .args .n)
+    (c .args .references .now) (c .args .placed .now) (c .args .positions .now) (c .args .noted .now) (c .args .goals .now) (c .args .at)
 
-are : (c : tie.Start Inv-loop μ-loop) (k : Known-at c) (p : Placing) (link alike : ℕ) → lines-of c (placedSheet .row p link alike) ≡ map (lineOf (view (c .args .image .now) (c .args .s)) k) (keep (staysAt (view (c .args .image .now) (c .args .s)) k (c .args .at)) (one p))
-are c k = known-lines (view (c .args .image .now) (c .args .s)) (c .args .rules) (c .args .library .now) (c .args .segments .now) (c .args .n) (c .args .references .now) (c .args .placed .now) (c .args .positions .now) (c .args .noted .now) (c .args .goals .now) k (c .args .at)
+are : (c : tie.Start Inv-loop μ-loop) (k : Known-at c) (p : Placing) (link alike : ℕ) → lines-of c (placedSheet .row p link alike) ≡ map
+    (lineOf (view (c .args .image .now) (c .args .s)) k) (keep (staysAt (view (c .args .image .now) (c .args .s)) k (c .args .at)) (one p))
+are c k = known-lines (view (c .args .image .now) (c .args .s)) (c .args .rules) (c .args .library .now) (c .args .segments .now) (c .args .n)
+    (c .args .references .now) (c .args .placed .now) (c .args .positions .now) (c .args .noted .now) (c .args .goals .now) k (c .args .at)
 
-started : (c : tie.After-head-at Inv-loop μ-loop) (k : Known-at (c .before .before .before .before .before .before .before .before .before .before)) (lines before : List Line) → c .before .before .before .before .before .before .before .before .before .before .args .at < keyBuckets → Bests lines before (c .before .before .before .before .before .before .before .before .before .before .args .m .now) (c .before .before .before .before .before .before .before .before .before .before .args .before)
-    → Walked placedSheet (c .before .before .before .before .before .before .before .before .before .before .args .library .now) (k .ps) (c .before .before .before .before .before .before .before .before .before .before .args .at) (staysAt (view (c .before .before .before .before .before .before .before .before .before .before .args .image .now) (c .before .before .before .before .before .before .before .before .before .before .args .s)) k (c .before .before .before .before .before .before .before .before .before .before .args .at)) (lineOf (view (c .before .before .before .before .before .before .before .before .before .before .args .image .now) (c .before .before .before .before .before .before .before .before .before .before .args .s)) k) lines before (c .head-at .result) (c .before .before .before .before .before .before .before .before .before .before .args .m .now) (c .before .before .before .before .before .before .before .before .before .before .args .before)
+started : (c : tie.After-head-at Inv-loop μ-loop) (k : Known-at (at-entry c)) (lines before : List Line) → at-entry c .args .at < keyBuckets → Bests
+    lines before (at-entry c .args .m .now) (at-entry c .args .before)
+    → Walked placedSheet (at-entry c .args .library .now) (k .ps) (at-entry c .args .at)
+    (staysAt (view (at-entry c .args .image .now) (at-entry c .args .s)) k (at-entry c .args .at))
+    (lineOf (view (at-entry c .args .image .now) (at-entry c .args .s)) k) lines before (c .head-at .result) (at-entry c .args .m .now) (at-entry c .args .before)
 started c k lines before small h =
-    let a = c .before .before .before .before .before .before .before .before .before .before .args in
-    walked-first placedSheet (a .library .now) placed-reads none (k .ps) (k .sought .placings) refl (a .at) (staysAt (view (a .image .now) (a .s)) k (a .at)) (within (c .before .before .before .before .before .before .before .before .before .before) k small) (lineOf (view (a .image .now) (a .s)) k) lines before (c .head-at .result) (a .m .now) (a .before) small (c .head-at .ensures) h
+    let a = at-entry c .args in
+    walked-first placedSheet (a .library .now) placed-reads none (k .ps) (k .sought .placings) refl (a .at)
+    (staysAt (view (a .image .now) (a .s)) k (a .at)) (within (at-entry c) k small) (lineOf (view (a .image .now) (a .s)) k) lines before
+    (c .head-at .result) (a .m .now) (a .before) small (c .head-at .ensures) h
 
 returns : tie.Need-returns Inv-loop μ-loop
-returns c = let a = c .before .before .before .before .before .before .before .before .before .before .before .args in
+returns c =
+    let entry = at-entry (c .before) in
+    let a = entry .args in
     record {
       few = omega arith;
       walked = λ k lines before small long h.
@@ -66,7 +88,8 @@ returns c = let a = c .before .before .before .before .before .before .before .b
             arith,
             c .if1 .taken,
             le-div-iff-mul-le {k = 8} {x = c .before .head-at .result} {y = length (a .placed .now)} (omega arith) .1
-                (walked-room placedSheet (a .library .now) placed-reads none (k .ps) (k .sought .placings) refl (a .at) (staysAt (view (a .image .now) (a .s)) k (a .at)) (within (c .before .before .before .before .before .before .before .before .before .before .before) k small) (lineOf (view (a .image .now) (a .s)) k) lines before (started (c .before) k lines before small h)),
+                (walked-room placedSheet (a .library .now) placed-reads none (k .ps) (k .sought .placings) refl (a .at)
+                (staysAt (view (a .image .now) (a .s)) k (a .at)) (within entry k small) (lineOf (view (a .image .now) (a .s)) k) lines before (started (c .before) k lines before small h)),
           ));
     }
 
@@ -81,22 +104,39 @@ sub-placed-at : tie.Need-sub-placed-at Inv-loop μ-loop
 sub-placed-at c = omega (arith, c .loop-test .taken)
 
 take-placed-requires : tie.Need-take-placed-requires Inv-loop μ-loop
-take-placed-requires c κs = omega (arith, c .before .before .before .loop .inv .few, c .before .before .loop-test .taken, c .before .before .before .before .before .before .before .before .before .before .before .before .before .before .before .pre .0, c .before .before .before .before .before .before .before .before .before .before .before .before .before .before .before .pre .1, c .before .before .before .before .before .before .before .before .before .before .before .before .before .before .before .good .1 .1 .1 .1 .1 .1 .1 .0, c .before .before .before .before .before .before .before .before .before .before .before .before .before .before .before .good .1 .1 .1 .1 .1 .1 .1 .1 .1 .0, c .before .before .before .before .before .before .before .before .before .before .before .before .before .before .before .good .1 .1 .1 .1 .1 .1 .1 .1 .1 .1 .1 .1 .0)
+take-placed-requires c κs =
+    let entry = at-entry (c .before .before .before .before .before) in
+    omega (
+      arith,
+      c .before .before .before .loop .inv .few,
+      c .before .before .loop-test .taken,
+      entry .pre .0,
+      entry .pre .1,
+      entry .good .1 .1 .1 .1 .1 .1 .1 .0,
+      entry .good .1 .1 .1 .1 .1 .1 .1 .1 .1 .0,
+      entry .good .1 .1 .1 .1 .1 .1 .1 .1 .1 .1 .1 .1 .0,
+    )
 
 same-length : tie.Need-same-length Inv-loop μ-loop
-same-length c = c .before .before .m .given ∙ c .before .before .before .before .before .before .before .loop .inv .long
+same-length c = c .before .before .m .given ∙ at-in-loop (c .before) .before .loop .inv .long
 
 returns-2 : tie.Need-returns-2 Inv-loop μ-loop
-returns-2 c = let a = c .before .before .before .before .before .before .before .before .before .before .before .before .before .before .before .before .before .before .before .args in
-    let l = c .before .before .before .before .before .before .before .loop in
+returns-2 c =
+    let placed-at = c .before .before .before .before .before in
+    let in-loop = placed-at .before in
+    let entry = at-entry (in-loop .before .before .before) in
+    let a = entry .args in
+    let l = in-loop .before .loop in
     record {
-      few = omega (arith, l .inv .few, c .before .before .before .take-placed .ensures .few, c .before .before .before .before .before .before .loop-test .taken);
+      few = omega (arith, l .inv .few, c .before .before .before .take-placed .ensures .few, in-loop .loop-test .taken);
       walked = λ k lines before small long h.
           absurd (omega (
             arith,
             c .if2 .taken,
-            leads-back placedSheet (a .library .now) placed-reads none (k .ps) (k .sought .placings) refl (a .at) (staysAt (view (a .image .now) (a .s)) k (a .at)) (within (c .before .before .before .before .before .before .before .before .before .before .before .before .before .before .before .before .before .before .before) k small) (lineOf (view (a .image .now) (a .s)) k) lines before (l .here) (l .m) (l .b) (l .inv .walked k lines before small long h) (c .before .before .before .before .before .before .loop-test .taken)
-                (λ r. r .link) (λ x link alike. refl) (lines-of (c .before .before .before .before .before .before .before .before .before .before .before .before .before .before .before .before .before .before .before)) (are (c .before .before .before .before .before .before .before .before .before .before .before .before .before .before .before .before .before .before .before) k) (c .before .before .before .before .before .placed-at .result) (c .before .before .before .before .before .placed-at .ensures),
+            leads-back placedSheet (a .library .now) placed-reads none (k .ps) (k .sought .placings) refl (a .at)
+                (staysAt (view (a .image .now) (a .s)) k (a .at)) (within entry k small) (lineOf (view (a .image .now) (a .s)) k) lines before
+                (l .here) (l .m) (l .b) (l .inv .walked k lines before small long h) (in-loop .loop-test .taken)
+                (λ r. r .link) (λ x link alike. refl) (lines-of entry) (are entry k) (placed-at .placed-at .result) (placed-at .placed-at .ensures),
           ));
     }
 
@@ -104,26 +144,38 @@ loop-less : tie.Need-loop-less Inv-loop μ-loop
 loop-less c = c .if2 .left
 
 loop-again : tie.Need-loop-again Inv-loop μ-loop
-loop-again c = let a = c .before .before .before .before .before .before .before .before .before .before .before .before .before .before .before .before .before .before .before .args in
-    let l = c .before .before .before .before .before .before .before .loop in
+loop-again c =
+    let take-placed = c .before .before .before in
+    let placed-at = take-placed .before .before in
+    let in-loop = placed-at .before in
+    let entry = at-entry (in-loop .before .before .before) in
+    let a = entry .args in
+    let l = in-loop .before .loop in
     record {
-      few = omega (arith, l .inv .few, c .before .before .before .take-placed .ensures .few, c .if2 .left);
+      few = omega (arith, l .inv .few, take-placed .take-placed .ensures .few, c .if2 .left);
       long = c .before .before .m .given ∙ l .inv .long;
       walked = λ k lines before small long h.
-          walked-turn placedSheet (a .library .now) placed-reads none (k .ps) (k .sought .placings) refl (a .at) (staysAt (view (a .image .now) (a .s)) k (a .at)) (within (c .before .before .before .before .before .before .before .before .before .before .before .before .before .before .before .before .before .before .before) k small) (lineOf (view (a .image .now) (a .s)) k) lines before (l .here) (l .m) (l .b) (l .inv .walked k lines before small long h) (c .before .before .before .before .before .before .loop-test .taken)
-          (λ r. r .link) (λ x link alike. refl) (lines-of (c .before .before .before .before .before .before .before .before .before .before .before .before .before .before .before .before .before .before .before)) (are (c .before .before .before .before .before .before .before .before .before .before .before .before .before .before .before .before .before .before .before) k) (c .before .before .before .before .before .placed-at .result) (c .before .before .before .before .before .placed-at .ensures) (a .from) (c .before .before .before .take-placed .last .1 .1 .1 .1 .1 .1 .1 .1 .1 .1 .1 .0) (c .before .before .before .take-placed .result) long (c .before .before .before .take-placed .ensures);
+          walked-turn placedSheet (a .library .now) placed-reads none (k .ps) (k .sought .placings) refl (a .at)
+          (staysAt (view (a .image .now) (a .s)) k (a .at)) (within entry k small) (lineOf (view (a .image .now) (a .s)) k) lines before
+          (l .here) (l .m) (l .b) (l .inv .walked k lines before small long h) (in-loop .loop-test .taken)
+          (λ r. r .link) (λ x link alike. refl) (lines-of entry) (are entry k) (placed-at .placed-at .result) (placed-at .placed-at .ensures)
+          (a .from) (take-placed .take-placed .last .1 .1 .1 .1 .1 .1 .1 .1 .1 .1 .1 .0) (take-placed .take-placed .result) long (take-placed .take-placed .ensures);
     }
 
 same-length-2 : tie.Need-same-length-2 Inv-loop μ-loop
 same-length-2 c = c .before .loop .inv .long
 
 returns-3 : tie.Need-returns-3 Inv-loop μ-loop
-returns-3 c = let a = c .before .before .before .before .before .before .before .before .before .before .before .before .before .args in
+returns-3 c =
+    let entry = at-entry (c .before .before .before) in
+    let a = entry .args in
     let l = c .before .loop in
     record {
       few = omega (arith, l .inv .few);
       walked = λ k lines before small long h.
-          walked-last placedSheet (a .library .now) placed-reads none (k .ps) (k .sought .placings) refl (a .at) (staysAt (view (a .image .now) (a .s)) k (a .at)) (within (c .before .before .before .before .before .before .before .before .before .before .before .before .before) k small) (lineOf (view (a .image .now) (a .s)) k) lines before (l .here) (l .m) (l .b) (c .loop-test .left) (l .inv .walked k lines before small long h);
+          walked-last placedSheet (a .library .now) placed-reads none (k .ps) (k .sought .placings) refl (a .at)
+          (staysAt (view (a .image .now) (a .s)) k (a .at)) (within entry k small) (lineOf (view (a .image .now) (a .s)) k) lines before
+          (l .here) (l .m) (l .b) (c .loop-test .left) (l .inv .walked k lines before small long h);
     }
 
 pub walk-placed-spec : {M : Type 1} → statement M

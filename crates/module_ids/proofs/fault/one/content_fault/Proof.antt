@@ -7,14 +7,22 @@ use borrow.Author.Needs.{needs}
 use Rattle.module_ids.proofs.fault.one.content_fault.Statement.{statement}
 use Rattle.module_ids.proofs.fault.one.content_fault.Tie as tie
 
+-- The ladder: places of the code that the answers cite, each as it is seen from a later place.
+abbrev after-kept : tie.After-struct-known3 → tie.After-kept
+after-kept c = c .before .before .before .before .before
+
 returns : tie.Need-returns
-returns c = let a = c .before .before .before .before .before .before .before .before .args in sym (ap verdictOf (fits (a .row) (a .c) (c .before .before .before .before .before .before .kept .given .1) (omega arith)))
+returns c =
+    let kept = after-kept (c .before) in
+    let a = kept .before .before .args in sym (ap verdictOf (fits (a .row) (a .c) (kept .kept .given .1) (omega arith)))
 
 returns-2 : tie.Need-returns-2
 returns-2 c = let a = c .before .before .args in sym (ap verdictOf (no-segment (a .row) (a .c) (c .enum-told .given .1)))
 
 returns-3 : tie.Need-returns-3
-returns-3 c = let a = c .before .before .before .before .before .before .before .before .args in sym (ap verdictOf (too-long (a .row) (a .c) (c .before .before .before .before .before .before .kept .given .1) (omega arith)))
+returns-3 c =
+    let kept = after-kept (c .before) in
+    let a = kept .before .before .args in sym (ap verdictOf (too-long (a .row) (a .c) (kept .kept .given .1) (omega arith)))
 
 returns-4 : tie.Need-returns-4
 returns-4 c = let a = c .before .before .before .before .before .args in sym (ap verdictOf (too-long (a .row) (a .c) (c .before .before .before .kept .given .1) (omega arith)))

@@ -60,25 +60,37 @@ Inv-loop library from keys₀ places₀ c₀ n₀ keys places c n = Inv library 
 abbrev μ-loop : tie.MeasureT-loop
 μ-loop library from keys₀ places₀ c₀ n₀ keys places c n = length (definitionsLeft library c)
 
+-- The ladder: places of the code that the answers cite, each as it is seen from a later place.
+abbrev at-entry : tie.At-loop Inv-loop μ-loop → tie.Start Inv-loop μ-loop
+at-entry c = c .before .before .before .before .before
+
+abbrev at-loop : tie.After-known-told Inv-loop μ-loop → tie.At-loop Inv-loop μ-loop
+at-loop c = c .before .before .before .before
+
+abbrev after-known-told : tie.After-known-told2 Inv-loop μ-loop → tie.After-known-told Inv-loop μ-loop
+after-known-told c = c .before .before .before
+
 -- the next definition, once it is known
 abbrev Told : Type 0
 Told = tie.After-known-told Inv-loop μ-loop
 
-step : (c : Told) → nextDefinition (now (c .before .before .before .before .before .before .before .before .before .args .library)) (c .before .before .before .before .loop .c) ≡ Item (c .before .definition .given .0 .0) (c .before .definition .given .0 .1 .0)
+step : (c : Told) → nextDefinition (now (at-entry (at-loop c) .args .library)) (at-loop c .loop .c) ≡ Item (c .before .definition .given .0 .0) (c .before .definition .given .0 .1 .0)
 step c = sym (c .before .before .before .next-definition .ensures) ∙ c .before .definition .given .1
 
-goes : (c : Told) → Sized (now (c .before .before .before .before .before .before .before .before .before .args .library)) 5 (c .before .before .before .before .loop .c) (c .before .definition .given .0 .1 .0)
-goes c = definition-sized (c .before .before .before .before .before .before .before .before .before .args .library .now) (c .before .before .before .before .loop .c) (c .before .before .before .before .loop .inv .ordered) (step c)
+goes : (c : Told) → Sized (now (at-entry (at-loop c) .args .library)) 5 (at-loop c .loop .c) (c .before .definition .given .0 .1 .0)
+goes c =
+    let loop = at-loop c in
+    definition-sized (at-entry loop .args .library .now) (loop .loop .c) (loop .loop .inv .ordered) (step c)
 
 -- there is room for it
-below : (c : Told) → 5 * c .before .before .before .before .loop .n + 5 < 4294967296
-below c = omega (arith, c .before .before .before .before .loop .inv .few, goes c .size-later, goes c .forward .inside, c .before .before .before .before .before .before .before .before .before .pre .short)
+below : (c : Told) → 5 * at-loop c .loop .n + 5 < 4294967296
+below c = omega (arith, at-loop c .loop .inv .few, goes c .size-later, goes c .forward .inside, at-entry (at-loop c) .pre .short)
 
-room : (c : Told) → (c .before .before .before .before .loop .n < length (c .before .before .before .before .loop .keys)) × (c .before .before .before .before .loop .n < length (c .before .before .before .before .loop .places))
+room : (c : Told) → (at-loop c .loop .n < length (at-loop c .loop .keys)) × (at-loop c .loop .n < length (at-loop c .loop .places))
 room c =
-    let i = c .before .before .before .before .loop .inv in
+    let i = at-loop c .loop .inv in
     let g = goes c in
-    let r = c .before .before .before .before .before .before .before .before .before .pre in
+    let r = at-entry (at-loop c) .pre in
     (omega (arith, i .few, g .size-later, g .forward .inside, r .for-keys, i .keys-long), omega (arith, i .few, g .size-later, g .forward .inside, r .for-places, i .places-long))
 
 -- and once it is known to be public
@@ -86,13 +98,18 @@ abbrev Found : Type 0
 Found = tie.After-known-told2 Inv-loop μ-loop
 
 abbrev this : Found → Definition
-this c = Public (c .before .definition2 .given .0 .0) (c .before .definition2 .given .0 .1 .0) (c .before .definition2 .given .0 .1 .1 .0)
+this c =
+    let definition2 = c .before in
+    Public (definition2 .definition2 .given .0 .0) (definition2 .definition2 .given .0 .1 .0) (definition2 .definition2 .given .0 .1 .1 .0)
 
-step-public : (c : Found) → nextDefinition (now (c .before .before .before .before .before .before .before .before .before .before .before .before .args .library)) (c .before .before .before .before .before .before .before .loop .c) ≡ Item (this c) (c .before .before .before .before .definition .given .0 .1 .0)
-step-public c = step (c .before .before .before) ∙ ap (λ d. Item d (c .before .before .before .before .definition .given .0 .1 .0)) (c .before .definition2 .given .1)
+step-public : (c : Found) → nextDefinition (now (at-entry (at-loop (after-known-told c)) .args .library)) (at-loop (after-known-told c) .loop .c) ≡
+    Item (this c) (after-known-told c .before .definition .given .0 .1 .0)
+step-public c = step (after-known-told c) ∙ ap (λ d. Item d (after-known-told c .before .definition .given .0 .1 .0)) (c .before .definition2 .given .1)
 
-again : (c : Found) → PublicAgain (now (c .before .before .before .before .before .before .before .before .before .before .before .before .args .library)) (c .before .definition2 .given .0 .1 .0) (c .before .definition2 .given .0 .1 .1 .0)
-again c = public-again (c .before .before .before .before .before .before .before .before .before .before .before .before .args .library .now) (c .before .before .before .before .before .before .before .loop .c) (step-public c)
+again : (c : Found) → PublicAgain (now (at-entry (at-loop (after-known-told c)) .args .library)) (c .before .definition2 .given .0 .1 .0) (c .before .definition2 .given .0 .1 .1 .0)
+again c =
+    let loop = at-loop (after-known-told c) in
+    public-again (at-entry loop .args .library .now) (loop .loop .c) (step-public c)
 
 loop-holds : tie.Need-loop-holds Inv-loop μ-loop
 loop-holds c =
@@ -110,53 +127,62 @@ loop-holds c =
     })
 
 mul-keys : tie.Need-mul-keys Inv-loop μ-loop
-mul-keys c = omega (arith, below (c .before .before .before))
+mul-keys c = omega (arith, below (after-known-told c))
 
 slice-write-keys : tie.Need-slice-write-keys Inv-loop μ-loop
-slice-write-keys c = room (c .before .before .before) .0
+slice-write-keys c = room (after-known-told c) .0
 
 sub-places : tie.Need-sub-places Inv-loop μ-loop
 sub-places c = omega (arith, again (c .before) .front)
 
 cast-places : tie.Need-cast-places Inv-loop μ-loop
-cast-places c = omega (arith, again (c .before) .inside, c .before .before .before .before .before .before .before .before .before .before .before .before .before .pre .short)
+cast-places c = omega (arith, again (c .before) .inside, at-entry (at-loop (after-known-told (c .before))) .pre .short)
 
 mul-places : tie.Need-mul-places Inv-loop μ-loop
-mul-places c = omega (arith, below (c .before .before .before .before))
+mul-places c = omega (arith, below (after-known-told (c .before)))
 
 slice-write-places : tie.Need-slice-write-places Inv-loop μ-loop
-slice-write-places c = room (c .before .before .before .before) .1
+slice-write-places c = room (after-known-told (c .before)) .1
 
 add-n : tie.Need-add-n Inv-loop μ-loop
-add-n c = omega (arith, below (c .before .before .before .before))
+add-n c = omega (arith, below (after-known-told (c .before)))
 
 loop-less : tie.Need-loop-less Inv-loop μ-loop
-loop-less c = fewer-definitions (c .before .before .before .before .before .before .before .before .before .before .before .before .before .args .library .now) (c .before .before .before .before .before .before .before .before .loop .c) (step (c .before .before .before .before))
+loop-less c =
+    let known-told = after-known-told (c .before) in
+    let loop = at-loop known-told in
+    fewer-definitions (at-entry loop .args .library .now) (loop .loop .c) (step known-told)
 
 loop-again : tie.Need-loop-again Inv-loop μ-loop
 loop-again c =
-    let lib = c .before .before .before .before .before .before .before .before .before .before .before .before .before .args .library .now in
-    let l = c .before .before .before .before .before .before .before .before .loop in
+    let known-told2 = c .before in
+    let known-told = after-known-told known-told2 in
+    let loop = at-loop known-told in
+    let lib = at-entry loop .args .library .now in
+    let l = loop .loop in
     let i = l .inv in
-    let d : Definition = this (c .before) in
-    let name = c .before .before .definition2 .given .0 .1 .1 .0 in
-    let g = goes (c .before .before .before .before) in
+    let d : Definition = this known-told2 in
+    let name = known-told2 .before .definition2 .given .0 .1 .1 .0 in
+    let g = goes known-told in
     record {
       keys-long = length-set (l .keys) (l .n) _ ∙ i .keys-long;
       places-long = length-set (l .places) (l .n) _ ∙ i .places-long;
       done = i .done ++ one d;
-      whole = append-assoc (i .done) (one d) _ ∙ ap (λ xs. i .done ++ xs) (sym (next-definition-yields lib (l .c) ∙ ap (definitionsAfter lib) (step-public (c .before)))) ∙ i .whole;
-      gathered = rw (public-kept (i .done) d refl) (gather-turn publicKey (Stands lib) noDefinition (keep isPublicDefinition (i .done)) (l .keys) (l .places) (l .n) d (name .at - 4) (room (c .before .before .before .before) .0) (room (c .before .before .before .before) .1) (read-again lib _ _ name (again (c .before))) (i .gathered));
+      whole = append-assoc (i .done) (one d) _ ∙ ap (λ xs. i .done ++ xs) (sym (next-definition-yields lib (l .c) ∙ ap (definitionsAfter lib) (step-public known-told2))) ∙ i .whole;
+      gathered = rw (public-kept (i .done) d refl) (gather-turn publicKey (Stands lib) noDefinition (keep isPublicDefinition (i .done)) (l .keys)
+          (l .places) (l .n) d (name .at - 4) (room known-told .0) (room known-told .1) (read-again lib _ _ name (again known-told2)) (i .gathered));
       few = omega (arith, i .few, g .size-later);
       ordered = g .forward .ordered;
     }
 
 loop-less-2 : tie.Need-loop-less-2 Inv-loop μ-loop
-loop-less-2 c = fewer-definitions (c .before .before .before .before .before .before .before .before .before .before .args .library .now) (c .before .before .before .before .before .loop .c) (step (c .before))
+loop-less-2 c =
+    let loop = at-loop (c .before) in
+    fewer-definitions (at-entry loop .args .library .now) (loop .loop .c) (step (c .before))
 
 loop-again-2 : tie.Need-loop-again-2 Inv-loop μ-loop
 loop-again-2 c =
-    let lib = c .before .before .before .before .before .before .before .before .before .before .args .library .now in
+    let lib = at-entry (c .before .before .before .before .before) .args .library .now in
     let l = c .before .before .before .before .before .loop in
     let i = l .inv in
     let d = c .before .before .definition .given .0 .0 in
@@ -179,7 +205,7 @@ same-length-2 c = c .before .before .before .loop .inv .places-long
 
 returns : tie.Need-returns Inv-loop μ-loop
 returns c =
-    let lib = c .before .before .before .before .before .before .before .before .args .library .now in
+    let lib = at-entry (c .before .before .before) .args .library .now in
     let l = c .before .before .before .loop in
     let none = next-definition-yields lib (l .c) ∙ ap (definitionsAfter lib) (sym (c .before .before .next-definition .ensures) ∙ c .enum-told .given .1) in
     record {

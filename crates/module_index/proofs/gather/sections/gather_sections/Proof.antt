@@ -38,29 +38,49 @@ Inv-loop library from keys₀ places₀ at₀ n₀ keys places at n = Inv librar
 abbrev μ-loop : tie.MeasureT-loop
 μ-loop library from keys₀ places₀ at₀ n₀ keys places at n = length (itemsAt library (sectionsAt library) at)
 
+-- The ladder: places of the code that the answers cite, each as it is seen from a later place.
+abbrev at-entry : tie.After-next-content Inv-loop μ-loop → tie.Start Inv-loop μ-loop
+at-entry c = c .before .before .before .before .before
+
+abbrev after-next-content : tie.After-known-told Inv-loop μ-loop → tie.After-next-content Inv-loop μ-loop
+after-next-content c = c .before .before .before
+
+abbrev at-loop : tie.After-known-told Inv-loop μ-loop → tie.At-loop Inv-loop μ-loop
+at-loop c = after-next-content c .before
+
 -- the next content, once it is known
 abbrev Told : Type 0
 Told = tie.After-known-told Inv-loop μ-loop
 
-step : (c : Told) → nextContent (now (c .before .before .before .before .before .before .before .before .args .library)) (c .before .before .before .before .loop .at) ≡ Item (c .before .content .given .0 .0) (c .before .content .given .0 .1 .0) (c .before .content .given .0 .1 .1 .0)
-step c = sym (c .before .before .before .next-content .ensures) ∙ c .before .content .given .1
+step : (c : Told) → nextContent (now (at-entry (after-next-content c) .args .library)) (at-loop c .loop .at) ≡ Item (c .before .content .given .0 .0)
+    (c .before .content .given .0 .1 .0) (c .before .content .given .0 .1 .1 .0)
+step c = sym (after-next-content c .next-content .ensures) ∙ c .before .content .given .1
 
-goes : (c : Told) → ContentGoes (now (c .before .before .before .before .before .before .before .before .args .library)) (c .before .before .before .before .loop .at) (c .before .content .given .0 .0) (c .before .content .given .0 .1 .1 .0)
-goes c = content-goes (c .before .before .before .before .before .before .before .before .args .library .now) (c .before .before .before .before .loop .at) (step c)
+goes : (c : Told) → ContentGoes (now (at-entry (after-next-content c) .args .library)) (at-loop c .loop .at) (c .before .content .given .0 .0) (c .before .content .given .0 .1 .1 .0)
+goes c = content-goes (at-entry (after-next-content c) .args .library .now) (at-loop c .loop .at) (step c)
 
 -- there is room for it
-below : (c : Told) → 7 * c .before .before .before .before .loop .n + 7 < 4294967296
-below c = omega (arith, c .before .before .before .before .loop .inv .few, goes c .later, goes c .inside, c .before .before .before .before .before .before .before .before .pre .short)
+below : (c : Told) → 7 * at-loop c .loop .n + 7 < 4294967296
+below c = omega (arith, at-loop c .loop .inv .few, goes c .later, goes c .inside, at-entry (after-next-content c) .pre .short)
 
-room : (c : Told) → (c .before .before .before .before .loop .n < length (c .before .before .before .before .loop .keys)) × (c .before .before .before .before .loop .n < length (c .before .before .before .before .loop .places))
+room : (c : Told) → (at-loop c .loop .n < length (at-loop c .loop .keys)) × (at-loop c .loop .n < length (at-loop c .loop .places))
 room c =
-    let i = c .before .before .before .before .loop .inv in
+    let i = at-loop c .loop .inv in
     let g = goes c in
-    let r = c .before .before .before .before .before .before .before .before .pre in
+    let r = at-entry (after-next-content c) .pre in
     (omega (arith, i .few, g .later, g .inside, r .for-keys, i .keys-long), omega (arith, i .few, g .later, g .inside, r .for-places, i .places-long))
 
 loop-holds : tie.Need-loop-holds Inv-loop μ-loop
-loop-holds c = record { keys-long = refl; places-long = refl; done = []; whole = refl; gathered = none-gathered sectionKey (Stands (c .before .before .before .args .library .now)) noSection (c .before .before .before .args .keys .now) (c .before .before .before .args .places .now); few = omega arith }
+loop-holds c =
+    let entry = c .before .before .before in
+    record {
+      keys-long = refl;
+      places-long = refl;
+      done = [];
+      whole = refl;
+      gathered = none-gathered sectionKey (Stands (entry .args .library .now)) noSection (entry .args .keys .now) (entry .args .places .now);
+      few = omega arith;
+    }
 
 mul-keys : tie.Need-mul-keys Inv-loop μ-loop
 mul-keys c = omega (arith, below c)
@@ -69,7 +89,7 @@ slice-write-keys : tie.Need-slice-write-keys Inv-loop μ-loop
 slice-write-keys c = room c .0
 
 cast-places : tie.Need-cast-places Inv-loop μ-loop
-cast-places c = omega (arith, goes c .later, goes c .inside, c .before .before .before .before .before .before .before .before .pre .short)
+cast-places c = omega (arith, goes c .later, goes c .inside, at-entry (after-next-content c) .pre .short)
 
 mul-places : tie.Need-mul-places Inv-loop μ-loop
 mul-places c = omega (arith, below c)
@@ -81,12 +101,12 @@ add-n : tie.Need-add-n Inv-loop μ-loop
 add-n c = omega (arith, below c)
 
 loop-less : tie.Need-loop-less Inv-loop μ-loop
-loop-less c = fewer-sections (c .before .before .before .before .before .before .before .before .args .library .now) (c .before .before .before .before .loop .at) (step c)
+loop-less c = fewer-sections (at-entry (after-next-content c) .args .library .now) (at-loop c .loop .at) (step c)
 
 loop-again : tie.Need-loop-again Inv-loop μ-loop
 loop-again c =
-    let lib = c .before .before .before .before .before .before .before .before .args .library .now in
-    let l = c .before .before .before .before .loop in
+    let lib = at-entry (after-next-content c) .args .library .now in
+    let l = at-loop c .loop in
     let i = l .inv in
     let s : Section = record { content = c .before .content .given .0 .0; fixups = fixupsLeft lib (c .before .content .given .0 .1 .0) } in
     record {
@@ -106,7 +126,7 @@ same-length-2 c = c .before .before .before .loop .inv .places-long
 
 returns : tie.Need-returns Inv-loop μ-loop
 returns c =
-    let lib = c .before .before .before .before .before .before .before .args .library .now in
+    let lib = at-entry (c .before .before) .args .library .now in
     let l = c .before .before .before .loop in
     let none = next-content-yields lib (l .at) ∙ ap (sectionsAfter lib) (sym (c .before .before .next-content .ensures) ∙ c .enum-told .given .1) in
     record {

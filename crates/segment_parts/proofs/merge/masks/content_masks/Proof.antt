@@ -26,14 +26,23 @@ Inv-loop library masks₀ c₀ masks c = Inv library masks₀ c₀ masks c
 abbrev μ-loop : tie.MeasureT-loop
 μ-loop library masks₀ c₀ masks c = length (fixupsLeft library c)
 
+-- The ladder: places of the code that the answers cite, each as it is seen from a later place.
+abbrev at-entry : tie.After-next-fixup Inv-loop μ-loop → tie.Start Inv-loop μ-loop
+at-entry c = c .before .before .before .before .before .before .before .before
+
+abbrev after-next-fixup : tie.After-known-told Inv-loop μ-loop → tie.After-next-fixup Inv-loop μ-loop
+after-next-fixup c = c .before .before .before
+
 -- the next fixup, once it is known
 abbrev Told : Type 0
 Told = tie.After-known-told Inv-loop μ-loop
 
-yields : (c : Told) → fixupsLeft (now (c .before .before .before .before .before .before .before .before .before .before .before .args .library)) (c .before .before .before .before .loop .c) ≡ c .before .fixup .given .0 .0 ∷ fixupsLeft (now (c .before .before .before .before .before .before .before .before .before .before .before .args .library)) (c .before .fixup .given .0 .1 .0)
+yields : (c : Told) → fixupsLeft (now (at-entry (after-next-fixup c) .args .library)) (after-next-fixup c .before .loop .c) ≡
+    c .before .fixup .given .0 .0 ∷ fixupsLeft (now (at-entry (after-next-fixup c) .args .library)) (c .before .fixup .given .0 .1 .0)
 yields c =
-    let lib = c .before .before .before .before .before .before .before .before .before .before .before .args .library .now in
-    next-fixup-yields lib (c .before .before .before .before .loop .c) ∙ ap (fixupsAfter lib) (sym (c .before .before .before .next-fixup .ensures) ∙ c .before .fixup .given .1)
+    let next-fixup = after-next-fixup c in
+    let lib = at-entry next-fixup .args .library .now in
+    next-fixup-yields lib (next-fixup .before .loop .c) ∙ ap (fixupsAfter lib) (sym (next-fixup .next-fixup .ensures) ∙ c .before .fixup .given .1)
 
 loop-holds : tie.Need-loop-holds Inv-loop μ-loop
 loop-holds c = record { long = refl; whole = refl }
@@ -43,7 +52,7 @@ loop-less c = rw (yields (c .before .before .before .before)) (omega arith)
 
 loop-again : tie.Need-loop-again Inv-loop μ-loop
 loop-again c =
-    let l = c .before .before .before .before .before .before .before .before .loop in
+    let l = after-next-fixup (c .before .before .before .before) .before .loop in
     let f = c .before .before .before .before .before .fixup .given .0 .0 in
     let e = c .before .before .mask .ensures in
     record {
@@ -57,7 +66,7 @@ same-length c = c .before .before .before .loop .inv .long ∙ ap length (c .bef
 returns : tie.Need-returns Inv-loop μ-loop
 returns c =
     let l = c .before .before .before .loop in
-    let lib = c .before .before .before .before .before .before .before .before .before .before .args .library .now in
+    let lib = at-entry (c .before .before) .args .library .now in
     let e = next-fixup-yields lib (l .c) ∙ ap (fixupsAfter lib) (sym (c .before .before .next-fixup .ensures) ∙ c .enum-told .given .1) in
     masks-done _ _ (l .inv .whole) e (c .before .before .before .before .before .before .set-all .ensures)
 

@@ -36,7 +36,9 @@ same-length : tie.Need-same-length Inv-loop μ-loop
 same-length c = c .before .before .loop .inv .long
 
 returns : tie.Need-returns Inv-loop μ-loop
-returns c = record { long = c .before .before .loop .inv .long; clear = λ k. clear-all (c .before .before .before .before .args .s) (c .before .before .loop .flags) (c .before .before .loop .b) (c .before .before .loop .inv .clear k) (omega arith) }
+returns c =
+    let loop = c .before .before in
+    record { long = loop .loop .inv .long; clear = λ k. clear-all (loop .before .before .args .s) (loop .loop .flags) (loop .loop .b) (loop .loop .inv .clear k) (omega arith) }
 
 pub clear-blocks-spec : {M : Type 1} → statement M
 clear-blocks-spec =

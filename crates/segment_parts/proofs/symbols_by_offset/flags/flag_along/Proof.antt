@@ -22,22 +22,37 @@ Inv-loop link next flags₀ last₀ here₀ s₀ flags last here s = Inv link ne
 abbrev μ-loop : tie.MeasureT-loop
 μ-loop link next flags₀ last₀ here₀ s₀ flags last here s = 2 ^ 32 - last
 
+-- The ladder: places of the code that the answers cite, each as it is seen from a later place.
+abbrev at-loop : tie.After-slice-known2 Inv-loop μ-loop → tie.At-loop Inv-loop μ-loop
+at-loop c = c .before .before .before .before .before
+
 loop-holds : tie.Need-loop-holds Inv-loop μ-loop
-loop-holds c = record { small = omega (arith, c .before .before .fits); grows = grows-none (c .before .before .args .flags .now) (c .before .before .args .before); way = λ keys first v l w e. way-starts keys v (c .before .before .args .flags .now) (c .before .before .args .before) e }
+loop-holds c =
+    let entry = c .before .before in
+    record {
+      small = omega (arith, entry .fits);
+      grows = grows-none (entry .args .flags .now) (entry .args .before);
+      way = λ keys first v l w e. way-starts keys v (entry .args .flags .now) (entry .args .before) e;
+    }
 
 flag-block-requires : tie.Need-flag-block-requires Inv-loop μ-loop
 flag-block-requires c κs = omega (arith, c .before .before .loop .inv .small)
 
 loop-less : tie.Need-loop-less Inv-loop μ-loop
-loop-less c = omega (arith, c .before .before .before .before .before .before .loop .inv .small)
+loop-less c = omega (arith, at-loop (c .before) .loop .inv .small)
 
 loop-again : tie.Need-loop-again Inv-loop μ-loop
 loop-again c =
-    let l = c .before .before .before .before .before .before .loop in
+    let flag-block = c .before .before .before in
+    let loop = at-loop (c .before) in
+    let entry = loop .before .before .before in
+    let l = loop .loop in
     record {
-      small = rw (c .number-at .ensures) (omega (arith, c .before .before .before .before .before .before .before .before .shared-slice-known .given (l .here - 1)));
-      grows = grows-on (l .inv .grows) (c .before .before .before .flag-block .ensures .grows);
-      way = λ keys first v k w e. rw (c .number-at .ensures) (way-on keys v (l .last) (l .here) (l .inv .way keys first v k w e) first (c .before .before .before .before .before .before .before .before .before .args .next .now) (c .before .before .before .before .before .before .before .before .before .args .flags .now) (omega arith) k w (l .inv .grows .long) (c .before .before .before .flag-block .ensures));
+      small = rw (c .number-at .ensures) (omega (arith, loop .before .before .shared-slice-known .given (l .here - 1)));
+      grows = grows-on (l .inv .grows) (flag-block .flag-block .ensures .grows);
+      way = λ keys first v k w e. rw (c .number-at .ensures)
+          (way-on keys v (l .last) (l .here) (l .inv .way keys first v k w e) first (entry .args .next .now) (entry .args .flags .now) (omega arith)
+          k w (l .inv .grows .long) (flag-block .flag-block .ensures));
     }
 
 same-length : tie.Need-same-length Inv-loop μ-loop

@@ -5,7 +5,11 @@ use Rattle.segment_parts.proofs.symbols_by_offset.flags.flag_block.Stat
 use Rattle.segment_parts.proofs.symbols_by_offset.flags.flag_block.Tie as tie
 
 returns : tie.Need-returns
-returns c = rw (c .before .before .before .before .put-flag .ensures) (block-flagged (c .before .before .before .before .before .before .before .args .flags .now) (c .before .before .before .before .before .before .before .args .s) (record { low = c .before .lower .result; high = c .higher .result }) (c .before .before .before .before .before .before .before .args .b) (c .before .lower .ensures) (c .higher .ensures))
+returns c =
+    let entry = c .before .before .before .before .before .before .before in
+    rw (c .before .before .before .before .put-flag .ensures)
+    (block-flagged (entry .args .flags .now) (entry .args .s) (record { low = c .before .lower .result; high = c .higher .result })
+    (entry .args .b) (c .before .lower .ensures) (c .higher .ensures))
 
 pub flag-block-spec : {M : Type 1} → statement M
 flag-block-spec =

@@ -30,12 +30,15 @@ loop-less c = omega arith
 
 loop-again : tie.Need-loop-again Inv-loop μ-loop
 loop-again c =
-    let l = c .before .before .before .before .before .before .loop in
-    let a = c .before .before .before .before .before .before .before .before .before .before .args in
-    let along : FlagsAlong _ (a .next .now) (l .flags) (l .s) _ (c .before .before .flag-along .result) = subst (λ h. FlagsAlong h (a .next .now) (l .flags) (l .s) (c .before .before .flag-along .last .1 .1 .1 .0) (c .before .before .flag-along .result)) (c .before .before .before .before .head-at .ensures) (c .before .before .flag-along .ensures) in
+    let flag-along = c .before .before in
+    let l = flag-along .before .before .before .before .loop in
+    let a = flag-along .before .before .before .before .before .before .before .before .args in
+    let along : FlagsAlong _ (a .next .now) (l .flags) (l .s) _ (flag-along .flag-along .result) = subst
+    (λ h. FlagsAlong h (a .next .now) (l .flags) (l .s) (flag-along .flag-along .last .1 .1 .1 .0) (flag-along .flag-along .result))
+    (flag-along .before .before .head-at .ensures) (flag-along .flag-along .ensures) in
     record {
       within = omega arith;
-      grows = grows-on (l .inv .grows) (c .before .before .flag-along .ensures .grows);
+      grows = grows-on (l .inv .grows) (flag-along .flag-along .ensures .grows);
       covers = λ keys k w z. covers-on keys (a .first .now) (a .next .now) (a .at) (l .i) (a .flags .now) k w (l .inv .grows .long) z along (l .inv .covers keys k w z);
     }
 

@@ -10,7 +10,9 @@ returns : tie.Need-returns
 returns c = rw (lt-leb (c .before .args .at) (c .before .args .v) (omega arith)) refl
 
 returns-2 : tie.Need-returns-2
-returns-2 c = inside-test (c .before .args .at) (c .before .args .len) (c .before .args .v) (omega arith)
+returns-2 c =
+    let entry = c .before in
+    inside-test (entry .args .at) (entry .args .len) (entry .args .v) (omega arith)
 
 pub is-inside-spec : {M : Type 1} → statement M
 is-inside-spec = tie.close (tie.spec returns returns-2)

@@ -33,22 +33,33 @@ Inv-loop library at len own keys n places s flags m₀ j₀ f₀ m j f = Inv lib
 abbrev μ-loop : tie.MeasureT-loop
 μ-loop library at len own keys n places s flags m₀ j₀ f₀ m j f = n - j
 
+-- The ladder: places of the code that the answers cite, each as it is seen from a later place.
+abbrev at-entry : tie.After-struct-known Inv-loop μ-loop → tie.Start Inv-loop μ-loop
+at-entry c = c .before .before .before .before .before .before
+
 loop-holds : tie.Need-loop-holds Inv-loop μ-loop
 loop-holds c =
-    let a = c .before .before .before .before .before .before .args in
-    record { long = refl; left = λ p t k. left-past (a .library .now) (a .keys .now) (a .n) (a .places .now) p t (a .at) (a .len) (a .own) (a .s) (a .flags .now) k (a .m .now) (a .before) 0 (a .s .low * 256) (a .m .now) (a .before) (omega arith) (λ j x y fl. omega (arith, fl .from)) (left-all (a .library .now) (a .keys .now) (a .n) (a .places .now) p t (a .at) (a .len) (a .own) (a .s) (a .flags .now) k (a .m .now) (a .before)) }
+    let a = at-entry c .args in
+    record {
+      long = refl;
+      left = λ p t k. left-past (a .library .now) (a .keys .now) (a .n) (a .places .now) p t (a .at) (a .len) (a .own) (a .s) (a .flags .now) k
+          (a .m .now) (a .before) 0 (a .s .low * 256) (a .m .now) (a .before) (omega arith) (λ j x y fl. omega (arith, fl .from))
+          (left-all (a .library .now) (a .keys .now) (a .n) (a .places .now) p t (a .at) (a .len) (a .own) (a .s) (a .flags .now) k (a .m .now) (a .before));
+    }
 
 same-length : tie.Need-same-length Inv-loop μ-loop
 same-length c = c .before .before .before .loop .inv .long
 
 returns : tie.Need-returns Inv-loop μ-loop
 returns c =
-    let a = c .before .before .before .before .before .before .before .before .before .before .args in
+    let a = at-entry (c .before .before .before .before) .args in
     let l = c .before .before .before .loop in
     record {
       long = l .inv .long;
-      adds = λ p t k. left-none (a .library .now) (a .keys .now) (a .n) (a .places .now) p t (a .at) (a .len) (a .own) (a .s) (a .flags .now) k (a .m .now) (a .before) (l .j + a .n) (l .m) (l .f) (omega arith)
-          (left-past (a .library .now) (a .keys .now) (a .n) (a .places .now) p t (a .at) (a .len) (a .own) (a .s) (a .flags .now) k (a .m .now) (a .before) (l .j) (l .j + a .n) (l .m) (l .f) (omega arith) (λ j x y fl. omega (arith, fl .below)) (l .inv .left p t k));
+      adds = λ p t k. left-none (a .library .now) (a .keys .now) (a .n) (a .places .now) p t (a .at) (a .len) (a .own) (a .s) (a .flags .now) k
+          (a .m .now) (a .before) (l .j + a .n) (l .m) (l .f) (omega arith)
+          (left-past (a .library .now) (a .keys .now) (a .n) (a .places .now) p t (a .at) (a .len) (a .own) (a .s) (a .flags .now) k (a .m .now)
+          (a .before) (l .j) (l .j + a .n) (l .m) (l .f) (omega arith) (λ j x y fl. omega (arith, fl .below)) (l .inv .left p t k));
     }
 
 loop-less : tie.Need-loop-less Inv-loop μ-loop
@@ -56,11 +67,12 @@ loop-less c = omega arith
 
 loop-again : tie.Need-loop-again Inv-loop μ-loop
 loop-again c =
-    let a = c .before .before .before .before .before .before .before .before .before .before .before .before .args in
+    let a = at-entry (c .before .before .before .before .before .before) .args in
     let l = c .before .before .before .before .before .loop in
     record {
       long = l .inv .long;
-      left = λ p t k. left-past (a .library .now) (a .keys .now) (a .n) (a .places .now) p t (a .at) (a .len) (a .own) (a .s) (a .flags .now) k (a .m .now) (a .before) (l .j) _ (l .m) (l .f) (omega arith) (unflagged (a .flags .now) (a .s) (l .j) (sym (c .before .flag-at .ensures) ∙ c .if2 .taken)) (l .inv .left p t k);
+      left = λ p t k. left-past (a .library .now) (a .keys .now) (a .n) (a .places .now) p t (a .at) (a .len) (a .own) (a .s) (a .flags .now) k
+          (a .m .now) (a .before) (l .j) _ (l .m) (l .f) (omega arith) (unflagged (a .flags .now) (a .s) (l .j) (sym (c .before .flag-at .ensures) ∙ c .if2 .taken)) (l .inv .left p t k);
     }
 
 loop-less-2 : tie.Need-loop-less-2 Inv-loop μ-loop
@@ -68,11 +80,14 @@ loop-less-2 c = omega arith
 
 loop-again-2 : tie.Need-loop-again-2 Inv-loop μ-loop
 loop-again-2 c =
-    let a = c .before .before .before .before .before .before .before .before .before .before .before .before .before .before .before .before .args in
-    let l = c .before .before .before .before .before .before .before .before .before .loop in
+    let name-place = c .before .before in
+    let a = at-entry (name-place .before .before .before .before .before .before .before .before) .args in
+    let l = name-place .before .before .before .before .before .before .before .loop in
     record {
-      long = c .before .before .name-place .ensures .long ∙ l .inv .long;
-      left = λ p t k. left-one (a .library .now) (a .keys .now) (a .n) (a .places .now) p t (a .at) (a .len) (a .own) (a .s) (a .flags .now) k (a .m .now) (a .before) (l .j) (l .m) (c .before .before .name-place .last .1 .1 .1 .1 .1 .1 .1 .0) (l .f) (c .before .before .name-place .result) (omega arith) (c .before .before .name-place .ensures) (l .inv .left p t k);
+      long = name-place .name-place .ensures .long ∙ l .inv .long;
+      left = λ p t k. left-one (a .library .now) (a .keys .now) (a .n) (a .places .now) p t (a .at) (a .len) (a .own) (a .s) (a .flags .now) k
+          (a .m .now) (a .before) (l .j) (l .m) (name-place .name-place .last .1 .1 .1 .1 .1 .1 .1 .0) (l .f) (name-place .name-place .result)
+          (omega arith) (name-place .name-place .ensures) (l .inv .left p t k);
     }
 
 same-length-2 : tie.Need-same-length-2 Inv-loop μ-loop
@@ -80,9 +95,13 @@ same-length-2 c = c .before .loop .inv .long
 
 returns-2 : tie.Need-returns-2 Inv-loop μ-loop
 returns-2 c =
-    let a = c .before .before .before .before .before .before .before .before .args in
+    let a = at-entry (c .before .before) .args in
     let l = c .before .loop in
-    record { long = l .inv .long; adds = λ p t k. left-none (a .library .now) (a .keys .now) (a .n) (a .places .now) p t (a .at) (a .len) (a .own) (a .s) (a .flags .now) k (a .m .now) (a .before) (l .j) (l .m) (l .f) (omega arith) (l .inv .left p t k) }
+    record {
+      long = l .inv .long;
+      adds = λ p t k. left-none (a .library .now) (a .keys .now) (a .n) (a .places .now) p t (a .at) (a .len) (a .own) (a .s) (a .flags .now) k
+          (a .m .now) (a .before) (l .j) (l .m) (l .f) (omega arith) (l .inv .left p t k);
+    }
 
 pub name-blocks-spec : {M : Type 1} → statement M
 name-blocks-spec =

@@ -7,29 +7,45 @@ use borrow.Author.Needs.{needs}
 use Rattle.segment_parts.proofs.symbols_by_offset.names.name_inside.Statement.{statement}
 use Rattle.segment_parts.proofs.symbols_by_offset.names.name_inside.Tie as tie
 
+-- The ladder: places of the code that the answers cite, each as it is seen from a later place.
+abbrev at-entry : tie.After-flag-inside-arg → tie.Start
+at-entry c = c .before .before .before .before .before .before .before .before
+
+abbrev after-name-blocks : tie.After-slice-known5 → tie.After-name-blocks
+after-name-blocks c = c .before .before .before .before .before .before
+
+abbrev after-flag-inside : tie.After-slice-known5 → tie.After-flag-inside
+after-flag-inside c = after-name-blocks c .before .before .before .before .before
+
 flag-inside-requires : tie.Need-flag-inside-requires
-flag-inside-requires c κs = (c .before .before .before .before .before .before .before .before .pre .0, c .before .before .before .before .before .before .before .before .pre .1 .0)
+flag-inside-requires c κs = (at-entry c .pre .0, at-entry c .pre .1 .0)
 
 name-blocks-requires : tie.Need-name-blocks-requires
 name-blocks-requires c κs =
-    let b = c .before .before .before .before .flag-inside .ensures .grows .bounds (none-flagged (c .before .before .before .before .before .before .before .before .before .before .before .before .before .args .flags .now) (c .before .before .before .before .before .before .before .before .before .before .before .before .before .pre .1 .1)) in
+    let entry = at-entry (c .before .before .before .before .before) in
+    let b = c .before .before .before .before .flag-inside .ensures .grows .bounds (none-flagged (entry .args .flags .now) (entry .pre .1 .1)) in
     (b .low-small, b .high-small)
 
 same-length : tie.Need-same-length
-same-length c = c .before .before .clear-blocks .ensures .long ∙ c .before .before .before .before .before .before .before .before .before .before .before .flag-inside .ensures .grows .long
+same-length c = c .before .before .clear-blocks .ensures .long ∙ after-flag-inside c .flag-inside .ensures .grows .long
 
 same-length-2 : tie.Need-same-length-2
-same-length-2 c = c .before .before .before .before .before .before .name-blocks .ensures .long
+same-length-2 c = after-name-blocks c .name-blocks .ensures .long
 
 returns : tie.Need-returns
 returns c =
-    let a = c .before .before .before .before .before .before .before .before .before .before .before .before .before .before .before .before .before .before .before .before .args in
-    let f = c .before .before .before .before .before .before .before .before .before .before .before .flag-inside .ensures in
+    let clear-blocks = c .before .before in
+    let flag-inside = after-flag-inside c in
+    let entry = at-entry (flag-inside .before) in
+    let a = entry .args in
+    let f = flag-inside .flag-inside .ensures in
     record {
-      long = c .before .before .before .before .before .before .name-blocks .ensures .long;
-      flags-long = c .before .before .clear-blocks .ensures .long ∙ f .grows .long;
-      clear = c .before .before .clear-blocks .ensures .clear (f .grows .bounds (none-flagged (a .flags .now) (c .before .before .before .before .before .before .before .before .before .before .before .before .before .before .before .before .before .before .before .before .pre .1 .1)));
-      adds = λ p o. c .before .before .before .before .before .before .name-blocks .ensures .adds p (o .standing) (f .met (take (a .n) (a .keys .now)) (o .linked) (o .wide) (words-taken (a .keys .now) (a .n) (λ j. omega (arith, c .before .before .before .before .before .before .before .before .before .before .before .before .before .before .before .before .before .before .shared-slice-known2 .given j))));
+      long = after-name-blocks c .name-blocks .ensures .long;
+      flags-long = clear-blocks .clear-blocks .ensures .long ∙ f .grows .long;
+      clear = clear-blocks .clear-blocks .ensures .clear (f .grows .bounds (none-flagged (a .flags .now) (entry .pre .1 .1)));
+      adds = λ p o. c .before .before .before .before .before .before .name-blocks .ensures .adds p (o .standing)
+          (f .met (take (a .n) (a .keys .now)) (o .linked) (o .wide)
+          (words-taken (a .keys .now) (a .n) (λ j. omega (arith, flag-inside .before .before .before .before .before .before .before .shared-slice-known2 .given j))));
     }
 
 pub name-inside-spec : {M : Type 1} → statement M

@@ -17,14 +17,18 @@ use Rattle.segment_parts.proofs.symbols_by_offset.names.name_place.Stat
 use Rattle.segment_parts.proofs.symbols_by_offset.names.name_place.Tie as tie
 
 append-public-requires : tie.Need-append-public-requires
-append-public-requires c κs = rw (c .before .number-at .ensures) (omega (arith, c .before .before .before .before .before .before .shared-slice-known3 .given (c .before .before .before .before .before .before .before .before .before .args .j)))
+append-public-requires c κs = rw (c .before .number-at .ensures)
+    (omega (arith, c .before .before .before .before .before .before .shared-slice-known3 .given (c .before .before .before .before .before .before .before .before .before .args .j)))
 
 returns : tie.Need-returns
 returns c =
-    let a = c .before .before .before .before .before .before .before .before .before .before .before .before .args in
+    let append-public = c .before .before in
+    let a = append-public .before .before .before .before .before .before .before .before .before .before .args in
     record {
-      long = c .before .before .append-public .ensures .long;
-      adds = λ d e s. subst (λ x. Adds symbolLayout (symbolBy (Inside (a .at) (a .len) (a .own)) x) (a .m .now) (a .f) (c .before .before .append-public .last .1 .1 .1 .0) (c .before .before .append-public .result)) (ap (publicAt (a .library .now) (idOf d)) (c .before .before .before .before .number-at .ensures) ∙ s) (c .before .before .append-public .ensures .adds (idOf d));
+      long = append-public .append-public .ensures .long;
+      adds = λ d e s. subst (λ x. Adds symbolLayout (symbolBy (Inside (a .at) (a .len) (a .own)) x) (a .m .now) (a .f)
+          (append-public .append-public .last .1 .1 .1 .0) (append-public .append-public .result))
+          (ap (publicAt (a .library .now) (idOf d)) (append-public .before .before .number-at .ensures) ∙ s) (append-public .append-public .ensures .adds (idOf d));
     }
 
 returns-2 : tie.Need-returns-2

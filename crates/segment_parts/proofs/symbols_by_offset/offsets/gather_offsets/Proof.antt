@@ -64,34 +64,45 @@ Inv-loop library from keys₀ places₀ c₀ n₀ keys places c n = Inv library 
 abbrev μ-loop : tie.MeasureT-loop
 μ-loop library from keys₀ places₀ c₀ n₀ keys places c n = length (definitionsLeft library c)
 
+-- The ladder: places of the code that the answers cite, each as it is seen from a later place.
+abbrev at-loop : tie.After-known-told Inv-loop μ-loop → tie.At-loop Inv-loop μ-loop
+at-loop c = c .before .before .before .before
+
+abbrev at-entry : tie.After-known-told Inv-loop μ-loop → tie.Start Inv-loop μ-loop
+at-entry c = at-loop c .before .before .before .before .before
+
+abbrev after-known-told : tie.After-known-told2 Inv-loop μ-loop → tie.After-known-told Inv-loop μ-loop
+after-known-told c = c .before .before .before
+
 -- the next definition, once it is known
 abbrev Told : Type 0
 Told = tie.After-known-told Inv-loop μ-loop
 
-step : (c : Told) → nextDefinition (now (c .before .before .before .before .before .before .before .before .before .args .library)) (c .before .before .before .before .loop .c) ≡ Item (c .before .definition .given .0 .0) (c .before .definition .given .0 .1 .0)
+step : (c : Told) → nextDefinition (now (at-entry c .args .library)) (at-loop c .loop .c) ≡ Item (c .before .definition .given .0 .0) (c .before .definition .given .0 .1 .0)
 step c = sym (c .before .before .before .next-definition .ensures) ∙ c .before .definition .given .1
 
-goes : (c : Told) → Sized (now (c .before .before .before .before .before .before .before .before .before .args .library)) 5 (c .before .before .before .before .loop .c) (c .before .definition .given .0 .1 .0)
-goes c = definition-sized (c .before .before .before .before .before .before .before .before .before .args .library .now) (c .before .before .before .before .loop .c) (c .before .before .before .before .loop .inv .ordered) (step c)
+goes : (c : Told) → Sized (now (at-entry c .args .library)) 5 (at-loop c .loop .c) (c .before .definition .given .0 .1 .0)
+goes c = definition-sized (at-entry c .args .library .now) (at-loop c .loop .c) (at-loop c .loop .inv .ordered) (step c)
 
 -- there is room for it
-below : (c : Told) → 5 * c .before .before .before .before .loop .n + 5 < 4294967296
-below c = omega (arith, c .before .before .before .before .loop .inv .few, goes c .size-later, goes c .forward .inside, c .before .before .before .before .before .before .before .before .before .pre .short)
+below : (c : Told) → 5 * at-loop c .loop .n + 5 < 4294967296
+below c = omega (arith, at-loop c .loop .inv .few, goes c .size-later, goes c .forward .inside, at-entry c .pre .short)
 
-room : (c : Told) → (c .before .before .before .before .loop .n < length (c .before .before .before .before .loop .keys)) × (c .before .before .before .before .loop .n < length (c .before .before .before .before .loop .places))
+room : (c : Told) → (at-loop c .loop .n < length (at-loop c .loop .keys)) × (at-loop c .loop .n < length (at-loop c .loop .places))
 room c =
-    let i = c .before .before .before .before .loop .inv in
+    let i = at-loop c .loop .inv in
     let g = goes c in
-    let r = c .before .before .before .before .before .before .before .before .before .pre in
+    let r = at-entry c .pre in
     (omega (arith, i .few, g .size-later, g .forward .inside, r .for-keys, i .keys-long), omega (arith, i .few, g .size-later, g .forward .inside, r .for-places, i .places-long))
 
 -- with it the rest goes on, whether it is stored or not
-goes-on : (c : Told) (n : ℕ) (keys places : List ℕ) (d : Definition) → d ≡ c .before .definition .given .0 .0 → length keys ≡ length (c .before .before .before .before .before .before .before .before .before .args .keys .now) → length places ≡ length (c .before .before .before .before .before .before .before .before .before .args .places .now)
-    → 5 * n ≤ c .before .before .before .before .loop .c .at + 5 → Zero-held (c .before .before .before .before .before .before .before .before .before .args .library .now) (c .before .before .before .before .loop .inv .done ++ one d) keys places n
-    → Inv (c .before .before .before .before .before .before .before .before .before .args .library .now) (c .before .before .before .before .before .before .before .before .before .args .from) (c .before .before .before .before .before .before .before .before .before .args .keys .now) (c .before .before .before .before .before .before .before .before .before .args .places .now) keys places (c .before .definition .given .0 .1 .0) n
+goes-on : (c : Told) (n : ℕ) (keys places : List ℕ) (d : Definition) → d ≡ c .before .definition .given .0 .0 → length keys ≡ length
+    (at-entry c .args .keys .now) → length places ≡ length (at-entry c .args .places .now)
+    → 5 * n ≤ at-loop c .loop .c .at + 5 → Zero-held (at-entry c .args .library .now) (at-loop c .loop .inv .done ++ one d) keys places n
+    → Inv (at-entry c .args .library .now) (at-entry c .args .from) (at-entry c .args .keys .now) (at-entry c .args .places .now) keys places (c .before .definition .given .0 .1 .0) n
 goes-on c n keys places d e k p few held =
-    let lib = c .before .before .before .before .before .before .before .before .before .args .library .now in
-    let l = c .before .before .before .before .loop in
+    let lib = at-entry c .args .library .now in
+    let l = at-loop c .loop in
     let same : nextDefinition lib (l .c) ≡ Item d (c .before .definition .given .0 .1 .0) = step c ∙ ap (λ x. Item x (c .before .definition .given .0 .1 .0)) (sym e) in
     record {
       keys-long = k;
@@ -108,13 +119,16 @@ abbrev Found : Type 0
 Found = tie.After-known-told2 Inv-loop μ-loop
 
 abbrev this : Found → Definition
-this c = Public (c .before .definition2 .given .0 .0) (c .before .definition2 .given .0 .1 .0) (c .before .definition2 .given .0 .1 .1 .0)
+this c =
+    let definition2 = c .before in
+    Public (definition2 .definition2 .given .0 .0) (definition2 .definition2 .given .0 .1 .0) (definition2 .definition2 .given .0 .1 .1 .0)
 
-step-public : (c : Found) → nextDefinition (now (c .before .before .before .before .before .before .before .before .before .before .before .before .args .library)) (c .before .before .before .before .before .before .before .loop .c) ≡ Item (this c) (c .before .before .before .before .definition .given .0 .1 .0)
-step-public c = step (c .before .before .before) ∙ ap (λ d. Item d (c .before .before .before .before .definition .given .0 .1 .0)) (c .before .definition2 .given .1)
+step-public : (c : Found) → nextDefinition (now (at-entry (after-known-told c) .args .library)) (at-loop (after-known-told c) .loop .c)
+    ≡ Item (this c) (after-known-told c .before .definition .given .0 .1 .0)
+step-public c = step (after-known-told c) ∙ ap (λ d. Item d (after-known-told c .before .definition .given .0 .1 .0)) (c .before .definition2 .given .1)
 
-again : (c : Found) → PublicAgain (now (c .before .before .before .before .before .before .before .before .before .before .before .before .args .library)) (c .before .definition2 .given .0 .1 .0) (c .before .definition2 .given .0 .1 .1 .0)
-again c = public-again (c .before .before .before .before .before .before .before .before .before .before .before .before .args .library .now) (c .before .before .before .before .before .before .before .loop .c) (step-public c)
+again : (c : Found) → PublicAgain (now (at-entry (after-known-told c) .args .library)) (c .before .definition2 .given .0 .1 .0) (c .before .definition2 .given .0 .1 .1 .0)
+again c = public-again (at-entry (after-known-told c) .args .library .now) (at-loop (after-known-told c) .loop .c) (step-public c)
 
 loop-holds : tie.Need-loop-holds Inv-loop μ-loop
 loop-holds c =
@@ -132,31 +146,40 @@ loop-holds c =
     })
 
 cast-keys : tie.Need-cast-keys Inv-loop μ-loop
-cast-keys c = omega (arith, again (c .before .before) .offset-is, word-small (c .before .before .before .before .before .before .before .before .before .before .before .before .before .before .args .library .now) (λ i. omega (arith, c .before .before .before .before .before .before .before .before .before .before .before .before .before .shared-slice-known .given i)) (c .before .before .before .definition2 .given .0 .1 .1 .0 .at - 4))
+cast-keys c =
+    let known-told = after-known-told (c .before .before) in
+    omega (
+      arith,
+      again (c .before .before) .offset-is,
+      word-small (at-entry known-told .args .library .now)
+          (λ i. omega (arith, at-loop known-told .before .before .before .before .shared-slice-known .given i)) (c .before .before .before .definition2 .given .0 .1 .1 .0 .at - 4),
+    )
 
 mul-keys : tie.Need-mul-keys Inv-loop μ-loop
-mul-keys c = omega (arith, below (c .before .before .before .before .before))
+mul-keys c = omega (arith, below (after-known-told (c .before .before)))
 
 slice-write-keys : tie.Need-slice-write-keys Inv-loop μ-loop
-slice-write-keys c = room (c .before .before .before .before .before) .0
+slice-write-keys c = room (after-known-told (c .before .before)) .0
 
 sub-places : tie.Need-sub-places Inv-loop μ-loop
 sub-places c = omega (arith, again (c .before .before .before) .front)
 
 cast-places : tie.Need-cast-places Inv-loop μ-loop
-cast-places c = omega (arith, again (c .before .before .before) .inside, c .before .before .before .before .before .before .before .before .before .before .before .before .before .before .before .pre .short)
+cast-places c = omega (arith, again (c .before .before .before) .inside, at-entry (after-known-told (c .before .before .before)) .pre .short)
 
 mul-places : tie.Need-mul-places Inv-loop μ-loop
-mul-places c = omega (arith, below (c .before .before .before .before .before .before))
+mul-places c = omega (arith, below (after-known-told (c .before .before .before)))
 
 slice-write-places : tie.Need-slice-write-places Inv-loop μ-loop
-slice-write-places c = room (c .before .before .before .before .before .before) .1
+slice-write-places c = room (after-known-told (c .before .before .before)) .1
 
 add-n : tie.Need-add-n Inv-loop μ-loop
-add-n c = omega (arith, below (c .before .before .before .before .before .before))
+add-n c = omega (arith, below (after-known-told (c .before .before .before)))
 
 loop-less : tie.Need-loop-less Inv-loop μ-loop
-loop-less c = fewer-definitions (c .before .before .before .before .before .before .before .before .before .before .before .before .before .before .before .args .library .now) (c .before .before .before .before .before .before .before .before .before .before .loop .c) (step (c .before .before .before .before .before .before))
+loop-less c =
+    let known-told = after-known-told (c .before .before .before) in
+    fewer-definitions (at-entry known-told .args .library .now) (at-loop known-told .loop .c) (step known-told)
 
 loop-again : tie.Need-loop-again Inv-loop μ-loop
 loop-again c =
@@ -164,26 +187,34 @@ loop-again c =
     let l = c .before .before .before .before .before .before .before .before .before .before .loop in
     let d : Definition = this (c .before .before .before) in
     let name = c .before .before .before .before .definition2 .given .0 .1 .1 .0 in
-    goes-on (c .before .before .before .before .before .before) (l .n + 1) _ _ d (sym (c .before .before .before .before .definition2 .given .1)) (length-set (l .keys) (l .n) _ ∙ l .inv .keys-long) (length-set (l .places) (l .n) _ ∙ l .inv .places-long) (omega (arith, l .inv .few))
-    (rw (zero-kept (l .inv .done) d refl (eq-eqb _ _ (c .before .if1 .taken))) (gather-turn offsetKey (Stands lib) noDefinition (zeroPublics (l .inv .done)) (l .keys) (l .places) (l .n) d (name .at - 4) (room (c .before .before .before .before .before .before) .0) (room (c .before .before .before .before .before .before) .1) (read-again lib _ _ name (again (c .before .before .before))) (l .inv .gathered)))
+    goes-on (c .before .before .before .before .before .before) (l .n + 1) _ _ d (sym (c .before .before .before .before .definition2 .given .1)) (length-set (l .keys) (l .n) _ ∙ l .inv .keys-long)
+    (length-set (l .places) (l .n) _ ∙ l .inv .places-long) (omega (arith, l .inv .few))
+    (rw (zero-kept (l .inv .done) d refl (eq-eqb _ _ (c .before .if1 .taken)))
+    (gather-turn offsetKey (Stands lib) noDefinition (zeroPublics (l .inv .done)) (l .keys) (l .places) (l .n) d (name .at - 4)
+    (room (c .before .before .before .before .before .before) .0) (room (c .before .before .before .before .before .before) .1)
+    (read-again lib _ _ name (again (c .before .before .before))) (l .inv .gathered)))
 
 loop-less-2 : tie.Need-loop-less-2 Inv-loop μ-loop
-loop-less-2 c = fewer-definitions (c .before .before .before .before .before .before .before .before .before .before .before .before .before .before .args .library .now) (c .before .before .before .before .before .before .before .before .before .loop .c) (step (c .before .before .before .before .before))
+loop-less-2 c =
+    let known-told = after-known-told (c .before .before) in
+    fewer-definitions (at-entry known-told .args .library .now) (at-loop known-told .loop .c) (step known-told)
 
 loop-again-2 : tie.Need-loop-again-2 Inv-loop μ-loop
 loop-again-2 c =
     let l = c .before .before .before .before .before .before .before .before .before .loop in
     let d : Definition = this (c .before .before) in
-    goes-on (c .before .before .before .before .before) (l .n) (l .keys) (l .places) d (sym (c .before .before .before .definition2 .given .1)) (l .inv .keys-long) (l .inv .places-long) (omega (arith, l .inv .few)) (rw (other-id-passed (l .inv .done) d refl (ne-eqb _ _ (c .if1 .left))) (l .inv .gathered))
+    goes-on (c .before .before .before .before .before) (l .n) (l .keys) (l .places) d (sym (c .before .before .before .definition2 .given .1))
+    (l .inv .keys-long) (l .inv .places-long) (omega (arith, l .inv .few)) (rw (other-id-passed (l .inv .done) d refl (ne-eqb _ _ (c .if1 .left))) (l .inv .gathered))
 
 loop-less-3 : tie.Need-loop-less-3 Inv-loop μ-loop
-loop-less-3 c = fewer-definitions (c .before .before .before .before .before .before .before .before .before .before .args .library .now) (c .before .before .before .before .before .loop .c) (step (c .before))
+loop-less-3 c = fewer-definitions (at-entry (c .before) .args .library .now) (at-loop (c .before) .loop .c) (step (c .before))
 
 loop-again-3 : tie.Need-loop-again-3 Inv-loop μ-loop
 loop-again-3 c =
     let l = c .before .before .before .before .before .loop in
     let d = c .before .before .definition .given .0 .0 in
-    goes-on (c .before) (l .n) (l .keys) (l .places) d refl (l .inv .keys-long) (l .inv .places-long) (omega (arith, l .inv .few)) (rw (not-public-passed (l .inv .done) d (not-public d (c .match2 .keys2))) (l .inv .gathered))
+    goes-on (c .before) (l .n) (l .keys) (l .places) d refl (l .inv .keys-long) (l .inv .places-long) (omega (arith, l .inv .few))
+    (rw (not-public-passed (l .inv .done) d (not-public d (c .match2 .keys2))) (l .inv .gathered))
 
 same-length : tie.Need-same-length Inv-loop μ-loop
 same-length c = c .before .before .before .loop .inv .keys-long
