@@ -7,4 +7,5 @@ returns : tie.Need-returns
 returns c = rw (c .goal-from .ensures, c .before .kind-from .ensures, c .before .before .numbers .ensures)
 
 pub reference-at-spec : {M : Type 1} → statement M
-reference-at-spec = tie.close (tie.spec (λ c κs. tt) (λ c. search needs) (λ c. search needs) (λ c κs. tt) (λ c. search needs) (λ c. search needs) (λ c. search needs) (λ c. search needs) (λ c κs. tt) returns)
+reference-at-spec = tie.close (tie.spec (λ c κs. tt) (λ c. search needs) (λ c. search needs) (λ c κs. tt) (λ c. search needs) (λ c. search needs)
+    (λ c. search needs) (λ c. search needs) (λ c κs. tt) returns)

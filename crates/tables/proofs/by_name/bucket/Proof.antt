@@ -25,7 +25,9 @@ cast-h : tie.Need-cast-h Inv-loop μ-loop
 cast-h c = omega (arith, c .shared-slice-known2 .given (c .before .before .loop .i))
 
 add-h : tie.Need-add-h Inv-loop μ-loop
-add-h c = omega (arith, c .before .before .loop .inv .0, c .shared-slice-known2 .given (c .before .before .loop .i))
+add-h c =
+    let loop = c .before .before in
+    omega (arith, loop .loop .inv .0, c .shared-slice-known2 .given (loop .loop .i))
 
 loop-less : tie.Need-loop-less Inv-loop μ-loop
 loop-less c = omega arith
@@ -37,8 +39,9 @@ loop-again c =
 
 returns : tie.Need-returns Inv-loop μ-loop
 returns c =
+    let name = c .before .before in
     let l = c .before .loop in
-    sym (spread-ends (c .before .before .name .result .now) (l .h) (l .i) (c .loop-test .left)) ∙ l .inv .1 ∙ ap (nameBucket (c .before .before .before .before .args .key)) (c .before .before .name .ensures)
+    sym (spread-ends (name .name .result .now) (l .h) (l .i) (c .loop-test .left)) ∙ l .inv .1 ∙ ap (nameBucket (name .before .before .args .key)) (name .name .ensures)
 
 pub bucket-spec : {M : Type 1} → statement M
 bucket-spec =

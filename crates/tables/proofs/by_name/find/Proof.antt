@@ -23,23 +23,33 @@ Inv-loop library m width link key bytes rows here₀ here = Turn (library) width
 abbrev μ-loop : tie.MeasureT-loop
 μ-loop library m width link key bytes rows here₀ here = here
 
+-- The ladder: places of the code that the answers cite, each as it is seen from a later place.
+abbrev at-entry : tie.At-loop Inv-loop μ-loop → tie.Start Inv-loop μ-loop
+at-entry c = c .before .before .before .before .before
+
+abbrev at-in-loop : tie.After-struct-known Inv-loop μ-loop → tie.In-loop Inv-loop μ-loop
+at-in-loop c = c .before .before .before .before
+
 loop-holds : tie.Need-loop-holds Inv-loop μ-loop
 loop-holds c = record { fuel = c .before .before .before .before .args .link; enough = omega arith; right = λ name e. refl }
 
 returns : tie.Need-returns Inv-loop μ-loop
 returns c =
-    let a = c .before .before .before .before .before .before .before .before .before .args in
+    let a = at-entry (c .before .before .before .before) .args in
     let l = c .before .before .before .before .loop in
     let b = c .before .before .before .before .before .before .name .ensures in
-    sym (tag-hit (a .library .now) (a .width) (a .m .now) (a .key) (a .name) (l .inv .fuel) (l .here) (c .before .before .before .loop-test .taken) (l .inv .enough) (c .before .before .tag-at .ensures) b (c .before .is-tagged .ensures) (c .if1 .taken))
+    sym (tag-hit (a .library .now) (a .width) (a .m .now) (a .key) (a .name) (l .inv .fuel) (l .here) (c .before .before .before .loop-test .taken)
+    (l .inv .enough) (c .before .before .tag-at .ensures) b (c .before .is-tagged .ensures) (c .if1 .taken))
     ∙ l .inv .right (a .name) b
 
 returns-2 : tie.Need-returns-2 Inv-loop μ-loop
 returns-2 c =
-    let a = c .before .before .before .before .before .before .before .before .before .before .before .args in
-    let l = c .before .before .before .before .before .before .loop in
-    let b = c .before .before .before .before .before .before .before .before .name .ensures in
-    sym (tag-end (a .library .now) (a .width) (a .m .now) (a .key) (a .name) (l .inv .fuel) (l .here) (c .before .before .before .before .before .loop-test .taken) (l .inv .enough) (c .before .before .before .before .tag-at .ensures) b (c .before .before .before .is-tagged .ensures) (c .before .before .if1 .left) (omega (arith, c .if2 .taken)))
+    let in-loop = at-in-loop (c .before) in
+    let a = at-entry (in-loop .before) .args in
+    let l = in-loop .before .loop in
+    let b = in-loop .before .before .before .name .ensures in
+    sym (tag-end (a .library .now) (a .width) (a .m .now) (a .key) (a .name) (l .inv .fuel) (l .here) (in-loop .loop-test .taken) (l .inv .enough)
+    (c .before .before .before .before .tag-at .ensures) b (c .before .before .before .is-tagged .ensures) (c .before .before .if1 .left) (omega (arith, c .if2 .taken)))
     ∙ l .inv .right (a .name) b
 
 loop-less : tie.Need-loop-less Inv-loop μ-loop
@@ -47,19 +57,21 @@ loop-less c = omega arith
 
 loop-again : tie.Need-loop-again Inv-loop μ-loop
 loop-again c =
-    let a = c .before .before .before .before .before .before .before .before .before .before .before .args in
-    let l = c .before .before .before .before .before .before .loop in
+    let in-loop = at-in-loop (c .before) in
+    let a = at-entry (in-loop .before) .args in
+    let l = in-loop .before .loop in
     record {
       fuel = l .inv .fuel - 1;
-      enough = omega (arith, l .inv .enough, c .if2 .left, c .before .before .before .before .before .loop-test .taken);
+      enough = omega (arith, l .inv .enough, c .if2 .left, in-loop .loop-test .taken);
       right = λ name e.
-          sym (tag-on (a .library .now) (a .width) (a .m .now) (a .key) name (l .inv .fuel) (l .here) (c .before .before .before .before .before .loop-test .taken) (l .inv .enough) (c .before .before .before .before .tag-at .ensures) e (c .before .before .before .is-tagged .ensures) (c .before .before .if1 .left) (c .if2 .left))
+          sym (tag-on (a .library .now) (a .width) (a .m .now) (a .key) name (l .inv .fuel) (l .here) (in-loop .loop-test .taken) (l .inv .enough)
+          (c .before .before .before .before .tag-at .ensures) e (c .before .before .before .is-tagged .ensures) (c .before .before .if1 .left) (c .if2 .left))
           ∙ l .inv .right name e;
     }
 
 returns-3 : tie.Need-returns-3 Inv-loop μ-loop
 returns-3 c =
-    let a = c .before .before .before .before .before .before .args in
+    let a = at-entry (c .before) .args in
     let l = c .before .loop in
     sym (follow-none (a .library .now) (a .width) (a .m .now) (a .key) (a .name) (l .inv .fuel) (l .here) (c .loop-test .left)) ∙ l .inv .right (a .name) (c .before .before .before .name .ensures)
 

@@ -10,10 +10,12 @@ returns : tie.Need-returns
 returns c = let a = c .before .before .before .before .args in rw (ne-eqb (a .tag .key) (a .key) (c .if1 .taken))
 
 returns-2 : tie.Need-returns-2
-returns-2 c = let a = c .before .before .before .before .before .before .args in rw (eq-eqb (a .tag .key) (a .key) (c .before .before .if1 .left), other-length (a .library .now) (a .tag .name) (a .bytes .now) (sym (c .before .is-other-length .ensures) ∙ c .if2 .taken)) refl
+returns-2 c = let a = c .before .before .before .before .before .before .args in rw
+    (eq-eqb (a .tag .key) (a .key) (c .before .before .if1 .left), other-length (a .library .now) (a .tag .name) (a .bytes .now) (sym (c .before .is-other-length .ensures) ∙ c .if2 .taken)) refl
 
 returns-3 : tie.Need-returns-3
-returns-3 c = let a = c .before .before .before .before .before .before .before .before .args in rw (eq-eqb (a .tag .key) (a .key) (c .before .before .before .before .if1 .left)) (c .same .ensures ∙ rw (c .before .name .ensures))
+returns-3 c = let a = c .before .before .before .before .before .before .before .before .args in rw
+    (eq-eqb (a .tag .key) (a .key) (c .before .before .before .before .if1 .left)) (c .same .ensures ∙ rw (c .before .name .ensures))
 
 pub is-tagged-spec : {M : Type 1} → statement M
 is-tagged-spec =

@@ -19,9 +19,11 @@ returns c =
 
 returns-2 : tie.Need-returns-2
 returns-2 c =
-    let a = c .before .before .before .before .before .before .args in
+    let set-head = c .before .before .before in
+    let a = set-head .before .before .before .args in
     let once = set (a .heads .now) (keyBucket (a .key)) (a .number) in
-    c .before .before .before .set-head .ensures ∙ sym (set-out once (keyBuckets + a .bucket) (a .number) (omega (arith, c .if1 .left, c .before .before .before .set-head .kept .0, length-set (a .heads .now) (keyBucket (a .key)) (a .number))))
+    set-head .set-head .ensures ∙ sym (set-out once (keyBuckets + a .bucket) (a .number)
+    (omega (arith, c .if1 .left, set-head .set-head .kept .0, length-set (a .heads .now) (keyBucket (a .key)) (a .number))))
 
 pub set-heads-spec : {M : Type 1} → statement M
 set-heads-spec =

@@ -12,7 +12,9 @@ enough : (c : tie.Else1) → 3 ≤ c .before .before .args .width
 enough c = c .before .before .pre .wide (omega (arith, c .if1 .left))
 
 within : (c : tie.Else1) → let a = c .before .before .args in a .i * a .width + a .width ≤ length (a .m .now)
-within c = let a = c .before .before .args in row-fits (length (a .m .now)) (a .width) (a .i) (omega (arith, enough c)) (omega (arith, c .if1 .left, c .before .before .pre .whole))
+within c =
+    let entry = c .before .before in
+    let a = entry .args in row-fits (length (a .m .now)) (a .width) (a .i) (omega (arith, enough c)) (omega (arith, c .if1 .left, entry .pre .whole))
 
 mul-at : tie.Need-mul-at
 mul-at c = omega (arith, within c)
@@ -30,31 +32,47 @@ mul-t11 : tie.Need-mul-t11
 mul-t11 c = omega (arith, within (c .before), enough (c .before))
 
 shared-slice-read-t13 : tie.Need-shared-slice-read-t13
-shared-slice-read-t13 c = omega (arith, within (c .before .before), enough (c .before .before))
+shared-slice-read-t13 c =
+    let else1 = c .before .before in
+    omega (arith, within else1, enough else1)
 
 add-t15 : tie.Need-add-t15
-add-t15 c = omega (arith, within (c .before .before), enough (c .before .before))
+add-t15 c =
+    let else1 = c .before .before in
+    omega (arith, within else1, enough else1)
 
 mul-t16 : tie.Need-mul-t16
-mul-t16 c = omega (arith, within (c .before .before), enough (c .before .before))
+mul-t16 c =
+    let else1 = c .before .before in
+    omega (arith, within else1, enough else1)
 
 shared-slice-read-t18 : tie.Need-shared-slice-read-t18
-shared-slice-read-t18 c = omega (arith, within (c .before .before .before), enough (c .before .before .before))
+shared-slice-read-t18 c =
+    let else1 = c .before .before .before in
+    omega (arith, within else1, enough else1)
 
 sub-t21 : tie.Need-sub-t21
 sub-t21 c = omega (arith, enough (c .before .before .before))
 
 add-t22 : tie.Need-add-t22
-add-t22 c = omega (arith, within (c .before .before .before), enough (c .before .before .before))
+add-t22 c =
+    let else1 = c .before .before .before in
+    omega (arith, within else1, enough else1)
 
 mul-t23 : tie.Need-mul-t23
-mul-t23 c = omega (arith, within (c .before .before .before), enough (c .before .before .before))
+mul-t23 c =
+    let else1 = c .before .before .before in
+    omega (arith, within else1, enough else1)
 
 shared-slice-read-t25 : tie.Need-shared-slice-read-t25
-shared-slice-read-t25 c = omega (arith, within (c .before .before .before .before), enough (c .before .before .before .before))
+shared-slice-read-t25 c =
+    let else1 = c .before .before .before .before in
+    omega (arith, within else1, enough else1)
 
 returns-2 : tie.Need-returns-2
-returns-2 c = let a = c .before .before .before .before .before .before .args in tag-there (a .width) (a .m .now) (a .i) (enough (c .before .before .before .before)) (within (c .before .before .before .before))
+returns-2 c =
+    let else1 = c .before .before .before .before in
+    let a = else1 .before .before .args in tag-there (a .width) (a .m .now) (a .i) (enough else1) (within else1)
 
 pub tag-at-spec : {M : Type 1} → statement M
 tag-at-spec =

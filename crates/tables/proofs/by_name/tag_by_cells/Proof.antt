@@ -8,7 +8,8 @@ returns : tie.Need-returns
 returns c = let a = c .before .before .args in tag-none (a .width) (a .m .now) (a .i) (c .if1 .taken)
 
 returns-2 : tie.Need-returns-2
-returns-2 c = let a = c .before .before .before .before .before .before .args in tag-made (a .width) (a .m .now) (a .i) (c .before .before .before .cell .ensures) (c .before .before .cell2 .ensures) (c .before .cell3 .ensures) (c .cell4 .ensures)
+returns-2 c = let a = c .before .before .before .before .before .before .args in tag-made (a .width) (a .m .now) (a .i)
+    (c .before .before .before .cell .ensures) (c .before .before .cell2 .ensures) (c .before .cell3 .ensures) (c .cell4 .ensures)
 
 pub tag-by-cells-spec : {M : Type 1} → statement M
 tag-by-cells-spec =

@@ -23,6 +23,10 @@ Inv-loop keys first₀ next₀ i₀ first next i = Inv keys first₀ next₀ fir
 abbrev μ-loop : tie.MeasureT-loop
 μ-loop keys first₀ next₀ i₀ first next i = i
 
+-- The ladder: places of the code that the answers cite, each as it is seen from a later place.
+abbrev at-loop : tie.After-slice-known Inv-loop μ-loop → tie.At-loop Inv-loop μ-loop
+at-loop c = c .before .before .before
+
 -- in a turn
 abbrev In : Type 0
 In = tie.After-shared-slice-known Inv-loop μ-loop
@@ -46,30 +50,30 @@ mul-next : tie.Need-mul-next Inv-loop μ-loop
 mul-next c = omega (arith, small c)
 
 slice-read-next : tie.Need-slice-read-next Inv-loop μ-loop
-slice-read-next c = omega (arith, small (c .before), c .before .before .before .loop .inv .linked .heads)
+slice-read-next c = omega (arith, small (c .before), at-loop c .loop .inv .linked .heads)
 
 mul-next-2 : tie.Need-mul-next-2 Inv-loop μ-loop
-mul-next-2 c = omega (arith, c .before .before .before .loop .inv .within, c .before .before .before .before .pre .few)
+mul-next-2 c = omega (arith, at-loop c .loop .inv .within, at-loop c .before .pre .few)
 
 slice-write-next : tie.Need-slice-write-next Inv-loop μ-loop
-slice-write-next c = omega (arith, c .before .before .before .loop .inv .within, c .before .before .before .loop .inv .linked .room)
+slice-write-next c = omega (arith, at-loop c .loop .inv .within, at-loop c .loop .inv .linked .room)
 
 add-first : tie.Need-add-first Inv-loop μ-loop
-add-first c = omega (arith, c .before .before .before .loop .inv .within, c .before .before .before .before .pre .few)
+add-first c = omega (arith, at-loop c .loop .inv .within, at-loop c .before .pre .few)
 
 cast-first : tie.Need-cast-first Inv-loop μ-loop
-cast-first c = omega (arith, c .before .before .before .loop .inv .within, c .before .before .before .before .pre .few)
+cast-first c = omega (arith, at-loop c .loop .inv .within, at-loop c .before .pre .few)
 
 mul-first : tie.Need-mul-first Inv-loop μ-loop
 mul-first c = omega (arith, small (c .before))
 
 slice-write-first : tie.Need-slice-write-first Inv-loop μ-loop
-slice-write-first c = omega (arith, small (c .before), c .before .before .before .loop .inv .linked .heads)
+slice-write-first c = omega (arith, small (c .before), at-loop c .loop .inv .linked .heads)
 
 loop-again : tie.Need-loop-again Inv-loop μ-loop
 loop-again c =
-    let l = c .before .before .before .loop in
-    let a = c .before .before .before .before .args in
+    let l = at-loop c .loop in
+    let a = at-loop c .before .args in
     record {
       within = omega (arith, l .inv .within);
       heads-long = rw length-set (l .inv .heads-long);

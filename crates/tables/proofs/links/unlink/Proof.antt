@@ -40,14 +40,21 @@ add-i c = omega (arith, c .before .before .loop .inv .within)
 
 loop-again : tie.Need-loop-again Inv-loop μ-loop
 loop-again c =
+    let entry = c .before .before .before in
     let l = c .before .before .loop in
-    record { within = omega arith; cleared = clear-turn (c .before .before .before .args .keys .now) (c .before .before .before .args .first .now) (l .first) (l .i) (omega (arith, small c, c .before .before .before .pre, l .inv .cleared .long)) (l .inv .cleared) }
+    record {
+      within = omega arith;
+      cleared = clear-turn (entry .args .keys .now) (entry .args .first .now) (l .first) (l .i) (omega (arith, small c, entry .pre, l .inv .cleared .long)) (l .inv .cleared);
+    }
 
 same-length : tie.Need-same-length Inv-loop μ-loop
 same-length c = c .before .loop .inv .cleared .long
 
 returns : tie.Need-returns Inv-loop μ-loop
-returns c = all-cleared (c .before .before .args .keys .now) (c .before .before .args .first .now) (c .before .loop .first) (c .before .loop .i) (omega (arith, c .before .loop .inv .within)) (c .before .loop .inv .cleared)
+returns c =
+    let loop = c .before in
+    let entry = loop .before in
+    all-cleared (entry .args .keys .now) (entry .args .first .now) (loop .loop .first) (loop .loop .i) (omega (arith, loop .loop .inv .within)) (loop .loop .inv .cleared)
 
 pub unlink-spec : {M : Type 1} → statement M
 unlink-spec =
