@@ -14,7 +14,8 @@ abbrev μ-loop : tie.MeasureT-loop
 μ-loop library definitions sum₀ c₀ sum c = length (definitionsLeft library c)
 
 loop-less : tie.Need-loop-less Inv-loop μ-loop
-loop-less c = fewer-definitions (c .before .before .before .before .before .before .before .before .before .args .library .now) (c .before .before .before .before .before .before .loop .c) (sym (c .before .before .before .before .before .next-definition .ensures) ∙ c .before .before .before .definition .given .1)
+loop-less c = fewer-definitions (c .before .before .before .before .before .before .before .before .before .args .library .now)
+    (c .before .before .before .before .before .before .loop .c) (sym (c .before .before .before .before .before .next-definition .ensures) ∙ c .before .before .before .definition .given .1)
 
 pub over-definitions-spec : {M : Type 1} → statement M
 over-definitions-spec =

@@ -14,7 +14,8 @@ abbrev μ-loop : tie.MeasureT-loop
 μ-loop library sum₀ c₀ sum c = length (fixupsLeft library c)
 
 loop-less : tie.Need-loop-less Inv-loop μ-loop
-loop-less c = fewer-fixups (c .before .before .before .before .before .before .before .before .args .library .now) (c .before .before .before .before .before .before .loop .c) (sym (c .before .before .before .before .before .next-fixup .ensures) ∙ c .before .before .before .fixup .given .1)
+loop-less c = fewer-fixups (c .before .before .before .before .before .before .before .before .args .library .now)
+    (c .before .before .before .before .before .before .loop .c) (sym (c .before .before .before .before .before .next-fixup .ensures) ∙ c .before .before .before .fixup .given .1)
 
 pub over-fixups-spec : {M : Type 1} → statement M
 over-fixups-spec =
