@@ -12,7 +12,8 @@ returns : tie.Need-returns
 returns c =
     let a = c .before .before .before .before .before .before .before .before .before .args in
     rw (c .size-of .ensures)
-    (ap writtenIn (c .before .before .before .print-line .ensures ∙ ap (λ (l : Line). fittedText (printedLine (a .library .now) l) (a .out .now)) (c .before .before .before .before .before .line-at .ensures)))
+    (ap writtenIn (c .before .before .before .print-line .ensures ∙ ap (λ (l : Line). fittedText (printedLine (a .library .now) l) (a .out .now))
+    (c .before .before .before .before .before .line-at .ensures)))
 
 pub sillmarble-print-line-spec : {M : Type 1} → statement M
 sillmarble-print-line-spec = tie.close (tie.spec (λ c κs. search needs) (λ c κs. search needs) (λ c κs. search needs) (λ c. search needs) returns)

@@ -6,13 +6,18 @@ use mathlib.Core.Path.{sym, _∙_}
 use Rattle.libfind.specs.BeginLaws.{begin-refused, begin-unread, begin-at}
 
 returns : tie.Need-returns
-returns c = let a = c .before .before .before .before .before .before .before .before .before .args in begin-at (a .image .now) (a .library .now) (a .settings) (sym (c .before .before .before .before .enum-told .given .1) ∙ c .before .before .before .before .before .before .check .ensures) (sym (c .before .first .given .1) ∙ c .before .before .before .read .ensures)
+returns c = let a = c .before .before .before .before .before .before .before .before .before .args in begin-at (a .image .now) (a .library .now)
+    (a .settings) (sym (c .before .before .before .before .enum-told .given .1) ∙ c .before .before .before .before .before .before .check .ensures)
+    (sym (c .before .first .given .1) ∙ c .before .before .before .read .ensures)
 
 returns-2 : tie.Need-returns-2
-returns-2 c = let a = c .before .before .before .before .before .before .before .before .before .args in begin-unread (a .image .now) (a .library .now) (a .settings) (sym (c .before .before .before .before .enum-told .given .1) ∙ c .before .before .before .before .before .before .check .ensures) (sym (c .before .r .given .1) ∙ c .before .before .before .read .ensures)
+returns-2 c = let a = c .before .before .before .before .before .before .before .before .before .args in begin-unread (a .image .now)
+    (a .library .now) (a .settings) (sym (c .before .before .before .before .enum-told .given .1) ∙
+    c .before .before .before .before .before .before .check .ensures) (sym (c .before .r .given .1) ∙ c .before .before .before .read .ensures)
 
 returns-3 : tie.Need-returns-3
-returns-3 c = let a = c .before .before .before .before .before .before .args in begin-refused (a .image .now) (a .library .now) (a .settings) (sym (c .before .r2 .given .1) ∙ c .before .before .before .check .ensures)
+returns-3 c = let a = c .before .before .before .before .before .before .args in begin-refused (a .image .now) (a .library .now) (a .settings)
+    (sym (c .before .r2 .given .1) ∙ c .before .before .before .check .ensures)
 
 pub begin-spec : {M : Type 1} → statement M
 begin-spec =

@@ -13,6 +13,37 @@ use Rattle.run.specs.Run.{Lent, lentLists}
 use Rattle.libfind.specs.Ends.{collectable}
 use Rattle.libfind.specs.EndLaws.{refused-collecting, collected-then}
 
+-- The ladder: places of the code that the answers cite, each as it is seen from a later place.
+abbrev after-symbols : tie.After-slice-known13 → tie.After-symbols
+after-symbols c = c .before .before .before .before .before
+
+abbrev after-segments : tie.After-slice-known13 → tie.After-segments
+after-segments c = after-symbols c .before .before .before .before
+
+abbrev after-rules-of : tie.After-slice-known13 → tie.After-rules-of
+after-rules-of c = after-segments c .before .before .before .before .before .before .before
+
+abbrev at-entry : tie.After-slice-known13 → tie.Start
+at-entry c = after-rules-of c .before .before .before .before .before .before .before .before .before .before .before
+
+abbrev after-noted2 : tie.After-slice-known24 → tie.After-noted2
+after-noted2 c = c .before .before .before .before .before
+
+abbrev after-r : tie.After-slice-known24 → tie.After-r
+after-r c = after-noted2 c .before .before .before .before .before .before .before .before
+
+abbrev after-collected : tie.After-symbols2 → tie.After-collected
+after-collected c = c .before .before .before .before .before .before .before .before .before .before .before .before .before .before .before
+
+abbrev after-masks2 : tie.After-slice-known21 → tie.After-masks2
+after-masks2 c = c .before .before .before .before .before .before .before
+
+abbrev after-symbols2 : tie.After-slice-known21 → tie.After-symbols2
+after-symbols2 c = after-masks2 c .before .before .before .before
+
+abbrev after-slice-known13 : tie.After-slice-known21 → tie.After-slice-known13
+after-slice-known13 c = after-collected (after-symbols2 c) .before .before
+
 abbrev lent : tie.Start → Lent
 lent c = let a = c .args in lentLists (a .segments .now) (a .references .now) (a .symbols .now) (a .bytes .now) (a .masks .now) (a .placed .now) (a .noted .now) (a .lines .now)
 
@@ -20,19 +51,19 @@ abbrev collected : tie.Start → Rules → CollectOutcome
 collected c rules = collection rules (c .args .library .now) (itemsAt (c .args .library .now) (moduleAt (c .args .library .now)) (c .args .first)) (collectable (lent c))
 
 same-length : tie.Need-same-length
-same-length c = c .before .before .before .before .before .before .before .before .before .before .before .before .before .before .before .segments2 .given ∙ c .before .before .before .before .before .before .before .before .before .before .before .before .before .before .before .before .before .before .before .before .before .before .before .before .before .before .before .before .before .before .before .before .before .before .before .before .before .segments .given
+same-length c = after-symbols2 c .before .before .before .before .segments2 .given ∙ after-segments (after-slice-known13 c) .segments .given
 
 same-length-2 : tie.Need-same-length-2
-same-length-2 c = c .before .before .before .before .before .before .before .before .before .before .before .before .before .references2 .given ∙ c .before .before .before .before .before .before .before .before .before .before .before .before .before .before .before .before .before .before .before .before .before .before .before .before .before .before .before .before .before .before .before .before .before .before .before .references .given
+same-length-2 c = after-symbols2 c .before .before .references2 .given ∙ after-symbols (after-slice-known13 c) .before .before .references .given
 
 same-length-3 : tie.Need-same-length-3
-same-length-3 c = c .before .before .before .before .before .before .before .before .before .before .before .symbols2 .given ∙ c .before .before .before .before .before .before .before .before .before .before .before .before .before .before .before .before .before .before .before .before .before .before .before .before .before .before .before .before .before .before .before .before .before .symbols .given
+same-length-3 c = after-symbols2 c .symbols2 .given ∙ after-symbols (after-slice-known13 c) .symbols .given
 
 same-length-4 : tie.Need-same-length-4
-same-length-4 c = c .before .before .before .before .before .before .before .before .before .bytes2 .given ∙ c .before .before .before .before .before .before .before .before .before .before .before .before .before .before .before .before .before .before .before .before .before .before .before .before .before .before .before .before .before .before .before .bytes .given
+same-length-4 c = after-masks2 c .before .before .bytes2 .given ∙ after-slice-known13 c .before .before .before .bytes .given
 
 same-length-5 : tie.Need-same-length-5
-same-length-5 c = c .before .before .before .before .before .before .before .masks2 .given ∙ c .before .before .before .before .before .before .before .before .before .before .before .before .before .before .before .before .before .before .before .before .before .before .before .before .before .before .before .before .before .masks .given
+same-length-5 c = after-masks2 c .masks2 .given ∙ after-slice-known13 c .before .masks .given
 
 same-length-6 : tie.Need-same-length-6
 same-length-6 c = c .before .before .before .before .before .placed .given
@@ -44,46 +75,52 @@ same-length-8 : tie.Need-same-length-8
 same-length-8 c = c .before .lines .given
 
 returns : tie.Need-returns
-returns c = λ b.
-    let a = c .before .before .before .before .before .before .before .before .before .before .before .before .before .before .before .before .before .before .before .before .before .before .before .before .before .before .before .before .before .before .before .before .before .before .before .before .before .before .before .before .before .before .before .before .before .before .before .before .before .before .before .before .before .before .before .args in
-    let q = c .before .before .before .before .before .before .before .before .before .before .before .before .before .before .before .before .before .before .before .before .before .before .before .before .before .before .before .before .before .before .before .before .before .before .before .before .before .before .collect in
+returns c =
+    let slice-known13 = after-slice-known13 c in
+    let entry = at-entry slice-known13 in
+    λ b.
+    let a = entry .args in
+    let q = after-segments slice-known13 .before .collect in
     let left : CollectLists = lists (q .last .1 .1 .1 .0) (q .last .1 .1 .1 .1 .0) (q .last .1 .1 .1 .1 .1 .0) (q .last .1 .1 .1 .1 .1 .1 .0) (q .last .1 .1 .1 .1 .1 .1 .1 .0) in
-    c .before .before .before .before .before .before .before .before .before .before .before .before .before .before .before .before .find-collected .ensures (b .accepted .image-fits)
-    ∙ collected-then (a .image .now) (a .library .now) (a .settings) (lent (c .before .before .before .before .before .before .before .before .before .before .before .before .before .before .before .before .before .before .before .before .before .before .before .before .before .before .before .before .before .before .before .before .before .before .before .before .before .before .before .before .before .before .before .before .before .before .before .before .before .before .before .before .before .before .before)) b
-    (ap (λ r. record { answer = r; left = left }) (sym (c .before .before .before .before .before .before .before .before .before .before .before .before .before .before .before .before .before .before .before .before .before .before .before .before .before .before .collected .given .1)) ∙ q .ensures ∙ ap (collected (c .before .before .before .before .before .before .before .before .before .before .before .before .before .before .before .before .before .before .before .before .before .before .before .before .before .before .before .before .before .before .before .before .before .before .before .before .before .before .before .before .before .before .before .before .before .before .before .before .before .before .before .before .before .before .before)) (c .before .before .before .before .before .before .before .before .before .before .before .before .before .before .before .before .before .before .before .before .before .before .before .before .before .before .before .before .before .before .before .before .before .before .before .before .before .before .before .before .before .before .before .before .rules-of .ensures))
+    after-symbols2 c .before .before .before .before .before .find-collected .ensures (b .accepted .image-fits)
+    ∙ collected-then (a .image .now) (a .library .now) (a .settings) (lent entry) b
+    (ap (λ r. record { answer = r; left = left }) (sym (after-collected (after-symbols2 c) .collected .given .1)) ∙ q .ensures ∙ ap (collected entry) (after-rules-of slice-known13 .rules-of .ensures))
 
 same-length-9 : tie.Need-same-length-9
-same-length-9 c = c .before .before .before .before .before .before .before .before .before .before .before .before .before .before .before .before .before .before .before .before .before .before .before .before .segments .given
+same-length-9 c = after-segments (after-r c .before .before) .segments .given
 
 same-length-10 : tie.Need-same-length-10
-same-length-10 c = c .before .before .before .before .before .before .before .before .before .before .before .before .before .before .before .before .before .before .before .before .before .before .references .given
+same-length-10 c = after-symbols (after-r c .before .before) .before .before .references .given
 
 same-length-11 : tie.Need-same-length-11
-same-length-11 c = c .before .before .before .before .before .before .before .before .before .before .before .before .before .before .before .before .before .before .before .before .symbols .given
+same-length-11 c = after-symbols (after-r c .before .before) .symbols .given
 
 same-length-12 : tie.Need-same-length-12
-same-length-12 c = c .before .before .before .before .before .before .before .before .before .before .before .before .before .before .before .before .before .before .bytes .given
+same-length-12 c = after-r c .before .before .before .before .before .bytes .given
 
 same-length-13 : tie.Need-same-length-13
-same-length-13 c = c .before .before .before .before .before .before .before .before .before .before .before .before .before .before .before .before .masks .given
+same-length-13 c = after-r c .before .before .before .masks .given
 
 same-length-14 : tie.Need-same-length-14
-same-length-14 c = c .before .before .before .before .before .before .before .before .before .placed2 .given
+same-length-14 c = after-noted2 c .before .before .before .before .placed2 .given
 
 same-length-15 : tie.Need-same-length-15
-same-length-15 c = c .before .before .before .before .before .noted2 .given
+same-length-15 c = after-noted2 c .noted2 .given
 
 same-length-16 : tie.Need-same-length-16
 same-length-16 c = c .before .lines2 .given
 
 returns-2 : tie.Need-returns-2
-returns-2 c = λ b.
-    let a = c .before .before .before .before .before .before .before .before .before .before .before .before .before .before .before .before .before .before .before .before .before .before .before .before .before .before .before .before .before .before .before .before .before .before .before .before .before .before .before .before .before .before .args in
-    let q = c .before .before .before .before .before .before .before .before .before .before .before .before .before .before .before .before .before .before .before .before .before .before .before .before .before .collect in
+returns-2 c =
+    let r-place = after-r c in
+    let entry = at-entry (r-place .before .before) in
+    λ b.
+    let a = entry .args in
+    let q = after-segments (r-place .before .before) .before .collect in
     let left : CollectLists = lists (q .last .1 .1 .1 .0) (q .last .1 .1 .1 .1 .0) (q .last .1 .1 .1 .1 .1 .0) (q .last .1 .1 .1 .1 .1 .1 .0) (q .last .1 .1 .1 .1 .1 .1 .1 .0) in
-    refused-collecting (a .image .now) (a .library .now) (a .settings) (lent (c .before .before .before .before .before .before .before .before .before .before .before .before .before .before .before .before .before .before .before .before .before .before .before .before .before .before .before .before .before .before .before .before .before .before .before .before .before .before .before .before .before .before)) b
-    (ap (λ r. record { answer = r; left = left }) (sym (c .before .before .before .before .before .before .before .before .before .before .before .before .before .r .given .1)) ∙ q .ensures ∙ ap (collected (c .before .before .before .before .before .before .before .before .before .before .before .before .before .before .before .before .before .before .before .before .before .before .before .before .before .before .before .before .before .before .before .before .before .before .before .before .before .before .before .before .before .before)) (c .before .before .before .before .before .before .before .before .before .before .before .before .before .before .before .before .before .before .before .before .before .before .before .before .before .before .before .before .before .before .before .rules-of .ensures))
-    (c .before .before .before .before .before .before .before .before .before .before .clear .ensures) (c .before .before .before .before .before .before .clear2 .ensures) (c .before .before .clear3 .ensures)
+    refused-collecting (a .image .now) (a .library .now) (a .settings) (lent entry) b
+    (ap (λ r. record { answer = r; left = left }) (sym (r-place .r .given .1)) ∙ q .ensures ∙ ap (collected entry) (after-rules-of (r-place .before .before) .rules-of .ensures))
+    (after-noted2 c .before .before .before .before .before .clear .ensures) (after-noted2 c .before .clear2 .ensures) (c .before .before .clear3 .ensures)
 
 pub find-from-spec : {M : Type 1} → statement M
 find-from-spec =

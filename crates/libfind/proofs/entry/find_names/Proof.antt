@@ -7,23 +7,36 @@ use Rattle.run.specs.Run.{Lent, lentLists}
 use Rattle.libfind.specs.BeginLaws.{begun, never-begun}
 use Rattle.libfind.specs.EndLaws.{refused-early}
 
+-- The ladder: places of the code that the answers cite, each as it is seen from a later place.
+abbrev at-entry : tie.After-begin → tie.Start
+at-entry c = c .before .before .before .before .before .before .before .before .before .before .before
+
+abbrev after-first : tie.After-symbols → tie.After-first
+after-first c = c .before .before .before .before .before .before .before .before .before .before .before .before .before .before .before
+
+abbrev after-masks : tie.After-slice-known16 → tie.After-masks
+after-masks c = c .before .before .before .before .before .before .before
+
+abbrev after-symbols : tie.After-slice-known16 → tie.After-symbols
+after-symbols c = after-masks c .before .before .before .before
+
 abbrev lent : tie.Start → Lent
 lent c = let a = c .args in lentLists (a .segments .now) (a .references .now) (a .symbols .now) (a .bytes .now) (a .masks .now) (a .placed .now) (a .noted .now) (a .lines .now)
 
 same-length : tie.Need-same-length
-same-length c = c .before .before .before .before .before .before .before .before .before .before .before .before .before .before .before .segments .given
+same-length c = after-symbols c .before .before .before .before .segments .given
 
 same-length-2 : tie.Need-same-length-2
-same-length-2 c = c .before .before .before .before .before .before .before .before .before .before .before .before .before .references .given
+same-length-2 c = after-symbols c .before .before .references .given
 
 same-length-3 : tie.Need-same-length-3
-same-length-3 c = c .before .before .before .before .before .before .before .before .before .before .before .symbols .given
+same-length-3 c = after-symbols c .symbols .given
 
 same-length-4 : tie.Need-same-length-4
-same-length-4 c = c .before .before .before .before .before .before .before .before .before .bytes .given
+same-length-4 c = after-masks c .before .before .bytes .given
 
 same-length-5 : tie.Need-same-length-5
-same-length-5 c = c .before .before .before .before .before .before .before .masks .given
+same-length-5 c = after-masks c .masks .given
 
 same-length-6 : tie.Need-same-length-6
 same-length-6 c = c .before .before .before .before .before .placed .given
@@ -35,10 +48,16 @@ same-length-8 : tie.Need-same-length-8
 same-length-8 c = c .before .lines .given
 
 returns : tie.Need-returns
-returns c = let a = c .before .before .before .before .before .before .before .before .before .before .before .before .before .before .before .before .before .before .before .before .before .before .before .before .before .before .before .before .before .before .before .before .before .before .before .before .before .before .before .args in c .before .before .before .before .before .before .before .before .before .before .before .before .before .before .before .before .find-from .ensures (begun (a .image .now) (a .library .now) (a .settings) (sym (c .before .before .before .before .before .before .before .before .before .before .before .before .before .before .before .before .before .before .before .before .before .before .before .before .before .before .first .given .1) ∙ c .before .before .before .before .before .before .before .before .before .before .before .before .before .before .before .before .before .before .before .before .before .before .before .before .before .before .before .before .begin .ensures))
+returns c =
+    let first = after-first (after-symbols c) in
+    let a = at-entry (first .before .before) .args in after-symbols c .before .before .before .before .before .find-from .ensures
+    (begun (a .image .now) (a .library .now) (a .settings) (sym (first .first .given .1) ∙ first .before .before .begin .ensures))
 
 returns-2 : tie.Need-returns-2
-returns-2 c = let a = c .before .before .before .before .before .before .before .before .before .before .before .before .before .before .args in refused-early (a .image .now) (a .library .now) (a .settings) (lent (c .before .before .before .before .before .before .before .before .before .before .before .before .before .before)) (never-begun (a .image .now) (a .library .now) (a .settings) (sym (c .before .r .given .1) ∙ c .before .before .before .begin .ensures))
+returns-2 c =
+    let entry = at-entry (c .before .before .before) in
+    let a = entry .args in refused-early (a .image .now) (a .library .now) (a .settings) (lent entry)
+    (never-begun (a .image .now) (a .library .now) (a .settings) (sym (c .before .r .given .1) ∙ c .before .before .before .begin .ensures))
 
 pub find-names-spec : {M : Type 1} → statement M
 find-names-spec =

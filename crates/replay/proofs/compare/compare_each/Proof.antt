@@ -20,7 +20,11 @@ loop-less : tie.Need-loop-less Inv-loop μ-loop
 loop-less c = omega (arith, c .before .before .before .before .before .before .before .before .before .before .before .before .before .before .before .before .before .before .before .before .loop-test .taken)
 
 loop-again : tie.Need-loop-again Inv-loop μ-loop
-loop-again c = (c .before .before .before .before .before .before .before .before .before .before .before .before .before .image .given ∙ c .before .before .before .before .before .before .before .before .before .before .before .before .before .before .before .before .before .before .before .before .before .loop .inv .0, (c .before .before .before .before .before .before .before .before .before .before .before .library .given ∙ c .before .before .before .before .before .before .before .before .before .before .before .before .before .before .before .before .before .before .before .before .before .loop .inv .1 .0, c .before .tally .given ∙ c .before .before .before .before .before .before .before .before .before .before .before .before .before .before .before .before .before .before .before .before .before .loop .inv .1 .1))
+loop-again c =
+    let library = c .before .before .before .before .before .before .before .before .before .before .before in
+    let image = library .before .before in
+    let i = image .before .before .before .before .before .before .before .before .loop .inv in
+    (image .image .given ∙ i .0, (library .library .given ∙ i .1 .0, c .before .tally .given ∙ i .1 .1))
 
 pub compare-each-spec : {M : Type 1} → statement M
 compare-each-spec =
