@@ -1,19 +1,19 @@
 // Case by case: whether the answers agree.
-use crate::cases::Next;
-use crate::cases::Scene;
-use crate::cases::is_known;
-use crate::cases::next_case;
-use crate::header::is_own;
-use crate::header::no_header;
-use crate::header::recorded;
-use crate::show::cut_short;
-use crate::show::differ;
-use crate::show::say;
-use crate::show::total;
-use crate::tally::count;
-use crate::tally::count_differing;
-use crate::tally::differing;
 use crate::trial::run_back;
+use recorded::cases::Next;
+use recorded::cases::Scene;
+use recorded::cases::is_known;
+use recorded::cases::next_case;
+use recorded::header::is_own;
+use recorded::header::no_header;
+use recorded::header::recorded;
+use recorded::show::cut_short;
+use recorded::show::differ;
+use recorded::show::say;
+use recorded::show::total;
+use recorded::tally::count;
+use recorded::tally::count_differing;
+use recorded::tally::differing;
 
 // Nothing says that a file ends, so the loop over its cases counts them; no file here has as many.
 const LIMIT: u64 = 100000;

@@ -1,13 +1,6 @@
 // Runs the whole of libfind on each case of the file that the first argument names, from an image and a library file to the list and its printed form, and
 // holds what came of it against what is recorded (README.md).
-mod answer;
-mod cases;
 mod compare;
-mod digest;
-mod header;
-mod numbers;
-mod show;
-mod tally;
 mod trial;
 
 fn main() {
@@ -24,7 +17,7 @@ fn main() {
     }
     let mut image = [0u8; 65792];
     let mut library = [0u8; 65792];
-    let mut tally = crate::tally::no_case();
-    crate::compare::compare_all(fd, &mut image, &mut library, &mut tally);
+    let mut tally = recorded::tally::no_case();
+    compare::compare_all(fd, &mut image, &mut library, &mut tally);
     libc::close(fd);
 }

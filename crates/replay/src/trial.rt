@@ -1,13 +1,13 @@
 // A whole run with lent memory that is full of something else before.
 ghost use Prim.Native.Nat.{_≤_};
-use crate::answer::answer_of;
-use crate::answer::digests_of;
-use crate::cases::Scene;
-use crate::header::lent_length;
-use crate::header::settings_of;
 use lent::names::name;
 use lent::part::Part;
 use libfind::entry::find_names;
+use recorded::answer::answer_of;
+use recorded::answer::digests_of;
+use recorded::cases::Scene;
+use recorded::header::lent_length;
+use recorded::header::settings_of;
 use run::Settings;
 
 // With lists that are lent whole.

@@ -2,8 +2,8 @@
 use Prim.Native.Nat.{_-_}
 use lib.ListN.{length}
 use borrow.Author.Needs.{needs}
-use Rattle.replay.proofs.digest.of_bytes.Statement.{statement}
-use Rattle.replay.proofs.digest.of_bytes.Tie as tie
+use Rattle.recorded.proofs.digest.of_bytes.Statement.{statement}
+use Rattle.recorded.proofs.digest.of_bytes.Tie as tie
 
 abbrev Inv-loop : tie.InvT-loop
 Inv-loop bytes h₀ i₀ h i = Unit

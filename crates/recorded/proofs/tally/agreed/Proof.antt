@@ -1,8 +1,8 @@
 -- `agreed` goes along the numbers. Assumes nothing.
 use Prim.Native.Nat.{_-_}
 use borrow.Author.Needs.{needs}
-use Rattle.replay.proofs.tally.agreed.Statement.{statement}
-use Rattle.replay.proofs.tally.agreed.Tie as tie
+use Rattle.recorded.proofs.tally.agreed.Statement.{statement}
+use Rattle.recorded.proofs.tally.agreed.Tie as tie
 
 abbrev Inv-loop : tie.InvT-loop
 Inv-loop tally n₀ i₀ n i = Unit

@@ -2,8 +2,8 @@
 use Prim.Native.Nat.{_-_}
 use lib.ListN.{length}
 use borrow.Author.Needs.{needs}
-use Rattle.replay.proofs.digest.of_numbers.Statement.{statement}
-use Rattle.replay.proofs.digest.of_numbers.Tie as tie
+use Rattle.recorded.proofs.digest.of_numbers.Statement.{statement}
+use Rattle.recorded.proofs.digest.of_numbers.Tie as tie
 
 abbrev Inv-loop : tie.InvT-loop
 Inv-loop numbers h₀ i₀ h i = Unit

@@ -1,8 +1,8 @@
 -- `refusals` goes along the numbers. Assumes nothing.
 use Prim.Native.Nat.{_-_}
 use borrow.Author.Needs.{needs}
-use Rattle.replay.proofs.show.refusals.Statement.{statement}
-use Rattle.replay.proofs.show.refusals.Tie as tie
+use Rattle.recorded.proofs.show.refusals.Statement.{statement}
+use Rattle.recorded.proofs.show.refusals.Tie as tie
 
 abbrev Inv-loop : tie.InvT-loop
 Inv-loop tally i₀ t3 t4 i = Unit

@@ -2,8 +2,8 @@
 use Prim.Native.Nat.{_-_}
 use lib.ListN.{length}
 use borrow.Author.Needs.{needs}
-use Rattle.replay.proofs.show.differ.Statement.{statement}
-use Rattle.replay.proofs.show.differ.Tie as tie
+use Rattle.recorded.proofs.show.differ.Statement.{statement}
+use Rattle.recorded.proofs.show.differ.Tie as tie
 
 abbrev Inv-loop : tie.InvT-loop
 Inv-loop passed header came i₀ t6 t7 t8 i = Unit
