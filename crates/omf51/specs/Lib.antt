@@ -10,5 +10,6 @@ pub mod BareLaws
 pub mod Expected
 pub mod TypeLaws
 pub mod Ends
+pub mod Reaches
 pub mod EntryLaws
 pub mod OneOutcome
