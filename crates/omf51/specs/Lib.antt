@@ -11,5 +11,7 @@ pub mod Expected
 pub mod TypeLaws
 pub mod Ends
 pub mod Reaches
+pub mod OutcomeLaws
+pub mod ReachesLaws
 pub mod EntryLaws
 pub mod OneOutcome
