@@ -13,5 +13,6 @@ pub mod Ends
 pub mod Reaches
 pub mod OutcomeLaws
 pub mod ReachesLaws
+pub mod OnePath
 pub mod EntryLaws
 pub mod OneOutcome
