@@ -14,5 +14,6 @@ pub mod Reaches
 pub mod OutcomeLaws
 pub mod ReachesLaws
 pub mod OnePath
+pub mod ReachesExamples
 pub mod EntryLaws
 pub mod OneOutcome

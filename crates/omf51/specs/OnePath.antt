@@ -1,9 +1,8 @@
 -- Reading has one path through the file: it ends in no two ways, so it ends with a refusal of 5 to 8, or with none,
 -- exactly if the file is so. Assumes nothing.
-use Prim.Native.Nat.{ℕ, zero, suc, _+_, _≤_, _<_}
+use Prim.Native.Nat.{ℕ, zero, suc, _+_, _<_}
 use mathlib.Core.Path.{_≡_, refl, ap, sym, subst, _∙_}
 use mathlib.Core.Logic.{_↔_}
-use mathlib.Core.Bool.{Bool, true, false}
 use mathlib.Core.List.{List}
 use mathlib.Core.Option.{Option, none, some}
 use native.Mathlib.Omega.{arith}
@@ -16,11 +15,10 @@ use Rattle.lent.specs.Choice.{if_then_else_}
 use Rattle.lent.specs.Parts.{byteAt, sameName}
 use Rattle.omf51.specs.Reader.{ReadOutcome, read, stop, refused}
 use Rattle.omf51.specs.Record.{frameAt, expected, recordOf}
-use Rattle.omf51.specs.RecordLaws.{not-allowed}
 use Rattle.omf51.specs.Entry as Entry
 use Rattle.omf51.specs.Module.{fills}
 use Rattle.omf51.specs.File.{file, fileRefusal}
-use Rattle.omf51.specs.Reaches.{Begun, State, opening, header, definitions, contents, fixups, ending, closing28, closing26, closing2A, expects, lengthAt, frameOf, behind, nameIn, least, HasLengthZero, HasBodyPastEnd, Taken, Stops, other-type, no-lengths, no-checksum, rejected, ComesTo, is-library, is-bare, opened, headed, defined, all-defined, filled, fixed, all-fixed, skipped, all-filled, ended, no-header, no-end, closed28, closed26, NothingRead, no-opening, no-first-header, no-first-end, lacks-28, lacks-26, lacks-2A, AllRead, closed2A, bare-header, bare-end, Ends}
+use Rattle.omf51.specs.Reaches.{State, opening, header, definitions, contents, fixups, ending, closing28, closing26, closing2A, expects, lengthAt, frameOf, behind, nameIn, least, HasLengthZero, HasBodyPastEnd, Taken, Stops, other-type, no-lengths, no-checksum, rejected, ComesTo, is-library, is-bare, opened, headed, defined, all-defined, filled, fixed, all-fixed, skipped, all-filled, ended, no-header, no-end, closed28, closed26, NothingRead, no-opening, no-first-header, no-first-end, lacks-28, lacks-26, lacks-2A, AllRead, closed2A, bare-header, bare-end, Ends}
 use Rattle.omf51.specs.ReachesLaws.{reading-ends}
 
 -- one turn leads to a further place, or is the last

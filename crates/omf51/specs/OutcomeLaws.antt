@@ -1,7 +1,7 @@
 -- What a reader comes to, in one word for its three outcomes; one reader after another, a repetition, a record. Assumes
 -- nothing.
 use Prim.Native.Nat.{ℕ, zero, suc, _+_, _≤_, _<_}
-use mathlib.Core.Path.{_≡_, refl, sym, subst, _∙_}
+use mathlib.Core.Path.{_≡_, refl, sym, _∙_}
 use mathlib.Core.Bool.{Bool, true, false}
 use mathlib.Core.List.{List, [], _∷_, _++_}
 use native.Mathlib.Omega.{arith}
@@ -17,7 +17,7 @@ use Rattle.lent.specs.Lists.{one}
 use Rattle.lent.specs.Parts.{byteAt}
 use Rattle.omf51.specs.declared.Frame.{Frame}
 use Rattle.omf51.specs.Reader.{ReadOutcome, read, stop, refused, Reader, andThen, give, after, repeat, many, notEmpty, atLeastOne}
-use Rattle.omf51.specs.Record.{frameAt, expected, recordOf}
+use Rattle.omf51.specs.Record.{expected, recordOf}
 use Rattle.omf51.specs.RecordLaws.{Framed, cut, empty, past, unclosed, whole, framed}
 use Rattle.omf51.specs.Entry.{ending, nameWith, idSize, nameOffset, definitionOf, definitionAt, fixupAt}
 use Rattle.omf51.specs.EntryLaws.{name-cut, name-whole}

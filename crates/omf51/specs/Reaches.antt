@@ -1,7 +1,7 @@
 -- READING, PLACE BY PLACE: to which places of the file reading comes, what is expected there, and where it ends. Each
 -- constructor stands beside the words of document 01, "Reading the file", that it says. This file states them;
 -- ReachesLaws.antt and OnePath.antt prove that `file` ends exactly so.
-use Prim.Native.Nat.{ℕ, zero, suc, _+_, _≤_, _<_}
+use Prim.Native.Nat.{ℕ, suc, _+_, _≤_, _<_}
 use mathlib.Core.Path.{_≡_}
 use mathlib.Core.Bool.{Bool, true, false, not, _||_}
 use mathlib.Core.List.{List}

@@ -1,15 +1,14 @@
 -- Reading the file ends in one of the ways of Reaches.antt: with the refusal, or with none, that `file` gives. Assumes
 -- nothing.
-use Prim.Native.Nat.{ℕ, zero, suc, _+_, _≤_, _<_}
-use mathlib.Core.Path.{_≡_, refl, sym, subst, _∙_}
-use mathlib.Core.Bool.{Bool, true, false, _||_, or-true}
+use Prim.Native.Nat.{ℕ, suc, _+_, _≤_, _<_}
+use mathlib.Core.Path.{_≡_, refl, sym, subst}
+use mathlib.Core.Bool.{Bool, true, false}
 use mathlib.Core.List.{List, [], _∷_, _++_}
-use mathlib.Core.Option.{Option, none, some}
+use mathlib.Core.Option.{some}
 use native.Mathlib.Omega.{arith}
 use borrow.Author.Tests.{eqb-true, eqb-false}
 use lib.Dec.{eqb}
 use lib.ListN.{length, length-append}
-use Rattle.lent.specs.declared.part.Part.{Part}
 use Rattle.lent.specs.declared.refusal.Refusal.{Refusal}
 use Rattle.lent.specs.Choice.{if_then_else_}
 use Rattle.lent.specs.ChoiceLaws.{chosen}
@@ -17,11 +16,11 @@ use Rattle.lent.specs.Parts.{byteAt, sameName}
 use Rattle.omf51.specs.declared.Frame.{Frame}
 use Rattle.omf51.specs.Reader.{ReadOutcome, Reader, give, many, notEmpty, atLeastOne}
 use Rattle.omf51.specs.Record.{recordOf}
-use Rattle.omf51.specs.Entry.{nameWith, idSize, nameOffset, definitionAt, fixupAt}
-use Rattle.omf51.specs.Module.{Module, Section, definitionsAt, fixupsAt, contentBody, sectionAt, sectionsAt, moduleAt, defines, fills, isIdle, fixes}
+use Rattle.omf51.specs.Entry.{idSize, nameOffset, definitionAt, fixupAt}
+use Rattle.omf51.specs.Module.{Module, definitionsAt, fixupsAt, contentBody, sectionAt, sectionsAt, moduleAt, defines, fills, isIdle}
 use Rattle.omf51.specs.File.{modulesAt, libraryAt, file, fileRefusal}
 use Rattle.omf51.specs.Reaches.{Begun, State, opening, header, definitions, contents, fixups, ending, closing28, closing26, closing2A, expects, lengthAt, frameOf, behind, nameIn, definitionEnd, fixupEnd, least, Taken, Stops, ComesTo, is-library, is-bare, opened, headed, defined, all-defined, filled, fixed, all-fixed, skipped, all-filled, ended, no-header, no-end, closed28, closed26, NothingRead, no-opening, no-first-header, no-first-end, lacks-28, lacks-26, lacks-2A, AllRead, closed2A, bare-header, bare-end, Ends}
-use Rattle.omf51.specs.OutcomeLaws.{Out, reads, stops, refuses, then-out, map-out, many-out, Within, takes, rejects, anything, ending-within, name-within, least-within, definition-within, fixup-within, Refuses, zero-length, body-past, record-out}
+use Rattle.omf51.specs.OutcomeLaws.{Out, reads, stops, refuses, then-out, map-out, many-out, Within, takes, anything, ending-within, name-within, least-within, definition-within, fixup-within, Refuses, zero-length, body-past, record-out}
 
 module _ (library : List ℕ) where
   abbrev Ended : Refusal → Type 0

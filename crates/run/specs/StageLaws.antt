@@ -28,7 +28,7 @@ use Rattle.search_rules.specs.SearchRows.{placedWidth, notedWidth}
 use Rattle.run.specs.declared.Counts.{Counts}
 use Rattle.run.specs.Run.{Lent, collectOver, searchOver}
 use Rattle.run.specs.Order.{Stage}
-use Rattle.run.specs.Given.{Over, CollectionOver, SearchOver, IsRead}
+use Rattle.run.specs.Given.{Over, CollectionOver, SearchOver}
 
 -- a test that refuses: with one refusal, exactly if it passes
 pub when-some : (t : Bool) (r : Refusal) → (when t r ≡ some r) ↔ (t ≡ true)
@@ -73,31 +73,6 @@ reading-stage library = record { out = fileRefusal (file library); low = 5; high
 abbrev pub collecting-stage : List Module → Stage
 collecting-stage modules =
     record { out = collectRefusal modules; low = 10; high = 13; ranged = λ r e. (collect-late modules e, number-range r .1) }
-
--- what the stages come to, in words
-pub file-stops : (library : List ℕ) → (fileRefusal (file library) ≡ some NoModule) ↔ (file library ≡ stop)
-file-stops library = (there (file library) (file-reads library), λ e. rw e)
-  where
-    there : (o : ReadOutcome (List Module)) → Reads o → fileRefusal o ≡ some NoModule → o ≡ stop
-    there (read modules next) h e = absurd (none≢some e)
-    there stop h e = refl
-    there (refused r) h e = let z : r ≡ NoModule = cc in absurd (rw z at h)
-
-pub file-refuses : (library : List ℕ) (r : Refusal) → 6 ≤ refusalNumber r → (fileRefusal (file library) ≡ some r) ↔ (file library ≡ refused r)
-file-refuses library r l = (there (file library), λ e. rw e)
-  where
-    there : (o : ReadOutcome (List Module)) → fileRefusal o ≡ some r → o ≡ refused r
-    there (read modules next) e = absurd (none≢some e)
-    there stop e = absurd (omega (arith, same-number e))
-    there (refused q) e = cc
-
-pub file-is-read : (library : List ℕ) → (fileRefusal (file library) ≡ none) ↔ IsRead library
-file-is-read library = (there (file library) refl, λ h. rw (h .2))
-  where
-    there : (o : ReadOutcome (List Module)) → file library ≡ o → fileRefusal o ≡ none → IsRead library
-    there (read modules next) q e = (modules, next, q)
-    there stop q e = absurd (none≢some (sym e))
-    there (refused r) q e = absurd (none≢some (sym e))
 
 -- rows that do not fit
 pub over : (width : ℕ) (lent : List ℕ) (n : ℕ) → (tooMany width lent n ≡ true) ↔ Over width lent n
