@@ -36,8 +36,9 @@ module _ (library : List ℕ) where
     unfolding recordOf expected frameAt Entry.ending
     looks-taken t =
         let n = lengthAt library at in
+        let w = t .whole in
         rw
-        (t .expected .allowed, le-ltb (length library) (at + 3) (t .expected .lengths), ne-eqb n 0 (t .long), le-ltb (length library) (at + 2 + n) (omega (arith, t .closed)), le-ltb (length library) (at + 3 + n) (t .closed), le-leb (least library s (frameOf library at)) (at + 2 + n) (t .body))
+        (w .expected .allowed, le-ltb (length library) (at + 3) (w .expected .lengths), ne-eqb n 0 (w .long), le-ltb (length library) (at + 2 + n) (omega (arith, w .closed)), le-ltb (length library) (at + 3 + n) (w .closed), le-leb (least library s (frameOf library at)) (at + 2 + n) (t .body))
 
     looks-stop : Stops library s at → lookAt s at ≡ stop
     unfolding recordOf expected frameAt Entry.ending
@@ -47,10 +48,10 @@ module _ (library : List ℕ) where
         let n = lengthAt library at in
         rw
         (x .allowed, le-ltb (length library) (at + 3) (x .lengths), ne-eqb n 0 z, le-ltb (length library) (at + 2 + n) (omega (arith, l)), lt-ltb (length library) (at + 3 + n) (omega (arith, l)))
-    looks-stop (rejected x z c b) =
+    looks-stop (rejected w b) =
         let n = lengthAt library at in
         rw
-        (x .allowed, le-ltb (length library) (at + 3) (x .lengths), ne-eqb n 0 z, le-ltb (length library) (at + 2 + n) (omega (arith, c)), le-ltb (length library) (at + 3 + n) c, lt-leb (least library s (frameOf library at)) (at + 2 + n) b)
+        (w .expected .allowed, le-ltb (length library) (at + 3) (w .expected .lengths), ne-eqb n 0 (w .long), le-ltb (length library) (at + 2 + n) (omega (arith, w .closed)), le-ltb (length library) (at + 3 + n) (w .closed), lt-leb (least library s (frameOf library at)) (at + 2 + n) b)
 
     looks-zero : HasLengthZero library s at → lookAt s at ≡ refused LengthZero
     unfolding recordOf expected frameAt
@@ -183,7 +184,7 @@ module _ (library : List ℕ) where
   ends-there (some NoModule) h = none-read h
   ends-there (some BodyPastEnd) h = turn (comes (h .comes)) (ap (afterLook (h .state) (h .at)) (looks-past (h .state) (h .at) (h .here)))
   ends-there (some LengthZero) h = turn (comes (h .comes)) (ap (afterLook (h .state) (h .at)) (looks-zero (h .state) (h .at) (h .here)))
-  ends-there (some NamesDiffer) h = by-read (comes (h .comes)) (h .whole) (rw (h .differ))
+  ends-there (some NamesDiffer) h = by-read (comes (h .comes)) (h .taken) (rw (h .differ))
   ends-there (some TooFewRows) h = absurd h
   ends-there (some UnknownKind) h = absurd h
   ends-there (some UnknownBlock) h = absurd h

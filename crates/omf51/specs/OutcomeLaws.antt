@@ -21,7 +21,7 @@ use Rattle.omf51.specs.Record.{expected, recordOf}
 use Rattle.omf51.specs.RecordLaws.{Framed, cut, empty, past, unclosed, whole, framed}
 use Rattle.omf51.specs.Entry.{ending, nameWith, idSize, nameOffset, definitionOf, definitionAt, fixupAt}
 use Rattle.omf51.specs.EntryLaws.{name-cut, name-whole}
-use Rattle.omf51.specs.Reaches.{State, expects, frameOf, lengthAt, behind, least, Expected, HasLengthZero, HasBodyPastEnd, Taken, Stops, other-type, no-lengths, no-checksum, rejected}
+use Rattle.omf51.specs.Reaches.{State, expects, frameOf, lengthAt, behind, least, HasLengthZero, HasBodyPastEnd, Whole, Taken, Stops, other-type, no-lengths, no-checksum, rejected}
 
 -- what holds of a thing that was read and of the place behind it; of a stop; of a refusal
 pub data Out {A : Type 0} (R : A → ℕ → Type 0) (S : Type 0) (F : Refusal → Type 0) : ReadOutcome A → Type 0 where
@@ -158,14 +158,15 @@ record-out {A} library s allowed inner P at same body =
     Seen : ReadOutcome A → Type 0
     Seen = Out (λ a next. (next ≡ behind library at) × Taken library s at × P a) (Stops library s at) (Refuses library s at)
 
-    taken : {o : ReadOutcome A} → Expected library s at → (lengthAt library at ≡ 0 → ⊥) → at + 3 + lengthAt library at ≤ length library
-        → Within P (least library s (frameOf library at)) (frameOf library at .end) o → Seen (andThen o λ a left. read a (at + 3 + lengthAt library at))
-    taken x l c (takes a left q w) = reads a (at + 3 + lengthAt library at) (refl, record { expected = x; long = l; closed = c; body = q }, w)
-    taken x l c (rejects q) = stops (rejected x l c q)
+    taken : {o : ReadOutcome A} → Whole library s at → Within P (least library s (frameOf library at)) (frameOf library at .end) o
+        → Seen (andThen o λ a left. read a (behind library at))
+    taken w (takes a left q h) = reads a (behind library at) (refl, record { whole = w; body = q }, h)
+    taken w (rejects q) = stops (rejected w q)
 
     go : {o : ReadOutcome Frame} → expects s (byteAt library at) ≡ true → Framed library at o → Seen (andThen o λ f next. andThen (inner f (f .body)) λ a left. read a next)
     go e (cut l) = stops (no-lengths e l)
     go e (empty l z) = refuses LengthZero (zero-length (record { expected = record { allowed = e; lengths = l }; zero-length = z }))
     go e (past b l) = refuses BodyPastEnd (body-past (record { expected = record { allowed = e; lengths = b .there }; long = b .long; past = l }))
     go e (unclosed b l) = stops (no-checksum (record { allowed = e; lengths = b .there }) (b .long) l)
-    go e (whole b l) = taken (record { allowed = e; lengths = b .there }) (b .long) l (body (b .long))
+    go e (whole b l) =
+        taken (record { expected = record { allowed = e; lengths = b .there }; long = b .long; closed = l }) (body (b .long))

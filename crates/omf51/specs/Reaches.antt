@@ -101,11 +101,15 @@ module _ (library : List ℕ) where
       pub long : lengthAt at ≡ 0 → ⊥
       pub past : length library < at + 2 + lengthAt at
 
-    -- a whole record, its checksum byte too ("the checksum is not examined"), with a body that its reader takes
-    pub record Taken : Type 0 where
+    -- a whole record, its checksum byte too ("the checksum is not examined")
+    pub record Whole : Type 0 where
       pub expected : Expected
       pub long : lengthAt at ≡ 0 → ⊥
       pub closed : at + 3 + lengthAt at ≤ length library
+
+    -- a whole record with a body that its reader takes
+    pub record Taken : Type 0 where
+      pub whole : Whole
       pub body : least s (frameOf at) ≤ at + 2 + lengthAt at
 
     -- "type not allowed here, or fewer than two length bytes, or no checksum byte, or a body its reader rejects"
@@ -113,8 +117,7 @@ module _ (library : List ℕ) where
       other-type : expects s (byteAt library at) ≡ false → Stops
       no-lengths : expects s (byteAt library at) ≡ true → length library < at + 3 → Stops
       no-checksum : Expected → (lengthAt at ≡ 0 → ⊥) → length library ≡ at + 2 + lengthAt at → Stops
-      rejected : Expected → (lengthAt at ≡ 0 → ⊥) → at + 3 + lengthAt at ≤ length library
-          → at + 2 + lengthAt at < least s (frameOf at) → Stops
+      rejected : Whole → at + 2 + lengthAt at < least s (frameOf at) → Stops
 
   -- READING COMES TO THIS PLACE, expecting this
   pub data ComesTo : State → ℕ → Type 0 where
@@ -163,7 +166,7 @@ module _ (library : List ℕ) where
     pub begun : Begun
     pub at : ℕ
     pub comes : ComesTo (ending begun) at
-    pub whole : Taken (ending begun) at
+    pub taken : Taken (ending begun) at
     pub differ : sameName library (begun .name) (nameIn at) ≡ false
 
   -- 5: "no first module can be read, or a 2Ch library lacks its 28h, 26h, 2Ah records in that order after its modules"

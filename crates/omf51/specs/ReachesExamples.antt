@@ -25,9 +25,11 @@ taken library s at e =
     let c = both (not (eqb (lengthAt library at) 0)) _ (b .1) in
     let d = both (leb (at + 3 + lengthAt library at) (length library)) _ (c .1) in
     record {
-      expected = record { allowed = a .0; lengths = leb-true (at + 3) (length library) (b .0) };
-      long = eqb-false (lengthAt library at) 0 (fails (eqb (lengthAt library at) 0) (c .0));
-      closed = leb-true (at + 3 + lengthAt library at) (length library) (d .0);
+      whole = record {
+        expected = record { allowed = a .0; lengths = leb-true (at + 3) (length library) (b .0) };
+        long = eqb-false (lengthAt library at) 0 (fails (eqb (lengthAt library at) 0) (c .0));
+        closed = leb-true (at + 3 + lengthAt library at) (length library) (d .0);
+      };
       body = leb-true (least library s (frameOf library at)) (at + 2 + lengthAt library at) (d .1);
     }
   where
@@ -120,6 +122,6 @@ names-apart =
       begun = m;
       at = 8;
       comes = all-filled m 8 (all-defined m 8 head (other-type refl)) (other-type refl);
-      whole = taken renamed (ending m) 8 refl;
+      taken = taken renamed (ending m) 8 refl;
       differ = refl;
     }

@@ -36,7 +36,7 @@ module _ (library : List ℕ) where
   next-stands : {s t : State} {low at next : ℕ} → Stands s low at → Taken library s at → next ≡ behind library at → ComesTo library t (behind library at)
       → Stands t low next × (at < next)
   next-stands w t e c =
-      (record { comes = subst (ComesTo library _) (sym e) c; inside = omega (arith, e, t .closed); ahead = omega (arith, e, w .ahead) }, omega (arith, e))
+      (record { comes = subst (ComesTo library _) (sym e) c; inside = omega (arith, e, t .whole .closed); ahead = omega (arith, e, w .ahead) }, omega (arith, e))
 
   -- a record that refuses where reading comes to it
   refusal-ends : (s : State) (at : ℕ) → ComesTo library s at → (r : Refusal) → Refuses library s at r → Ended r
@@ -159,7 +159,7 @@ module _ (library : List ℕ) where
       (λ e.
       let done = next-stands u (t .1) (t .0) (ended m c (u .comes) (t .1) e) in
       reads _ d (refl, record { comes = done .0 .comes; inside = done .0 .inside; ahead = omega arith }, omega (arith, u .ahead, done .1)))
-      (λ e. refuses _ (record { begun = m; at = c; comes = u .comes; whole = t .1; differ = e })))
+      (λ e. refuses _ (record { begun = m; at = c; comes = u .comes; taken = t .1; differ = e })))
     where
       m : Begun
       m = record { before = k; start = at; name = nameIn library at }

@@ -17,10 +17,10 @@ use Rattle.lent.specs.FirstOf.{none≢some}
 use Rattle.lent.specs.Refusals.{refusalNumber}
 use Rattle.lent.specs.RefusalLaws.{same-number, number-range}
 use Rattle.lent.specs.Rows.{tooMany}
-use Rattle.omf51.specs.Reader.{ReadOutcome, read, stop, refused}
 use Rattle.omf51.specs.Module.{Module}
 use Rattle.omf51.specs.File.{file, fileRefusal}
-use Rattle.omf51.specs.FileLaws.{OfReading, Reads, file-reads}
+use Rattle.omf51.specs.Reaches.{Ends}
+use Rattle.omf51.specs.OnePath.{reading-exactly}
 use Rattle.segments.specs.Refuse.{collectRefusal}
 use Rattle.segments.specs.RefuseLaws.{collect-late}
 use Rattle.segments.specs.SegmentRows.{segmentWidth, referenceWidth, symbolWidth}
@@ -48,27 +48,22 @@ when-stage t r = record { out = when t r; low = refusalNumber r; high = refusalN
 
 -- reading refuses with 5 to 8; the collection with 10 to 13
 abbrev pub reading-stage : List ℕ → Stage
-reading-stage library = record { out = fileRefusal (file library); low = 5; high = 8; ranged = λ r e. go (file library) (file-reads library) r e }
+reading-stage library = record { out = fileRefusal (file library); low = 5; high = 8; ranged = λ r e. go r (reading-exactly library (some r) .0 e) }
   where
-    by-reader : (r : Refusal) → OfReading r → (5 ≤ refusalNumber r) × (refusalNumber r ≤ 8)
-    by-reader RuleSet h = absurd h
-    by-reader ImageTooLong h = absurd h
-    by-reader LibraryTooLong h = absurd h
-    by-reader StretchPastEnd h = absurd h
-    by-reader NoModule h = absurd h
-    by-reader BodyPastEnd h = (omega arith, omega arith)
-    by-reader LengthZero h = (omega arith, omega arith)
-    by-reader NamesDiffer h = (omega arith, omega arith)
-    by-reader TooFewRows h = absurd h
-    by-reader UnknownKind h = absurd h
-    by-reader UnknownBlock h = absurd h
-    by-reader ContentPastSegment h = absurd h
-    by-reader NoKeptSegment h = absurd h
-
-    go : (o : ReadOutcome (List Module)) → Reads o → (r : Refusal) → fileRefusal o ≡ some r → (5 ≤ refusalNumber r) × (refusalNumber r ≤ 8)
-    go (read modules next) h r e = absurd (none≢some e)
-    go stop h r e = (omega (arith, same-number e), omega (arith, same-number e))
-    go (refused q) h r e = let p = by-reader q h in (omega (arith, same-number e, p .0), omega (arith, same-number e, p .1))
+    go : (r : Refusal) → Ends library (some r) → (5 ≤ refusalNumber r) × (refusalNumber r ≤ 8)
+    go RuleSet h = absurd h
+    go ImageTooLong h = absurd h
+    go LibraryTooLong h = absurd h
+    go StretchPastEnd h = absurd h
+    go NoModule h = (omega arith, omega arith)
+    go BodyPastEnd h = (omega arith, omega arith)
+    go LengthZero h = (omega arith, omega arith)
+    go NamesDiffer h = (omega arith, omega arith)
+    go TooFewRows h = absurd h
+    go UnknownKind h = absurd h
+    go UnknownBlock h = absurd h
+    go ContentPastSegment h = absurd h
+    go NoKeptSegment h = absurd h
 
 abbrev pub collecting-stage : List Module → Stage
 collecting-stage modules =
