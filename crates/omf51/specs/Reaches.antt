@@ -23,7 +23,7 @@ pub record Begun : Type 0 where
   pub start : ℕ
   pub name : Part
 
--- what is expected at a place: the 2Ch record; a header, so many modules being read; definitions, contents, fixups or
+-- what is expected at a place: the 2Ch record; a header, after so many modules; definitions, contents, fixups or
 -- the end of a module; the closing records 28h, 26h, 2Ah
 pub data State : Type 0 where
   opening : State
