@@ -1,6 +1,5 @@
 -- Document 01's table of refusals, as conditions on what goes into a run. This file states them; Refused.antt proves them.
 use Prim.Native.Nat.{ℕ, _+_, _*_, _≤_, _<_}
-use mathlib.Core.Path.{_≡_}
 use mathlib.Core.Logic.{_⊎_}
 use mathlib.Core.List.{List}
 use lib.ListN.{length}
@@ -8,9 +7,8 @@ use Rattle.lent.specs.declared.refusal.Refusal.{Refusal}
 use Rattle.lent.specs.declared.refusal.Refusal.the-variants.{RuleSet, ImageTooLong, LibraryTooLong, StretchPastEnd, NoModule, BodyPastEnd, LengthZero, NamesDiffer, TooFewRows, UnknownKind, UnknownBlock, ContentPastSegment, NoKeptSegment}
 use Rattle.lent.specs.FirstOf.{Quiet, First}
 use Rattle.image.specs.View.{view}
-use Rattle.omf51.specs.Reader.{read, stop, refused}
-use Rattle.omf51.specs.Module.{Module}
 use Rattle.omf51.specs.File.{file, modulesIn}
+use Rattle.omf51.specs.Reaches.{NothingRead, BodyPasses, LengthIsZero, NamesApart, AllRead}
 use Rattle.segments.specs.Refuse.{Test, testRefusal, tests}
 use Rattle.segments.specs.RefuseLaws.{KindAbove, BlockAbove, PastSegment, NowhereKept}
 use Rattle.segments.specs.SegmentRows.{segmentWidth, referenceWidth, symbolWidth}
@@ -45,19 +43,15 @@ pub record Accepted (image library : List ℕ) (s : Settings) : Type 0 where
   pub library-fits : length library ≤ 1048576
   pub stretch-fits : s .stretch .start + s .stretch .len ≤ length image
 
--- none of refusals 5 to 8 applies: the file is read
-abbrev pub IsRead : List ℕ → Type 0
-IsRead library = (modules : List Module) × (next : ℕ) × (file library ≡ read modules next)
-
 -- for a run's image, library, settings and lent lists: when each refusal is given, with all earlier ones ruled out
 module _ (image library : List ℕ) (s : Settings) (lent : Lent) where
   abbrev pub counts : Counts
   counts = counted (stages (view image (s .stretch)) library s)
 
-  -- what comes before the tests of 10 to 13
+  -- what comes before the tests of 10 to 13: none of 1 to 4, none of 5 to 8, no 9 for the collection
   pub record Reached : Type 0 where
     pub accepted : Accepted image library s
-    pub is-read : IsRead library
+    pub all-read : AllRead library
     pub room : CollectionOver lent counts → ⊥
 
   -- the first test in file order that refuses does so in this case
@@ -67,7 +61,7 @@ module _ (image library : List ℕ) (s : Settings) (lent : Lent) where
   -- 9 for the collection; or, once none of 10 to 13 applies, for the search or the listing
   abbrev pub TooLittle : Type 0
   TooLittle =
-      (Accepted image library s × IsRead library × CollectionOver lent counts)
+      (Accepted image library s × AllRead library × CollectionOver lent counts)
       ⊎ (Reached × Quiet testRefusal (tests (modulesIn (file library))) × (SearchOver lent counts ⊎ ListOver lent counts))
 
   -- DOCUMENT 01'S TABLE, "Given exactly when"
@@ -77,10 +71,10 @@ module _ (image library : List ℕ) (s : Settings) (lent : Lent) where
   Given LibraryTooLong = (s .rules ≤ 1) × (length image ≤ 65536) × (1048576 < length library)
   Given StretchPastEnd =
       (s .rules ≤ 1) × (length image ≤ 65536) × (length library ≤ 1048576) × (length image < s .stretch .start + s .stretch .len)
-  Given NoModule = Accepted image library s × (file library ≡ stop)
-  Given BodyPastEnd = Accepted image library s × (file library ≡ refused BodyPastEnd)
-  Given LengthZero = Accepted image library s × (file library ≡ refused LengthZero)
-  Given NamesDiffer = Accepted image library s × (file library ≡ refused NamesDiffer)
+  Given NoModule = Accepted image library s × NothingRead library
+  Given BodyPastEnd = Accepted image library s × BodyPasses library
+  Given LengthZero = Accepted image library s × LengthIsZero library
+  Given NamesDiffer = Accepted image library s × NamesApart library
   Given TooFewRows = TooLittle
   Given UnknownKind = Reached × FirstTest KindAbove
   Given UnknownBlock = Reached × FirstTest BlockAbove

@@ -17,16 +17,17 @@ use Rattle.lent.specs.Refusals.{refusalNumber}
 use Rattle.lent.specs.RefusalLaws.{number-tells, same-number, number-range}
 use Rattle.image.specs.View.{view}
 use Rattle.image.specs.ViewLaws.{view-length}
-use Rattle.omf51.specs.Reader.{stop, refused}
-use Rattle.omf51.specs.File.{file, fileRefusal, modulesIn}
+use Rattle.omf51.specs.File.{file, modulesIn}
+use Rattle.omf51.specs.Reaches.{AllRead, Ends}
+use Rattle.omf51.specs.OnePath.{reading-exactly}
 use Rattle.segments.specs.Refuse.{Test, testRefusal, tests, collectRefusal}
 use Rattle.segments.specs.RefuseLaws.{KindAbove, BlockAbove, PastSegment, NowhereKept, gives-10, gives-11, gives-12, gives-13, collect-gives}
 use Rattle.listing_rules.specs.Listing.{lineWidth}
 use Rattle.run.specs.declared.Settings.{Settings}
 use Rattle.run.specs.Run.{Lent, Yield, stages, counted, collectOver, searchOver, listOver, refusals, outcomeOf, runSeen, run, numberOf}
 use Rattle.run.specs.Order.{Stage, firstOf, Silent, silent-both, Beyond, or-else, after-none, at-stage}
-use Rattle.run.specs.Given.{CollectionOver, SearchOver, ListOver, Accepted, IsRead, Reached, FirstTest, TooLittle, Given, NothingRefused}
-use Rattle.run.specs.StageLaws.{when-some, when-none, when-stage, reading-stage, collecting-stage, file-stops, file-refuses, file-is-read, over, or-true-iff, not-over, collection-over, search-over, less, not-less}
+use Rattle.run.specs.Given.{CollectionOver, SearchOver, ListOver, Accepted, Reached, FirstTest, TooLittle, Given, NothingRefused}
+use Rattle.run.specs.StageLaws.{when-some, when-none, when-stage, reading-stage, collecting-stage, over, or-true-iff, not-over, collection-over, search-over, less, not-less}
 
 module _ (image library : List ℕ) (s : Settings) (lent : Lent) where
   abbrev cells : List ℕ
@@ -130,9 +131,9 @@ module _ (image library : List ℕ) (s : Settings) (lent : Lent) where
     λ a. (rules-fine .1 (a .rule-set), (image-fine .1 (a .image-fits), (library-fine .1 (a .library-fits), (stretch-fine .1 (a .stretch-fits), tt)))),
   )
 
-  is-read : Silent reading-stages ↔ (Accepted image library s × IsRead library)
-  is-read =
-      let read = file-is-read library in
+  all-read : Silent reading-stages ↔ (Accepted image library s × AllRead library)
+  all-read =
+      let read = reading-exactly library none in
       Iff·trans (silent-both settings-stages (reading-stage library ∷ [])) (Iff·and accepted ((λ q. read .0 (q .0)), λ h. (read .1 h, tt)))
 
   reached : Silent (reading-stages ++ room-stage ∷ []) ↔ Reached image library s lent
@@ -140,9 +141,9 @@ module _ (image library : List ℕ) (s : Settings) (lent : Lent) where
       let split = silent-both reading-stages (room-stage ∷ []) in (
         (λ q.
             let h = split .0 q in
-            let read = is-read .0 (h .0) in
-            record { accepted = read .0; is-read = read .1; room = room-fine .0 (h .1 .0) }),
-        λ r. split .1 (is-read .1 (r .accepted, r .is-read), (room-fine .1 (r .room), tt)),
+            let read = all-read .0 (h .0) in
+            record { accepted = read .0; all-read = read .1; room = room-fine .0 (h .1 .0) }),
+        λ r. split .1 (all-read .1 (r .accepted, r .all-read), (room-fine .1 (r .room), tt)),
       )
 
   -- 9 for the search or the listing
@@ -161,7 +162,7 @@ module _ (image library : List ℕ) (s : Settings) (lent : Lent) where
   -- 9 at all
   too-few : (firstOf all-stages ≡ some TooFewRows) ↔ TooLittle image library s lent
   unfolding all
-  too-few = ((λ q. let p = first .0 q in there (is-read .0 (p .0)) (choice .0 (p .1))), back)
+  too-few = ((λ q. let p = first .0 q in there (all-read .0 (p .0)) (choice .0 (p .1))), back)
     where
       rest : List Stage
       rest = tests-stage ∷ row-stages
@@ -179,28 +180,27 @@ module _ (image library : List ℕ) (s : Settings) (lent : Lent) where
       here : (room-stage .out ≡ some TooFewRows) ↔ CollectionOver lent (counted yield)
       here = Iff·trans (when-some (collectOver lent (counted yield)) TooFewRows) (collection-over lent (counted yield))
 
-      there : Accepted image library s × IsRead library → (room-stage .out ≡ some TooFewRows) ⊎ ((room-stage .out ≡ none) × (firstOf rest ≡ some TooFewRows))
+      there : Accepted image library s × AllRead library → (room-stage .out ≡ some TooFewRows) ⊎ ((room-stage .out ≡ none) × (firstOf rest ≡ some TooFewRows))
           → TooLittle image library s lent
       there h (inl k) = inl (h .0, h .1, here .0 k)
       there h (inr k) =
           let p = later .0 (k .1) in
-          inr (record { accepted = h .0; is-read = h .1; room = room-fine .0 (k .0) }, tests-fine .0 (p .0 .0), row-over .0 (p .1))
+          inr (record { accepted = h .0; all-read = h .1; room = room-fine .0 (k .0) }, tests-fine .0 (p .0 .0), row-over .0 (p .1))
 
       back : TooLittle image library s lent → firstOf all-stages ≡ some TooFewRows
-      back (inl (a, r, o)) = first .1 (is-read .1 (a, r), choice .1 (inl (here .1 o)))
+      back (inl (a, r, o)) = first .1 (all-read .1 (a, r), choice .1 (inl (here .1 o)))
       back (inr (r, q, o)) =
-          first .1 (is-read .1 (r .accepted, r .is-read), choice .1 (inr (room-fine .1 (r .room), later .1 ((tests-fine .1 q, tt), row-over .1 o))))
+          first .1 (all-read .1 (r .accepted, r .all-read), choice .1 (inr (room-fine .1 (r .room), later .1 ((tests-fine .1 q, tt), row-over .1 o))))
 
   -- 1 to 4; 5 to 8; 10 to 13
   by-settings : (r : Refusal) (before : List Stage) (g : Stage) (later : List Stage) → before ++ g ∷ later ≡ all-stages → Beyond r before → Beyond r later
       → (number ≡ refusalNumber r) ↔ (Silent before × (g .out ≡ some r))
   by-settings r before g later q e f = Iff·trans (number-is r) (rw q at (at-stage r before g later e f))
 
-  by-reading : (r : Refusal) (Read : Type 0) → (fileRefusal (file library) ≡ some r) ↔ Read → Beyond r settings-stages → Beyond r later-stages
-      → (number ≡ refusalNumber r) ↔ (Accepted image library s × Read)
-  by-reading r Read iff e f =
+  by-reading : (r : Refusal) → Beyond r settings-stages → Beyond r later-stages → (number ≡ refusalNumber r) ↔ (Accepted image library s × Ends library (some r))
+  by-reading r e f =
       Iff·trans (number-is r)
-      (Iff·trans (at-stage r settings-stages (reading-stage library) later-stages e f) (Iff·and accepted iff))
+      (Iff·trans (at-stage r settings-stages (reading-stage library) later-stages e f) (Iff·and accepted (reading-exactly library (some r))))
 
   by-tests : (r : Refusal) (P : Test → Type 0) → ((t : Test) → (testRefusal t ≡ some r) ↔ P t) → Beyond r (reading-stages ++ room-stage ∷ [])
       → Beyond r row-stages
@@ -234,10 +234,10 @@ module _ (image library : List ℕ) (s : Settings) (lent : Lent) where
         (λ h. (rules-fine .0 (h .0 .0), image-fine .0 (h .0 .1 .0), library-fine .0 (h .0 .1 .1 .0), this .0 (h .1))),
         λ h. ((rules-fine .1 (h .0), (image-fine .1 (h .1), (library-fine .1 (h .2), tt))), this .1 (h .3)),
       )
-  given-exactly NoModule = by-reading NoModule (file library ≡ stop) (file-stops library) refl refl
-  given-exactly BodyPastEnd = by-reading BodyPastEnd (file library ≡ refused BodyPastEnd) (file-refuses library BodyPastEnd (omega arith)) refl refl
-  given-exactly LengthZero = by-reading LengthZero (file library ≡ refused LengthZero) (file-refuses library LengthZero (omega arith)) refl refl
-  given-exactly NamesDiffer = by-reading NamesDiffer (file library ≡ refused NamesDiffer) (file-refuses library NamesDiffer (omega arith)) refl refl
+  given-exactly NoModule = by-reading NoModule refl refl
+  given-exactly BodyPastEnd = by-reading BodyPastEnd refl refl
+  given-exactly LengthZero = by-reading LengthZero refl refl
+  given-exactly NamesDiffer = by-reading NamesDiffer refl refl
   given-exactly TooFewRows = Iff·trans (number-is TooFewRows) too-few
   given-exactly UnknownKind = by-tests UnknownKind KindAbove gives-10 refl refl
   given-exactly UnknownBlock = by-tests UnknownBlock BlockAbove gives-11 refl refl

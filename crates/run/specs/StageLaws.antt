@@ -17,10 +17,10 @@ use Rattle.lent.specs.FirstOf.{none≢some}
 use Rattle.lent.specs.Refusals.{refusalNumber}
 use Rattle.lent.specs.RefusalLaws.{same-number, number-range}
 use Rattle.lent.specs.Rows.{tooMany}
-use Rattle.omf51.specs.Reader.{ReadOutcome, read, stop, refused}
 use Rattle.omf51.specs.Module.{Module}
 use Rattle.omf51.specs.File.{file, fileRefusal}
-use Rattle.omf51.specs.FileLaws.{OfReading, Reads, file-reads}
+use Rattle.omf51.specs.Reaches.{Ends}
+use Rattle.omf51.specs.OnePath.{reading-exactly}
 use Rattle.segments.specs.Refuse.{collectRefusal}
 use Rattle.segments.specs.RefuseLaws.{collect-late}
 use Rattle.segments.specs.SegmentRows.{segmentWidth, referenceWidth, symbolWidth}
@@ -28,7 +28,7 @@ use Rattle.search_rules.specs.SearchRows.{placedWidth, notedWidth}
 use Rattle.run.specs.declared.Counts.{Counts}
 use Rattle.run.specs.Run.{Lent, collectOver, searchOver}
 use Rattle.run.specs.Order.{Stage}
-use Rattle.run.specs.Given.{Over, CollectionOver, SearchOver, IsRead}
+use Rattle.run.specs.Given.{Over, CollectionOver, SearchOver}
 
 -- a test that refuses: with one refusal, exactly if it passes
 pub when-some : (t : Bool) (r : Refusal) → (when t r ≡ some r) ↔ (t ≡ true)
@@ -48,56 +48,26 @@ when-stage t r = record { out = when t r; low = refusalNumber r; high = refusalN
 
 -- reading refuses with 5 to 8; the collection with 10 to 13
 abbrev pub reading-stage : List ℕ → Stage
-reading-stage library = record { out = fileRefusal (file library); low = 5; high = 8; ranged = λ r e. go (file library) (file-reads library) r e }
+reading-stage library = record { out = fileRefusal (file library); low = 5; high = 8; ranged = λ r e. go r (reading-exactly library (some r) .0 e) }
   where
-    by-reader : (r : Refusal) → OfReading r → (5 ≤ refusalNumber r) × (refusalNumber r ≤ 8)
-    by-reader RuleSet h = absurd h
-    by-reader ImageTooLong h = absurd h
-    by-reader LibraryTooLong h = absurd h
-    by-reader StretchPastEnd h = absurd h
-    by-reader NoModule h = absurd h
-    by-reader BodyPastEnd h = (omega arith, omega arith)
-    by-reader LengthZero h = (omega arith, omega arith)
-    by-reader NamesDiffer h = (omega arith, omega arith)
-    by-reader TooFewRows h = absurd h
-    by-reader UnknownKind h = absurd h
-    by-reader UnknownBlock h = absurd h
-    by-reader ContentPastSegment h = absurd h
-    by-reader NoKeptSegment h = absurd h
-
-    go : (o : ReadOutcome (List Module)) → Reads o → (r : Refusal) → fileRefusal o ≡ some r → (5 ≤ refusalNumber r) × (refusalNumber r ≤ 8)
-    go (read modules next) h r e = absurd (none≢some e)
-    go stop h r e = (omega (arith, same-number e), omega (arith, same-number e))
-    go (refused q) h r e = let p = by-reader q h in (omega (arith, same-number e, p .0), omega (arith, same-number e, p .1))
+    go : (r : Refusal) → Ends library (some r) → (5 ≤ refusalNumber r) × (refusalNumber r ≤ 8)
+    go RuleSet h = absurd h
+    go ImageTooLong h = absurd h
+    go LibraryTooLong h = absurd h
+    go StretchPastEnd h = absurd h
+    go NoModule h = (omega arith, omega arith)
+    go BodyPastEnd h = (omega arith, omega arith)
+    go LengthZero h = (omega arith, omega arith)
+    go NamesDiffer h = (omega arith, omega arith)
+    go TooFewRows h = absurd h
+    go UnknownKind h = absurd h
+    go UnknownBlock h = absurd h
+    go ContentPastSegment h = absurd h
+    go NoKeptSegment h = absurd h
 
 abbrev pub collecting-stage : List Module → Stage
 collecting-stage modules =
     record { out = collectRefusal modules; low = 10; high = 13; ranged = λ r e. (collect-late modules e, number-range r .1) }
-
--- what the stages come to, in words
-pub file-stops : (library : List ℕ) → (fileRefusal (file library) ≡ some NoModule) ↔ (file library ≡ stop)
-file-stops library = (there (file library) (file-reads library), λ e. rw e)
-  where
-    there : (o : ReadOutcome (List Module)) → Reads o → fileRefusal o ≡ some NoModule → o ≡ stop
-    there (read modules next) h e = absurd (none≢some e)
-    there stop h e = refl
-    there (refused r) h e = let z : r ≡ NoModule = cc in absurd (rw z at h)
-
-pub file-refuses : (library : List ℕ) (r : Refusal) → 6 ≤ refusalNumber r → (fileRefusal (file library) ≡ some r) ↔ (file library ≡ refused r)
-file-refuses library r l = (there (file library), λ e. rw e)
-  where
-    there : (o : ReadOutcome (List Module)) → fileRefusal o ≡ some r → o ≡ refused r
-    there (read modules next) e = absurd (none≢some e)
-    there stop e = absurd (omega (arith, same-number e))
-    there (refused q) e = cc
-
-pub file-is-read : (library : List ℕ) → (fileRefusal (file library) ≡ none) ↔ IsRead library
-file-is-read library = (there (file library) refl, λ h. rw (h .2))
-  where
-    there : (o : ReadOutcome (List Module)) → file library ≡ o → fileRefusal o ≡ none → IsRead library
-    there (read modules next) q e = (modules, next, q)
-    there stop q e = absurd (none≢some (sym e))
-    there (refused r) q e = absurd (none≢some (sym e))
 
 -- rows that do not fit
 pub over : (width : ℕ) (lent : List ℕ) (n : ℕ) → (tooMany width lent n ≡ true) ↔ Over width lent n
