@@ -5,6 +5,8 @@ pub mod Earlier
 pub mod EarlierLaws
 pub mod SortedLaws
 pub mod NameOrderLaws
+pub mod Listed
+pub mod CompleteLaws
 pub mod LineLayout
 pub mod LineLayoutLaws
 pub mod FrontLines

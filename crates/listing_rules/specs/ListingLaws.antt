@@ -21,7 +21,7 @@ use Rattle.listing_rules.specs.declared.Line.{Line}
 use Rattle.listing_rules.specs.Listing.{notedLine, bestGrade, best, crowded, borneOut, grade, stays, placedLine, gradedAt, linesAt, isLeftover, leftovers, listing}
 
 -- only the best grade is listed: no line at the position has a better one
-best-from : (lines : List Line) (g : ℕ) → (g ≤ fold (λ b l. max b (l .grade)) g lines)
+pub best-from : (lines : List Line) (g : ℕ) → (g ≤ fold (λ b l. max b (l .grade)) g lines)
     × ((l : Line) → l among lines → l .grade ≤ fold (λ b l. max b (l .grade)) g lines)
 unfolding fold
 best-from [] g = (omega arith, λ l i. absurd (List·Memᴰ·not-nil i))
