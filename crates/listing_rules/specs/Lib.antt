@@ -7,6 +7,7 @@ pub mod SortedLaws
 pub mod NameOrderLaws
 pub mod Listed
 pub mod CompleteLaws
+pub mod OrderLaws
 pub mod LineLayout
 pub mod LineLayoutLaws
 pub mod FrontLines
