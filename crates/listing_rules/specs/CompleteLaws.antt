@@ -18,7 +18,7 @@ use Rattle.search_rules.specs.declared.Asked.{Asked}
 use Rattle.search_rules.specs.Search.{Placing, Noting, isNoted}
 use Rattle.listing_rules.specs.declared.Skip.{Skip}
 use Rattle.listing_rules.specs.declared.Line.{Line}
-use Rattle.listing_rules.specs.Listing.{notedLine, bestGrade, best, crowded, stays, placedLine, gradedAt, linesAt, isLeftover, leftovers, listing}
+use Rattle.listing_rules.specs.Listing.{notedLine, bestGrade, best, crowded, borneOut, grade, stays, placedLine, gradedAt, linesAt, isLeftover, leftovers, listing}
 use Rattle.listing_rules.specs.ListingLaws.{best-from, best-only}
 use Rattle.listing_rules.specs.EarlierLaws.{of-from}
 use Rattle.listing_rules.specs.SortedLaws.{to-sorted}
@@ -196,3 +196,30 @@ module _ (library cells : List ℕ) (a : Asked) (skip : Skip) (segments : List C
   -- EXACTLY: a line is in the list exactly if it is to be listed
   pub listed-exactly : (l : Line) → (l among listing library cells a skip segments placed noted) ↔ Listed library cells a skip segments placed noted l
   listed-exactly l = (only l, complete l)
+
+  -- by its grade: 1 to 3 has a symbol, 0 a noted name
+  some-grade : (p : Placing) → 1 ≤ grade library cells a segments placed noted p
+  unfolding grade
+  some-grade p = go (borneOut library cells a segments placed noted p) (isNoted library noted (p .position) (p .name))
+    where
+      go : (t u : Bool) → 1 ≤ (if not t then 1 else if u then 3 else 2)
+      go false u = omega arith
+      go true true = omega arith
+      go true false = omega arith
+
+  pub graded-line : (l : Line) → l among listing library cells a skip segments placed noted → 1 ≤ l .grade → OfSymbol library cells a skip segments placed noted l
+  graded-line l i h = go (only l i)
+    where
+      go : Listed library cells a skip segments placed noted l → OfSymbol library cells a skip segments placed noted l
+      go (ofSymbol o) = o
+      go (ofName o) = absurd (omega (arith, h, ap (λ k. k .grade) (o .line-is)))
+      go (pastEnd o) = absurd (omega (arith, h, ap (λ k. k .grade) (o .line-is)))
+
+  pub noted-line : (l : Line) → l among listing library cells a skip segments placed noted → l .grade ≡ 0
+      → (n : Noting) × (n among noted) × ((n .valid ≡ true) × (l ≡ notedLine n))
+  noted-line l i h = go (only l i)
+    where
+      go : Listed library cells a skip segments placed noted l → (n : Noting) × (n among noted) × ((n .valid ≡ true) × (l ≡ notedLine n))
+      go (ofSymbol o) = absurd (omega (arith, h, ap (λ k. k .grade) (o .line-is), some-grade (o .p)))
+      go (ofName o) = (o .n, o .there, (o .valid, o .line-is))
+      go (pastEnd o) = (o .n, o .there, (o .valid, o .line-is))

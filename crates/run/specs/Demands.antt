@@ -16,7 +16,7 @@ use Rattle.listing_rules.specs.declared.Line.{Line}
 use Rattle.listing_rules.specs.Listing.{lineWidth}
 use Rattle.listing_rules.specs.LineLayout.{lineAt}
 use Rattle.run.specs.declared.Settings.{Settings}
-use Rattle.run.specs.Run.{Lent, Outcome, stages, counted, filledWith, runSeen, run, numberOf, countsOf}
+use Rattle.run.specs.Run.{Lent, Outcome, askedOf, stages, counted, filledWith, runSeen, run, numberOf, countsOf}
 use Rattle.run.specs.Given.{Given, NothingRefused}
 use Rattle.run.specs.Refused.{given-exactly, done-exactly}
 use Rattle.run.specs.Answers.{SameLengths, Sound, sound, lengths-kept}
@@ -50,7 +50,7 @@ module _ (image library : List ℕ) (s : Settings) (lent : Lent) where
 
     -- OWN ADDRESS: each row of the list with a grade of 1 to 3, under rule set 1, as it is read from lent memory
     pub own-row : s .rules ≡ 1 → numberOf (o .answer) ≡ 0 → (i : ℕ) → i < countsOf (o .answer) .lines → 1 ≤ lineAt (o .left .lines) i .grade
-        → Own library (view image (s .stretch)) (modulesIn (file library)) (lineAt (o .left .lines) i .name) (lineAt (o .left .lines) i .address)
+        → Own library (view image (s .stretch)) (askedOf s) (modulesIn (file library)) (lineAt (o .left .lines) i .name) (lineAt (o .left .lines) i .address)
     unfolding counted filledWith stages
     own-row r z i h g = by-line row g
       where
@@ -72,7 +72,7 @@ module _ (image library : List ℕ) (s : Settings) (lent : Lent) where
             ∙ row-is-line lines none (length (lent .lines)) i (λ l j. grades _ _ _ _ _ _ (s .skip) j) room number
 
         by-line : {x : Line} → x ≡ getD lines i none → 1 ≤ x .grade
-            → Own library (view image (s .stretch)) (modulesIn (file library)) (x .name) (x .address)
+            → Own library (view image (s .stretch)) (askedOf s) (modulesIn (file library)) (x .name) (x .address)
         by-line e = rw e λ k. own-address image library s r (getD lines i none) (at-among lines none i number) k
 
 -- THE STRETCH: two images of one length that agree outside the stretch give one outcome, if all else is equal
