@@ -21,7 +21,8 @@ use Rattle.run.specs.Given.{Given, NothingRefused}
 use Rattle.run.specs.Refused.{given-exactly, done-exactly}
 use Rattle.run.specs.Answers.{SameLengths, Sound, sound, lengths-kept}
 use Rattle.run.specs.Withheld.{same-run, plain-run}
-use Rattle.run.specs.OwnAddress.{Own, own-address}
+use Rattle.run.specs.Own.{Own}
+use Rattle.run.specs.OwnAddress.{own-address}
 use Rattle.run.specs.ListedRows.{at-among, grades, row-is-line}
 
 -- the contract of an entry point: its answer, and all that it leaves in lent memory, are those of the run

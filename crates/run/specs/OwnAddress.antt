@@ -34,43 +34,7 @@ use Rattle.listing_rules.specs.Listing.{listing}
 use Rattle.listing_rules.specs.CompleteLaws.{graded-line}
 use Rattle.run.specs.declared.Settings.{Settings}
 use Rattle.run.specs.Run.{askedOf, stages}
-
--- why a match of a segment at a position counts for a name at an address: the segment is one of those collected; with
--- checking on each of its references holds; and the match is valid, or some match notes that name at that address
-pub record Reason (library cells : List ℕ) (a : Asked) (segments : List Collected) (g : Collected) (position : ℕ) (name : Part) (address : ℕ) : Type 0 where
-  pub collected : g among segments
-  pub checked : a .check ≡ true → (r : Reference) → r among g .references → Held cells segments (r .goal) (targetOf cells a position r)
-  pub counts : (isValid a g ≡ true) ⊎ NotedAs library cells a segments name address
-
--- a public definition of that very name, of a kept segment (d, at its place among the kept ones) whose pattern matches at address - offset
-pub record OfKept (library cells : List ℕ) (a : Asked) (modules : List Module) (name : Part) (address : ℕ) : Type 0 where
-  pub m : Module
-  pub is-read : m among modules
-  pub number : ℕ
-  pub place : ℕ
-  pub d : Definition
-  pub is-kept : (place, d) among numbered 0 (kept m)
-  pub offset : ℕ
-  pub defined : Defined m (idOf d) name offset
-  pub after : offset ≤ address
-  pub matching : matchesAt cells (keptSegment library m number (place, d) .bytes) (keptSegment library m number (place, d) .masks) (address - offset) ≡ true
-  pub reason : Reason library cells a (collect (a .rules) library modules) (keptSegment library m number (place, d)) (address - offset) name address
-
--- or of an absolute content that matches at its own address; then the address is the definition's own offset
-pub record OfAbsolute (library cells : List ℕ) (a : Asked) (modules : List Module) (name : Part) (address : ℕ) : Type 0 where
-  pub m : Module
-  pub is-read : m among modules
-  pub number : ℕ
-  pub content-of : Section
-  pub is-there : content-of among m .sections
-  pub absolute : content-of .content .id .0 ≡ 0
-  pub defined : Defined m absoluteId name address
-  pub inside : Within (content-of .content) address
-  pub matching : matchesAt cells (dataOf library content-of) (dataMasks library content-of) (content-of .content .offset) ≡ true
-  pub reason : Reason library cells a (collect (a .rules) library modules) (absoluteSegment (a .rules) library m number content-of) (content-of .content .offset) name address
-
-abbrev pub Own : List ℕ → List ℕ → Asked → List Module → Part → ℕ → Type 0
-Own library cells a modules name address = OfKept library cells a modules name address ⊎ OfAbsolute library cells a modules name address
+use Rattle.run.specs.Own.{Reason, OfKept, OfAbsolute, Own}
 
 module _ (library cells : List ℕ) (check : Bool) (minimum : ℕ) (modules : List Module) (m : Module) (i : m among modules) (number : ℕ) where
   abbrev documented : Asked
