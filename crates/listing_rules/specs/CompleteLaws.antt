@@ -198,7 +198,7 @@ module _ (library cells : List ℕ) (a : Asked) (skip : Skip) (segments : List C
   listed-exactly l = (only l, complete l)
 
   -- by its grade: 1 to 3 has a symbol, 0 a noted name
-  some-grade : (p : Placing) → 1 ≤ grade library cells a segments placed noted p
+  pub some-grade : (p : Placing) → 1 ≤ grade library cells a segments placed noted p
   unfolding grade
   some-grade p = go (borneOut library cells a segments placed noted p) (isNoted library noted (p .position) (p .name))
     where

@@ -7,6 +7,8 @@ pub mod SortedLaws
 pub mod NameOrderLaws
 pub mod Listed
 pub mod CompleteLaws
+pub mod OnceLaws
+pub mod PositionLaws
 pub mod OrderLaws
 pub mod LineLayout
 pub mod LineLayoutLaws

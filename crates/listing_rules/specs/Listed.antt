@@ -7,7 +7,7 @@ use lib.Dec.{eqb}
 use lib.ListN.{length}
 use Rattle.lent.specs.Lists.{keep}
 use Rattle.lent.specs.Members.{_among_}
-use Rattle.lent.specs.Parts.{nameBefore}
+use Rattle.lent.specs.Parts.{sameName, nameBefore}
 use Rattle.segments.specs.Collect.{Collected}
 use Rattle.search_rules.specs.declared.Asked.{Asked}
 use Rattle.search_rules.specs.Search.{Placing, Noting, isNoted}
@@ -55,6 +55,13 @@ module _ (library cells : List ℕ) (a : Asked) (skip : Skip) (segments : List C
     ofName : OfName l → Listed l
     pastEnd : PastEnd l → Listed l
 
+-- no name is placed twice at one position, or noted twice at one target
+abbrev pub PlacedOnce : List ℕ → List Placing → Type 0
+PlacedOnce library placed = (p q : Placing) → Earlier p q placed → p .position ≡ q .position → sameName library (p .name) (q .name) ≡ false
+
+abbrev pub NotedOnce : List ℕ → List Noting → Type 0
+NotedOnce library noted = (n k : Noting) → Earlier n k noted → n .target ≡ k .target → sameName library (n .name) (k .name) ≡ false
+
 -- two lines of noted names, of which the first was noted first
 pub record NotedFirst (noted : List Noting) (x y : Line) : Type 0 where
   pub n : Noting
@@ -63,9 +70,9 @@ pub record NotedFirst (noted : List Noting) (x y : Line) : Type 0 where
   pub x-is : x ≡ notedLine n
   pub y-is : y ≡ notedLine k
 
--- of two lines the first may come first: addresses ascend; at one address inside the image the second name is not before
--- the first in byte order; at one address past it the first name was noted first
+-- of two lines the first comes first: addresses ascend; at one address inside the image the first name is before the
+-- second in byte order; at one address past it the first name was noted first
 pub record InOrder (library : List ℕ) (end : ℕ) (noted : List Noting) (x y : Line) : Type 0 where
   pub ascending : x .address ≤ y .address
-  pub by-name : x .address ≡ y .address → y .address < end → nameBefore library (y .name) (x .name) ≡ false
+  pub by-name : x .address ≡ y .address → y .address < end → nameBefore library (x .name) (y .name) ≡ true
   pub by-noting : x .address ≡ y .address → end ≤ y .address → NotedFirst noted x y

@@ -1,62 +1,29 @@
 -- The lines of the list are in order. Assumes nothing.
 use Prim.Native.Nat.{ℕ, _≤_, _<_}
-use mathlib.Core.Path.{_≡_, refl, sym, ap, _∙_}
+use mathlib.Core.Path.{_≡_, sym, ap, _∙_}
 use mathlib.Core.Logic.{_⊎_, inl, inr}
-use mathlib.Core.Bool.{Bool, true, false, false≢true}
-use mathlib.Core.List.{List, [], _∷_, map}
+use mathlib.Core.Bool.{Bool}
+use mathlib.Core.List.{List}
 use native.Mathlib.Omega.{arith}
 use borrow.Author.Tests.{ltb-true, ltb-false, le-ltb}
 use lib.Dec.{ltb}
 use lib.ListN.{length}
-use Rattle.lent.specs.declared.part.Part.{Part}
-use Rattle.lent.specs.Choice.{if_then_else_}
 use Rattle.lent.specs.Lists.{keep, joined, from, sorted}
 use Rattle.lent.specs.Members.{_among_, of-joined}
-use Rattle.lent.specs.Parts.{bytesOf, before, nameBefore}
-use Rattle.tables.specs.by_name.NamedLaws.{same-equal}
 use Rattle.segments.specs.Collect.{Collected}
 use Rattle.search_rules.specs.declared.Asked.{Asked}
 use Rattle.search_rules.specs.Search.{Placing, Noting}
 use Rattle.listing_rules.specs.declared.Skip.{Skip}
 use Rattle.listing_rules.specs.declared.Line.{Line}
-use Rattle.listing_rules.specs.Listing.{notedLine, best, crowded, gradedAt, linesAt, isLeftover, leftovers, listing}
+use Rattle.listing_rules.specs.Listing.{notedLine, linesAt, isLeftover, leftovers, listing}
 use Rattle.listing_rules.specs.Earlier.{Earlier, Weak}
 use Rattle.listing_rules.specs.EarlierLaws.{of-from, earlier-from, earlier-both, earlier-append, earlier-joined, earlier-map, earlier-keep}
 use Rattle.listing_rules.specs.SortedLaws.{sorted-order, sorted-as-came}
-use Rattle.listing_rules.specs.NameOrderLaws.{before-never, before-through, before-neither}
-use Rattle.listing_rules.specs.Listed.{NotedFirst, InOrder}
+use Rattle.listing_rules.specs.Listed.{PlacedOnce, NotedOnce, NotedFirst, InOrder}
 use Rattle.listing_rules.specs.CompleteLaws.{StandsAt, NotedThere, of-graded, of-lines, of-leftovers}
+use Rattle.listing_rules.specs.PositionLaws.{by-names}
 
--- byte order, and targets by their numbers
-before-weak : Weak before
-before-weak = record { turned = turned; through = through }
-  where
-    turned : (a b : List ℕ) → before a b ≡ true → before b a ≡ false
-    turned a b e = go (before b a) refl
-      where
-        go : (t : Bool) → before b a ≡ t → t ≡ false
-        go true f = absurd (false≢true (sym (before-never a) ∙ before-through a b a e f))
-        go false f = refl
-
-    through : (a b c : List ℕ) → before a b ≡ false → before b c ≡ false → before a c ≡ false
-    through a b c e f = go (before b a) refl (before a c) refl
-      where
-        go : (t : Bool) → before b a ≡ t → (u : Bool) → before a c ≡ u → u ≡ false
-        go true g true h = absurd (false≢true (sym f ∙ before-through b a c g h))
-        go false g true h =
-            let same : a ≡ b = same-equal a b (before-neither a b e g) in
-            absurd (false≢true (sym f ∙ ap (λ s. before s c) (sym same) ∙ h))
-        go t g false h = refl
-
-abbrev byName : List ℕ → Line → Line → Bool
-byName library x y = nameBefore library (x .name) (y .name)
-
-by-name-weak : (library : List ℕ) → Weak (byName library)
-by-name-weak library = record {
-  turned = λ x y. before-weak .turned (bytesOf library (x .name)) (bytesOf library (y .name));
-  through = λ x y z. before-weak .through (bytesOf library (x .name)) (bytesOf library (y .name)) (bytesOf library (z .name));
-}
-
+-- targets by their numbers
 abbrev byTarget : Noting → Noting → Bool
 byTarget x y = ltb (x .target) (y .target)
 
@@ -70,9 +37,6 @@ module _ (library cells : List ℕ) (a : Asked) (skip : Skip) (segments : List C
   abbrev linesOf : ℕ → List Line
   linesOf = linesAt library cells a segments placed noted skip
 
-  abbrev shownAt : ℕ → List Line
-  shownAt at = best (gradedAt library cells a segments placed noted at)
-
   -- a line of a position has its address
   address-is : (at : ℕ) (l : Line) → l among linesOf at → l .address ≡ at
   address-is at l i = go (of-graded library cells a skip segments placed noted at l (of-lines library cells a skip segments placed noted at l i .0))
@@ -85,15 +49,6 @@ module _ (library cells : List ℕ) (a : Asked) (skip : Skip) (segments : List C
   past-end l i =
       let o = of-leftovers library cells a skip segments placed noted l i in
       omega (arith, o .past, ap (λ k. k .address) (o .line-is))
-
-  -- names of one position
-  by-names : (at : ℕ) (x y : Line) → Earlier x y (linesOf at) → byName library y x ≡ false
-  unfolding linesAt
-  by-names at x y e = go (crowded skip (length (shownAt at))) e
-    where
-      go : (t : Bool) → Earlier x y (if t then [] else sorted (byName library) (shownAt at)) → byName library y x ≡ false
-      go true f = absurd f
-      go false f = sorted-order (byName library) (by-name-weak library) x y (shownAt at) f
 
   -- names past the end
   by-notings : (x y : Line) → Earlier x y (leftovers (length cells) skip noted) → (x .address ≤ y .address) × (x .address ≡ y .address → NotedFirst noted x y)
@@ -119,10 +74,10 @@ module _ (library cells : List ℕ) (a : Asked) (skip : Skip) (segments : List C
             y-is = q;
           })
 
-  -- IN ORDER: of two lines of the list the earlier may come first
-  pub in-order : (x y : Line) → Earlier x y (listing library cells a skip segments placed noted) → InOrder library (length cells) noted x y
+  -- IN ORDER: of two lines of the list the earlier comes first
+  pub in-order : PlacedOnce library placed → NotedOnce library noted → (x y : Line) → Earlier x y (listing library cells a skip segments placed noted) → InOrder library (length cells) noted x y
   unfolding listing
-  in-order x y e = go (earlier-append (joined linesOf positions) (leftovers (length cells) skip noted) e)
+  in-order p-once n-once x y e = go (earlier-append (joined linesOf positions) (leftovers (length cells) skip noted) e)
     where
       positions : List ℕ
       positions = from 0 (length cells)
@@ -138,7 +93,7 @@ module _ (library cells : List ℕ) (a : Asked) (skip : Skip) (segments : List C
           let x-at = address-is at x (b .0) in
           let y-at = address-is at y (b .1) in
           let low : at < length cells = omega (arith, of-from 0 (length cells) m .1) in
-          record { ascending = omega (arith, x-at, y-at); by-name = λ s l. by-names at x y f; by-noting = λ s l. absurd (omega (arith, y-at, low, l)) }
+          record { ascending = omega (arith, x-at, y-at); by-name = λ s l. by-names library cells a skip segments placed noted p-once n-once at x y f; by-noting = λ s l. absurd (omega (arith, y-at, low, l)) }
       inside (inr (i, (j, f, (m, n)))) =
           let up = earlier-from 0 (length cells) f in
           apart (omega (arith, up, address-is i x m, address-is j y n))
