@@ -1,8 +1,9 @@
 -- The rows of the list, read back as lines. Assumes nothing.
 use Prim.Native.Nat.{ℕ, zero, suc, _*_, _≤_, _<_}
-use mathlib.Core.Path.{_≡_, refl}
+use mathlib.Core.Path.{_≡_, refl, sym}
+use mathlib.Core.Logic.{_⊎_, inl, inr}
 use mathlib.Core.Bool.{Bool, true, false, not}
-use mathlib.Core.List.{List, [], _∷_, List·Memᴰ·head, List·Memᴰ·tail}
+use mathlib.Core.List.{List, [], _∷_, List·Memᴰ·head, List·Memᴰ·tail, List·Memᴰ·not-nil, List·Memᴰ·cases-cons}
 use native.Mathlib.Decide.{decLt}
 use native.Mathlib.Omega.{arith}
 use lib.ListN.{length, getD}
@@ -24,6 +25,14 @@ pub at-among : {A : Type 0} (xs : List A) (d : A) (i : ℕ) → i < length xs �
 at-among [] d i h = absurd (omega arith)
 at-among (x ∷ xs) d zero h = List·Memᴰ·head refl
 at-among (x ∷ xs) d (suc i) h = List·Memᴰ·tail (at-among xs d i (omega arith))
+
+pub place-among : {A : Type 0} (d : A) {x : A} (xs : List A) → x among xs → (i : ℕ) × (i < length xs) × (getD xs i d ≡ x)
+place-among d [] m = absurd (List·Memᴰ·not-nil m)
+place-among {A} d {x} (y ∷ ys) m = go (List·Memᴰ·cases-cons m) (place-among d ys)
+  where
+    go : (x ≡ y) ⊎ x among ys → (x among ys → (i : ℕ) × (i < length ys) × (getD ys i d ≡ x)) → (i : ℕ) × (i < length (y ∷ ys)) × (getD (y ∷ ys) i d ≡ x)
+    go (inl e) rest = (0, omega arith, sym e)
+    go (inr n) rest = let r = rest n in (suc (r .0), omega (arith, r .1), r .2)
 
 -- a line has one of the grades 0 to 3
 module _ (library cells : List ℕ) (a : Asked) (segments : List Collected) (placed : List Placing) (noted : List Noting) where

@@ -57,6 +57,7 @@ first-found {A} p d (x ∷ xs) e = go (p x) refl e (first-found p d xs)
 -- what a reference to a name is made of
 module _ (m : Module) (number base : ℕ) (f : Fixup) (name : Part) where
   record FromFixup (r : Reference) : Type 0 where
+    block-is : f .block ≡ 2
     own : ModuleId
     info : ℕ
     external : External own info name among m .definitions
@@ -72,26 +73,28 @@ module _ (m : Module) (number base : ℕ) (f : Fixup) (name : Part) where
   is-name (Goal.Segment n) = false
   is-name (Goal.Name x) = true
 
-  external-of : (d : Definition) → d among m .definitions → externalOf (f .id) d ≡ true → nameIn (some d) ≡ name → (r : Reference) → kindOf (f .kind) ≡ some (r .kind) → r .offset ≡ f .offset → FromFixup r
-  external-of (Segment own info relocation size n) i e q r k o = absurd (false≢true e)
-  external-of (Public own offset n) i e q r k o = absurd (false≢true e)
-  external-of (External own info n) i e q r k o =
-      record { own = own; info = info; external = rw (sym q) i; same = eqb-true (own .0) (f .id .0) e; kind-is = k; offset-is = o }
+  external-of : f .block ≡ 2 → (d : Definition) → d among m .definitions → externalOf (f .id) d ≡ true → nameIn (some d) ≡ name → (r : Reference) → kindOf (f .kind) ≡ some (r .kind) → r .offset ≡ f .offset → FromFixup r
+  external-of b (Segment own info relocation size n) i e q r k o = absurd (false≢true e)
+  external-of b (Public own offset n) i e q r k o = absurd (false≢true e)
+  external-of b (External own info n) i e q r k o =
+      record { block-is = b; own = own; info = info; external = rw (sym q) i; same = eqb-true (own .0) (f .id .0) e; kind-is = k; offset-is = o }
 
-  named-external : (d : Definition) → eqb (f .block) 1 ≡ false → named m f ≡ some d → (d among m .definitions) × (externalOf (f .id) d ≡ true)
+  named-external : (d : Definition) → eqb (f .block) 1 ≡ false → named m f ≡ some d
+      → (d among m .definitions) × ((externalOf (f .id) d ≡ true) × (f .block ≡ 2))
   unfolding named
-  named-external d b e = go (eqb (f .block) 2) (rw b at e)
+  named-external d b e = go (eqb (f .block) 2) refl (rw b at e)
     where
-      go : (t : Bool) → (if t then first (externalOf (f .id)) (m .definitions) else none) ≡ some d → (d among m .definitions) × (externalOf (f .id) d ≡ true)
-      go true h = first-found (externalOf (f .id)) d (m .definitions) h
-      go false h = absurd (none≢some h)
+      go : (t : Bool) → eqb (f .block) 2 ≡ t → (if t then first (externalOf (f .id)) (m .definitions) else none) ≡ some d
+          → (d among m .definitions) × ((externalOf (f .id) d ≡ true) × (f .block ≡ 2))
+      go true two h = let x = first-found (externalOf (f .id)) d (m .definitions) h in (x .0, (x .1, eqb-true (f .block) 2 two))
+      go false two h = absurd (none≢some h)
 
   from-fixup : (r : Reference) → r among leaves m number base f → r .goal ≡ Goal.Name name → FromFixup r
   from-fixup r i g = go (isNone (fixupRefusal m f) && isCode (named m f)) refl (kindOf (f .kind)) refl i
     where
       by-name : (o : Option Definition) → named m f ≡ o → isCode o ≡ true → eqb (f .block) 1 ≡ false → nameIn (named m f) ≡ name → kindOf (f .kind) ≡ some (r .kind) → r .offset ≡ f .offset → FromFixup r
       by-name none e c b n k q = absurd (false≢true c)
-      by-name (some d) e c b n k q = let x = named-external d b e in external-of d (x .0) (x .1) (ap nameIn (sym e) ∙ n) r k q
+      by-name (some d) e c b n k q = let x = named-external d b e in external-of (x .1 .1) d (x .0) (x .1 .0) (ap nameIn (sym e) ∙ n) r k q
 
       by-block : (t : Bool) → eqb (f .block) 1 ≡ t → (if t then Goal.Segment (record { 0 = number + keptPlace m (f .id) }) else Goal.Name (nameIn (named m f))) ≡ Goal.Name name
           → isCode (named m f) ≡ true → kindOf (f .kind) ≡ some (r .kind) → r .offset ≡ f .offset → FromFixup r
@@ -118,6 +121,7 @@ module _ (library : List ℕ) (m : Module) (number : ℕ) (name : Part) where
         content-there = i;
         fixup = p .0;
         fixup-there = p .1;
+        block-is = f .block-is;
         own = f .own;
         info = f .info;
         external = f .external;

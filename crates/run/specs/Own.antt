@@ -63,12 +63,14 @@ pub record OfAbsolute (library cells : List ℕ) (a : Asked) (modules : List Mod
 abbrev pub Own : List ℕ → List ℕ → Asked → List Module → Part → ℕ → Type 0
 Own library cells a modules name address = OfKept library cells a modules name address ⊎ OfAbsolute library cells a modules name address
 
--- a reference to a name comes from a fixup of a content of the module: the module has an external of that name and of the fixup's id
+-- a reference to a name comes from a fixup, of block 2, of a content of the module: the module has an external of that
+-- name and of the fixup's id
 pub record ByFixup (m : Module) (name : Part) (r : Reference) : Type 0 where
   pub content-of : Section
   pub content-there : content-of among m .sections
   pub fixup : Fixup
   pub fixup-there : fixup among content-of .fixups
+  pub block-is : fixup .block ≡ 2
   pub own : ModuleId
   pub info : ℕ
   pub external : External own info name among m .definitions
