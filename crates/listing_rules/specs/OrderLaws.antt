@@ -63,16 +63,18 @@ module _ (library cells : List ℕ) (a : Asked) (skip : Skip) (segments : List C
       go (n, (k, f, (p, q))) =
           let x-at : x .address ≡ n .target = ap (λ l. l .address) p in
           let y-at : y .address ≡ k .target = ap (λ l. l .address) q in
-          let up = ltb-false (k .target) (n .target) (sorted-order byTarget by-target-weak n k kept f) in
-          (omega (arith, x-at, y-at, up), λ s.
-          let level = le-ltb (n .target) (k .target) (omega (arith, x-at, y-at, s)) in
-          record {
-            n = n;
-            k = k;
-            first = earlier-keep (isLeftover (length cells) skip noted) n k noted (sorted-as-came byTarget by-target-weak n k kept f level);
-            x-is = p;
-            y-is = q;
-          })
+          let up = ltb-false (k .target) (n .target) (sorted-order byTarget by-target-weak n k kept f) in (
+            omega (arith, x-at, y-at, up),
+            λ s.
+                let level = le-ltb (n .target) (k .target) (omega (arith, x-at, y-at, s)) in
+                record {
+                  n = n;
+                  k = k;
+                  first = earlier-keep (isLeftover (length cells) skip noted) n k noted (sorted-as-came byTarget by-target-weak n k kept f level);
+                  x-is = p;
+                  y-is = q;
+                },
+          )
 
   -- IN ORDER: of two lines of the list the earlier comes first
   pub in-order : PlacedOnce library placed → NotedOnce library noted → (x y : Line) → Earlier x y (listing library cells a skip segments placed noted) → InOrder library (length cells) noted x y
