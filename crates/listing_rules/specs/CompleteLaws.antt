@@ -1,8 +1,8 @@
 -- The list has exactly the lines that are to be listed. Assumes nothing.
 use Prim.Native.Nat.{ℕ, _≤_, _<_, max}
-use mathlib.Core.Path.{_≡_, refl, sym, ap, _∙_}
+use mathlib.Core.Path.{_≡_, refl, sym, ap}
 use mathlib.Core.Logic.{_⊎_, inl, inr, _↔_}
-use mathlib.Core.Bool.{Bool, true, false, not, false≢true, _&&_, _||_}
+use mathlib.Core.Bool.{Bool, true, false, not, _&&_, _||_}
 use mathlib.Core.List.{List, [], _∷_, map, List·Memᴰ·head, List·Memᴰ·tail, List·Memᴰ·not-nil, List·Memᴰ·append-cases, Memᴰ·cast, Memᴰ·append-left, Memᴰ·append-right, Memᴰ·map, Memᴰ·of-map}
 use native.Mathlib.Omega.{arith}
 use borrow.Author.Tests.{eqb-true, eq-eqb, leb-true, le-leb}
@@ -22,7 +22,7 @@ use Rattle.listing_rules.specs.Listing.{notedLine, bestGrade, best, crow
 use Rattle.listing_rules.specs.ListingLaws.{best-from, best-only}
 use Rattle.listing_rules.specs.EarlierLaws.{of-from}
 use Rattle.listing_rules.specs.SortedLaws.{to-sorted}
-use Rattle.listing_rules.specs.Listed.{Shown, OfSymbol, OfName, PastEnd, Listed, ofSymbol, ofName, pastEnd}
+use Rattle.listing_rules.specs.Listed.{Shown, OfSymbol, PastEnd, Listed, ofSymbol, ofName, pastEnd}
 
 -- a line that no other passes has the best grade
 at-most : (lines : List Line) (g top : ℕ) → g ≤ top → ((k : Line) → k among lines → k .grade ≤ top) → fold (λ b l. max b (l .grade)) g lines ≤ top

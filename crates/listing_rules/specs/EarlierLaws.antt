@@ -1,15 +1,15 @@
 -- What stands before what in lists that are put together, put in order, or kept by a test. Assumes nothing.
 use Prim.Native.Nat.{ℕ, zero, suc, _+_, _≤_, _<_}
-use mathlib.Core.Path.{_≡_, refl, sym, ap, _∙_}
+use mathlib.Core.Path.{_≡_, refl, sym}
 use mathlib.Core.Logic.{_⊎_, inl, inr}
-use mathlib.Core.Bool.{Bool, true, false, false≢true}
-use mathlib.Core.List.{List, [], _∷_, _++_, map, List·Memᴰ·head, List·Memᴰ·tail, List·Memᴰ·not-nil, List·Memᴰ·cases-cons, List·Memᴰ·append-cases, Memᴰ·cast, Memᴰ·of-map}
+use mathlib.Core.Bool.{Bool, true, false}
+use mathlib.Core.List.{List, [], _∷_, _++_, map, List·Memᴰ·head, List·Memᴰ·tail, List·Memᴰ·not-nil, List·Memᴰ·cases-cons, List·Memᴰ·append-cases, Memᴰ·of-map}
 use native.Mathlib.Omega.{arith}
 use lib.ListN.{length, getD}
 use Rattle.lent.specs.Choice.{if_then_else_}
-use Rattle.lent.specs.Lists.{keep, joined, fold, from, insert, sorted}
+use Rattle.lent.specs.Lists.{keep, joined, from}
 use Rattle.lent.specs.Members.{_among_, of-keep, of-joined}
-use Rattle.listing_rules.specs.Earlier.{Earlier, Weak}
+use Rattle.listing_rules.specs.Earlier.{Earlier}
 
 -- numbers stand between their ends, and ascend
 pub of-from : {k : ℕ} (at n : ℕ) → k among from at n → (at ≤ k) × (k < at + n)

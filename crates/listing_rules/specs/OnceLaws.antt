@@ -7,7 +7,6 @@ use mathlib.Core.List.{List, [], _∷_, _++_, map, List·Memᴰ·not-nil, List·
 use borrow.Author.Tests.{eq-eqb}
 use lib.Dec.{eqb, leb}
 use lib.ListN.{length}
-use Rattle.lent.specs.declared.part.Part.{Part}
 use Rattle.lent.specs.Choice.{if_then_else_}
 use Rattle.lent.specs.Lists.{one, joined, fold, any}
 use Rattle.lent.specs.Members.{_among_}

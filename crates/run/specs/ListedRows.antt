@@ -1,6 +1,6 @@
 -- The rows of the list, read back as lines. Assumes nothing.
 use Prim.Native.Nat.{ℕ, zero, suc, _*_, _≤_, _<_}
-use mathlib.Core.Path.{_≡_, refl, sym}
+use mathlib.Core.Path.{_≡_, refl, sym, ap}
 use mathlib.Core.Logic.{_⊎_, inl, inr}
 use mathlib.Core.Bool.{Bool, true, false, not}
 use mathlib.Core.List.{List, [], _∷_, List·Memᴰ·head, List·Memᴰ·tail, List·Memᴰ·not-nil, List·Memᴰ·cases-cons}
@@ -17,7 +17,7 @@ use Rattle.search_rules.specs.Search.{Placing, Noting, isNoted}
 use Rattle.listing_rules.specs.declared.Line.{Line}
 use Rattle.listing_rules.specs.declared.Skip.{Skip}
 use Rattle.listing_rules.specs.Listing.{borneOut, grade, listing, lineWidth, lineNumbers}
-use Rattle.listing_rules.specs.ListingLaws.{listed-of}
+use Rattle.listing_rules.specs.CompleteLaws.{graded-line}
 use Rattle.listing_rules.specs.LineLayout.{lineLayout, lineAt}
 use Rattle.listing_rules.specs.LineLayoutLaws.{line-width, line-back}
 
@@ -49,7 +49,7 @@ module _ (library cells : List ℕ) (a : Asked) (segments : List Collected) (pla
   grades skip {l} i = go (decLt 0 (l .grade))
     where
       go : Dec (0 < l .grade) → l .grade ≤ 3
-      go (yes h) = let o = listed-of library cells a segments placed noted skip i h in omega (arith, o .grade-is, at-most-3 (o .p))
+      go (yes h) = let o = graded-line library cells a skip segments placed noted l i h in omega (arith, ap (λ k. k .grade) (o .line-is), at-most-3 (o .p))
       go (no h) = omega arith
 
 -- where the lines fit, row i is line i

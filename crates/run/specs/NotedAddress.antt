@@ -31,7 +31,7 @@ use Rattle.segments.specs.Collect.{Collected, goalOf, left, isNone, leaves, ref
 use Rattle.segments.specs.CollectLaws.{Source, keptOf, absoluteOf, source}
 use Rattle.search_rules.specs.declared.Asked.{Asked}
 use Rattle.search_rules.specs.Search.{Noting, placed, noted}
-use Rattle.search_rules.specs.NotedLaws.{NotedBy, NotedValid, noted-by, noted-valid}
+use Rattle.search_rules.specs.NotedLaws.{NotedBy, noted-by, noted-valid}
 use Rattle.listing_rules.specs.declared.Line.{Line}
 use Rattle.listing_rules.specs.Listing.{notedLine}
 use Rattle.listing_rules.specs.CompleteLaws.{noted-line}

@@ -19,14 +19,13 @@ use Rattle.image.specs.fixup.Target.{rulesOf}
 use Rattle.omf51.specs.declared.Definition.{Definition}
 use Rattle.omf51.specs.Module.{Section, Module}
 use Rattle.omf51.specs.File.{file, modulesIn}
-use Rattle.segments.specs.declared.Reference.{Reference}
 use Rattle.segments.specs.declared.Symbol.{Symbol}
 use Rattle.segments.specs.Ids.{kept, idOf}
 use Rattle.segments.specs.Collect.{Collected, dataOf, dataMasks, keptSegment, absoluteId, insideOf, symbolBase, absoluteSegment, collect}
-use Rattle.segments.specs.CollectLaws.{Source, keptOf, absoluteOf, source, Defined, symbol-named, Within, within-content, own-offset}
+use Rattle.segments.specs.CollectLaws.{Source, keptOf, absoluteOf, source, symbol-named, within-content, own-offset}
 use Rattle.search_rules.specs.declared.Asked.{Asked}
-use Rattle.search_rules.specs.Search.{Placing, isValid, targetOf, isNoted, placed, noted}
-use Rattle.search_rules.specs.SearchLaws.{Seated, Held, holds-each, PlacedBy, placed-by}
+use Rattle.search_rules.specs.Search.{Placing, isValid, isNoted, placed, noted}
+use Rattle.search_rules.specs.SearchLaws.{Seated, holds-each, PlacedBy, placed-by}
 use Rattle.search_rules.specs.NotedLaws.{NotedAs, noted-as}
 use Rattle.listing_rules.specs.declared.Line.{Line}
 use Rattle.listing_rules.specs.declared.Skip.{Skip}
