@@ -2,7 +2,6 @@
 pub mod InOrder
 pub mod InsertLaws
 pub mod InOrderLaws
-pub mod NameOrderLaws
 pub mod Order
 pub mod Passes
 pub mod OrderLaws

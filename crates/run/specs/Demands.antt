@@ -1,37 +1,54 @@
 -- THE DEMANDS, from the contract alone: if an entry point meets this contract, all of the following holds of what it
 -- gives. Assumes nothing.
 use Prim.Native.Nat.{ℕ, _*_, _≤_, _<_}
-use mathlib.Core.Path.{_≡_, sym, ap, _∙_}
+use mathlib.Core.Path.{_≡_, sym, ap, subst, _∙_}
 use mathlib.Core.Logic.{_↔_}
-use mathlib.Core.List.{List}
+use mathlib.Core.List.{List, Memᴰ·cast}
 use native.Mathlib.Omega.{arith}
 use lib.ListN.{length, getD}
 use Rattle.lent.specs.declared.refusal.Refusal.{Refusal}
 use Rattle.lent.specs.OneOutcome.{Determines, by-equation}
 use Rattle.lent.specs.Refusals.{refusalNumber}
 use Rattle.image.specs.View.{view}
-use Rattle.image.specs.ViewLaws.{Agree}
+use Rattle.image.specs.ViewLaws.{Agree, view-length}
 use Rattle.omf51.specs.File.{file, modulesIn}
 use Rattle.listing_rules.specs.declared.Line.{Line}
 use Rattle.listing_rules.specs.Listing.{lineWidth}
 use Rattle.listing_rules.specs.LineLayout.{lineAt}
+use Rattle.listing_rules.specs.EarlierLaws.{earlier-at}
+use Rattle.listing_rules.specs.Listed.{Listed, InOrder}
+use Rattle.listing_rules.specs.CompleteLaws.{complete, only}
+use Rattle.listing_rules.specs.OnceLaws.{placed-once, noted-once}
+use Rattle.listing_rules.specs.OrderLaws.{in-order}
 use Rattle.run.specs.declared.Settings.{Settings}
-use Rattle.run.specs.Run.{Lent, Outcome, stages, counted, filledWith, runSeen, run, numberOf, countsOf}
+use Rattle.run.specs.Run.{Lent, Yield, Outcome, askedOf, stages, counted, filledWith, runSeen, run, numberOf, countsOf}
 use Rattle.run.specs.Given.{Given, NothingRefused}
 use Rattle.run.specs.Refused.{given-exactly, done-exactly}
 use Rattle.run.specs.Answers.{SameLengths, Sound, sound, lengths-kept}
 use Rattle.run.specs.Withheld.{same-run, plain-run}
-use Rattle.run.specs.OwnAddress.{Own, own-address}
-use Rattle.run.specs.ListedRows.{at-among, grades, row-is-line}
+use Rattle.run.specs.Own.{Own, Referred}
+use Rattle.run.specs.OwnAddress.{own-address}
+use Rattle.run.specs.NotedAddress.{noted-address}
+use Rattle.run.specs.ListedRows.{at-among, place-among, grades, row-is-line}
 
 -- the contract of an entry point: its answer, and all that it leaves in lent memory, are those of the run
 abbrev pub Contract : List ℕ → List ℕ → Settings → Lent → Outcome → Type 0
 Contract image library s lent o = o ≡ run image library s lent
 
+abbrev noLine : Line
+noLine = record { address = 0; grade = 0; name = record { at = 0; len = 0 } }
+
 module _ (image library : List ℕ) (s : Settings) (lent : Lent) where
   -- ONE OUTCOME: any two that the contract allows are equal
   pub one-outcome : Determines (Contract image library s lent)
   one-outcome = by-equation (run image library s lent)
+
+  -- what the stages give on the view, and its lines
+  abbrev pub yield : Yield
+  yield = stages (view image (s .stretch)) library s
+
+  abbrev lines : List Line
+  lines = yield .lines
 
   module _ (o : Outcome) (c : Contract image library s lent o) where
     -- THE TABLE OF REFUSALS: each number exactly in its case, and 0 exactly if none applies
@@ -48,32 +65,74 @@ module _ (image library : List ℕ) (s : Settings) (lent : Lent) where
     pub same-lengths : SameLengths (o .left) lent
     same-lengths = rw c (lengths-kept image library s lent)
 
-    -- OWN ADDRESS: each row of the list with a grade of 1 to 3, under rule set 1, as it is read from lent memory
-    pub own-row : s .rules ≡ 1 → numberOf (o .answer) ≡ 0 → (i : ℕ) → i < countsOf (o .answer) .lines → 1 ≤ lineAt (o .left .lines) i .grade
-        → Own library (view image (s .stretch)) (modulesIn (file library)) (lineAt (o .left .lines) i .name) (lineAt (o .left .lines) i .address)
+    -- on 0 each row of the list, as it is read from lent memory, is a line of it
+    record Row (i : ℕ) : Type 0 where
+      number : i < length lines
+      is : lineAt (o .left .lines) i ≡ getD lines i noLine
+
+    row : numberOf (o .answer) ≡ 0 → (i : ℕ) → i < length lines → Row i
     unfolding counted filledWith stages
-    own-row r z i h g = by-line row g
+    row z i h = record {
+      number = h;
+      is =
+          ap (λ x. lineAt (x .lines) i) (memory .left-done z)
+          ∙ row-is-line lines noLine (length (lent .lines)) i (λ l j. grades _ _ _ _ _ _ (s .skip) j) room h;
+    }
       where
-        lines : List Line
-        lines = stages (view image (s .stretch)) library s .lines
-
-        none : Line
-        none = record { address = 0; grade = 0; name = record { at = 0; len = 0 } }
-
-        number : i < length lines
-        number = omega (arith, h, ap (λ x. x .lines) (memory .counts-done z))
-
         room : length lines * lineWidth ≤ length (lent .lines)
         room = omega (arith, answered-exactly .0 z .listed)
 
-        row : lineAt (o .left .lines) i ≡ getD lines i none
-        row =
-            ap (λ x. lineAt (x .lines) i) (memory .left-done z)
-            ∙ row-is-line lines none (length (lent .lines)) i (λ l j. grades _ _ _ _ _ _ (s .skip) j) room number
+    lines-counted : numberOf (o .answer) ≡ 0 → countsOf (o .answer) .lines ≡ length lines
+    unfolding counted
+    lines-counted z = ap (λ x. x .lines) (memory .counts-done z)
 
-        by-line : {x : Line} → x ≡ getD lines i none → 1 ≤ x .grade
-            → Own library (view image (s .stretch)) (modulesIn (file library)) (x .name) (x .address)
-        by-line e = rw e λ k. own-address image library s r (getD lines i none) (at-among lines none i number) k
+    row-of : numberOf (o .answer) ≡ 0 → (i : ℕ) → i < countsOf (o .answer) .lines → Row i
+    row-of z i h = row z i (omega (arith, h, lines-counted z))
+
+    -- OWN ADDRESS: each row of the list with a grade of 1 to 3, under rule set 1
+    pub own-row : s .rules ≡ 1 → numberOf (o .answer) ≡ 0 → (i : ℕ) → i < countsOf (o .answer) .lines → 1 ≤ lineAt (o .left .lines) i .grade
+        → Own library (view image (s .stretch)) (askedOf s) (modulesIn (file library)) (lineAt (o .left .lines) i .name) (lineAt (o .left .lines) i .address)
+    own-row r z i h =
+        let x = row-of z i h in
+        subst (λ l. 1 ≤ l .grade → Own library (view image (s .stretch)) (askedOf s) (modulesIn (file library)) (l .name) (l .address)) (sym (x .is))
+        (own-address image library s r (getD lines i noLine) (at-among lines noLine i (x .number)))
+
+    -- GRADE 0: the name of each row with grade 0 is referred to there, under either rule set
+    pub noted-row : numberOf (o .answer) ≡ 0 → (i : ℕ) → i < countsOf (o .answer) .lines → lineAt (o .left .lines) i .grade ≡ 0
+        → Referred library (view image (s .stretch)) (askedOf s) (modulesIn (file library)) (lineAt (o .left .lines) i .name) (lineAt (o .left .lines) i .address)
+    noted-row z i h =
+        let x = row-of z i h in
+        subst (λ l. l .grade ≡ 0 → Referred library (view image (s .stretch)) (askedOf s) (modulesIn (file library)) (l .name) (l .address)) (sym (x .is))
+        (noted-address image library s (getD lines i noLine) (at-among lines noLine i (x .number)))
+
+    -- COMPLETE: the rows of the list are exactly the lines that are to be listed
+    pub complete-rows : numberOf (o .answer) ≡ 0 → (l : Line) → ((i : ℕ) × (i < countsOf (o .answer) .lines) × (lineAt (o .left .lines) i ≡ l))
+        ↔ Listed library (view image (s .stretch)) (askedOf s) (s .skip) (yield .segments) (yield .placed) (yield .noted) l
+    unfolding stages
+    complete-rows z l = (to, back)
+      where
+        to : (i : ℕ) × (i < countsOf (o .answer) .lines) × (lineAt (o .left .lines) i ≡ l)
+            → Listed library (view image (s .stretch)) (askedOf s) (s .skip) (yield .segments) (yield .placed) (yield .noted) l
+        to (i, h, e) =
+            let x = row-of z i h in
+            only library _ _ _ _ _ _ l (Memᴰ·cast (sym e ∙ x .is) (at-among lines noLine i (x .number)))
+
+        back : Listed library (view image (s .stretch)) (askedOf s) (s .skip) (yield .segments) (yield .placed) (yield .noted) l
+            → (i : ℕ) × (i < countsOf (o .answer) .lines) × (lineAt (o .left .lines) i ≡ l)
+        back q =
+            let p = place-among noLine lines (complete library _ _ _ _ _ _ l q) in
+            (p .0, omega (arith, p .1, lines-counted z), row z (p .0) (p .1) .is ∙ p .2)
+
+    -- IN ORDER: of two rows of the list the earlier comes first
+    pub rows-in-order : numberOf (o .answer) ≡ 0 → (i j : ℕ) → i < j → j < countsOf (o .answer) .lines
+        → InOrder library (length image) (yield .noted) (lineAt (o .left .lines) i) (lineAt (o .left .lines) j)
+    unfolding stages
+    rows-in-order z i j l h =
+        let y = row-of z j h in
+        let x = row z i (omega (arith, l, y .number)) in
+        rw (x .is, y .is, sym (view-length image (s .stretch)))
+        (in-order library _ (askedOf s) (s .skip) _ _ _ (placed-once library _ _ _) (noted-once library _ _ _) (getD lines i noLine) (getD lines j noLine)
+        (earlier-at lines noLine i j l (y .number)))
 
 -- THE STRETCH: two images of one length that agree outside the stretch give one outcome, if all else is equal
 pub stretch-alone : (a b library : List ℕ) (s : Settings) (lent : Lent) → Agree a b (s .stretch)

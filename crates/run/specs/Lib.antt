@@ -7,6 +7,8 @@ pub mod Given
 pub mod StageLaws
 pub mod Refused
 pub mod Answers
+pub mod Own
 pub mod OwnAddress
+pub mod NotedAddress
 pub mod ListedRows
 pub mod Demands

@@ -1,8 +1,9 @@
 -- The rows of the list, read back as lines. Assumes nothing.
 use Prim.Native.Nat.{ℕ, zero, suc, _*_, _≤_, _<_}
-use mathlib.Core.Path.{_≡_, refl}
+use mathlib.Core.Path.{_≡_, refl, sym, ap}
+use mathlib.Core.Logic.{_⊎_, inl, inr}
 use mathlib.Core.Bool.{Bool, true, false, not}
-use mathlib.Core.List.{List, [], _∷_, List·Memᴰ·head, List·Memᴰ·tail}
+use mathlib.Core.List.{List, [], _∷_, List·Memᴰ·head, List·Memᴰ·tail, List·Memᴰ·not-nil, List·Memᴰ·cases-cons}
 use native.Mathlib.Decide.{decLt}
 use native.Mathlib.Omega.{arith}
 use lib.ListN.{length, getD}
@@ -16,7 +17,7 @@ use Rattle.search_rules.specs.Search.{Placing, Noting, isNoted}
 use Rattle.listing_rules.specs.declared.Line.{Line}
 use Rattle.listing_rules.specs.declared.Skip.{Skip}
 use Rattle.listing_rules.specs.Listing.{borneOut, grade, listing, lineWidth, lineNumbers}
-use Rattle.listing_rules.specs.ListingLaws.{listed-of}
+use Rattle.listing_rules.specs.CompleteLaws.{graded-line}
 use Rattle.listing_rules.specs.LineLayout.{lineLayout, lineAt}
 use Rattle.listing_rules.specs.LineLayoutLaws.{line-width, line-back}
 
@@ -24,6 +25,14 @@ pub at-among : {A : Type 0} (xs : List A) (d : A) (i : ℕ) → i < length xs �
 at-among [] d i h = absurd (omega arith)
 at-among (x ∷ xs) d zero h = List·Memᴰ·head refl
 at-among (x ∷ xs) d (suc i) h = List·Memᴰ·tail (at-among xs d i (omega arith))
+
+pub place-among : {A : Type 0} (d : A) {x : A} (xs : List A) → x among xs → (i : ℕ) × (i < length xs) × (getD xs i d ≡ x)
+place-among d [] m = absurd (List·Memᴰ·not-nil m)
+place-among {A} d {x} (y ∷ ys) m = go (List·Memᴰ·cases-cons m) (place-among d ys)
+  where
+    go : (x ≡ y) ⊎ x among ys → (x among ys → (i : ℕ) × (i < length ys) × (getD ys i d ≡ x)) → (i : ℕ) × (i < length (y ∷ ys)) × (getD (y ∷ ys) i d ≡ x)
+    go (inl e) rest = (0, omega arith, sym e)
+    go (inr n) rest = let r = rest n in (suc (r .0), omega (arith, r .1), r .2)
 
 -- a line has one of the grades 0 to 3
 module _ (library cells : List ℕ) (a : Asked) (segments : List Collected) (placed : List Placing) (noted : List Noting) where
@@ -40,7 +49,7 @@ module _ (library cells : List ℕ) (a : Asked) (segments : List Collected) (pla
   grades skip {l} i = go (decLt 0 (l .grade))
     where
       go : Dec (0 < l .grade) → l .grade ≤ 3
-      go (yes h) = let o = listed-of library cells a segments placed noted skip i h in omega (arith, o .grade-is, at-most-3 (o .p))
+      go (yes h) = let o = graded-line library cells a skip segments placed noted l i h in omega (arith, ap (λ k. k .grade) (o .line-is), at-most-3 (o .p))
       go (no h) = omega arith
 
 -- where the lines fit, row i is line i

@@ -85,7 +85,8 @@ holds-each cells a segments m e r i = held (r .goal) (targetOf cells a (m .posit
     held (Goal.Segment number) (At t) h = h
     held (Goal.Name name) (At t) h = tt
 
--- a placed symbol is a symbol of a match, which holds where checking is on, at match position + offset, before the image's end
+-- a placed symbol is a symbol of a match, which holds where checking is on, at match position + offset, before the image's
+-- end; it is valid if the match is
 pub record PlacedBy (cells : List ℕ) (a : Asked) (segments : List Collected) (p : Placing) : Type 0 where
   pub m : Match
   pub matched-at : Matched cells segments m
@@ -95,6 +96,7 @@ pub record PlacedBy (cells : List ℕ) (a : Asked) (segments : List Collected) (
   pub named : p .name ≡ symbol .name
   pub standing : p .position ≡ m .position + symbol .offset
   pub inside : p .position < length cells
+  pub valid-is : p .valid ≡ isValid a (m .segment)
 
 -- what one step of placing does: omission, the first of a name, a new one
 pub place-past : (library : List ℕ) (end : ℕ) (rows : List Placing) (new : Placing) → end ≤ new .position → place library end rows new ≡ rows
@@ -152,6 +154,7 @@ placed-by library cells a segments p i =
           named = ap (λ q. q .name) (e ∙ sym (y .2));
           standing = ap (λ q. q .position) (e ∙ sym (y .2));
           inside = rw e l;
+          valid-is = ap (λ q. q .valid) (e ∙ sym (y .2));
         }
 
     start : p among [] ⊎ ((new : Placing) × (new among joined (symbolsAt cells a segments) (allMatches cells segments)) × ((p ≡ new) × (new .position < length cells)))

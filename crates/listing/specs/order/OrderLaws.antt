@@ -9,7 +9,7 @@ use Rattle.lent.specs.Members.{_among_}
 use Rattle.lent.specs.Parts.{bytesOf, before}
 use Rattle.listing_rules.specs.declared.Line.{Line}
 use Rattle.listing.specs.order.InOrder.{Strict, Comparable, Rising}
-use Rattle.listing.specs.order.NameOrderLaws.{before-never, before-through, before-neither}
+use Rattle.listing_rules.specs.NameOrderLaws.{before-never, before-through, before-neither}
 use Rattle.listing.specs.order.InsertLaws.{every-mine, turned}
 use Rattle.listing.specs.order.InOrderLaws.{in-order}
 use Rattle.listing.specs.order.Order.{byName, Apart}
