@@ -5,6 +5,7 @@ use mathlib.Core.Path.{_≡_}
 use mathlib.Core.List.{List}
 use lib.ListN.{length}
 use Rattle.lent.specs.OneOutcome.{Determines, by-equation}
+use Rattle.describe.specs.Described.{Put}
 use Rattle.listing_rules.specs.declared.Line.{Line}
 use Rattle.listing_rules.specs.Print.{heading, moreDigits, printedLine, printed}
 use Rattle.printing.specs.PrintedText.{fittedText, storedLines}
@@ -27,3 +28,7 @@ digits-one address = by-equation (4 + moreDigits 12 (address / 65536))
 
 pub line-one : (library : List ℕ) (l : Line) → Determines (λ r. r ≡ length (printedLine library l))
 line-one library l = by-equation (length (printedLine library l))
+
+-- `put` and `put_line`: memory afterwards, and where the text ends
+pub put-one : (before : List ℕ) (at : ℕ) (t : List ℕ) → Determines (λ (o : List ℕ × ℕ). Put before at t (o .0) (o .1))
+put-one before at t a b p q = rw (p .stored, p .ends, q .stored, q .ends)
