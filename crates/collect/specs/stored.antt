@@ -8,3 +8,4 @@ pub mod ProgressLaws
 pub mod RegionLaws
 pub mod Segments
 pub mod SegmentLaws
+pub mod OneOutcome

@@ -10,3 +10,4 @@ pub mod SettingsOf
 pub mod Arguments
 pub mod ArgumentLaws
 pub mod Examples
+pub mod OneOutcome

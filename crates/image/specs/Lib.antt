@@ -5,6 +5,7 @@ pub mod Match
 pub mod MatchLaws
 pub mod Window
 pub mod WindowLaws
+pub mod ViewMatchLaws
 pub mod Next
 pub mod NextLaws
 pub mod OneOutcome

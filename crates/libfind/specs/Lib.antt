@@ -4,3 +4,4 @@ pub mod BeginLaws
 pub mod Ends
 pub mod EndLaws
 pub mod FlowLaws
+pub mod OneOutcome

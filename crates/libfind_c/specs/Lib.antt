@@ -1,4 +1,5 @@
 -- What the exported functions give their callers: plain numbers.
 pub mod Exported
 pub mod ExportedLaws
+pub mod Demands
 pub mod OneOutcome

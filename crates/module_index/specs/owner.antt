@@ -1,2 +1,3 @@
 -- The kept segment that gets the contents of an id.
 pub mod Owned
+pub mod OneOutcome

@@ -6,3 +6,4 @@ pub mod LinkLaws
 pub mod FlagLaws
 pub mod Inside
 pub mod InsideLaws
+pub mod OneOutcome
