@@ -22,10 +22,10 @@ use Rattle.listing_rules.specs.Listing.{lineWidth, lineCells, lineNumbers}
 use Rattle.listing_rules.specs.LineLayout.{lineAt}
 use Rattle.run.specs.declared.Settings.{Settings}
 use Rattle.run.specs.declared.Answer.{Answer}
-use Rattle.run.specs.Run.{Lent, Outcome, counted, zeroed, filledWith, runSeen, run, numberOf, countsOf}
+use Rattle.run.specs.Run.{Lent, Outcome, counted, zeroed, filledWith, runSeen, run, numberOf, countsOf, askedOf}
 use Rattle.run.specs.Given.{Given, NothingRefused}
 use Rattle.run.specs.Answers.{SameLengths, Sound, yielded}
-use Rattle.run.specs.OwnAddress.{Own}
+use Rattle.run.specs.Own.{Own}
 use Rattle.run.specs.Withheld.{plain-run}
 use Rattle.run.specs.Demands.{memory as run-memory, same-lengths as run-lengths, refused-exactly as run-refused, answered-exactly as run-answered, own-row as run-own-row, stretch-alone as run-alone}
 use Rattle.libfind_c.specs.Exported.{Handed, handed, handedRun, countsIn, countNumbers}
@@ -107,7 +107,7 @@ module _ (image library : List ℕ) (s : Settings) (counts : List ℕ) (lent : L
   }
 
   own-graded : s .rules ≡ 1 → numberOf (outcome .answer) ≡ 0 → (i : ℕ) → 1 ≤ lineAt (outcome .left .lines) i .grade
-      → Own library (view image (s .stretch)) (modulesIn (file library)) (lineAt (outcome .left .lines) i .name) (lineAt (outcome .left .lines) i .address)
+      → Own library (view image (s .stretch)) (askedOf s) (modulesIn (file library)) (lineAt (outcome .left .lines) i .name) (lineAt (outcome .left .lines) i .address)
   unfolding counted filledWith
   own-graded r z i g = go (decLt i (countsOf (outcome .answer) .lines))
     where
@@ -121,7 +121,7 @@ module _ (image library : List ℕ) (s : Settings) (counts : List ℕ) (lent : L
       past b = ap (λ x. lineAt (x .lines) i .grade) (run-sound .left-done z) ∙ behind lines (length (lent .lines)) i room b
 
       go : Dec (i < countsOf (outcome .answer) .lines)
-          → Own library (view image (s .stretch)) (modulesIn (file library)) (lineAt (outcome .left .lines) i .name) (lineAt (outcome .left .lines) i .address)
+          → Own library (view image (s .stretch)) (askedOf s) (modulesIn (file library)) (lineAt (outcome .left .lines) i .name) (lineAt (outcome .left .lines) i .address)
       go (yes l) = run-own-row image library s lent outcome refl r z i l g
       go (no l) = absurd (omega (arith, g, past (omega (arith, l, ap (λ x. x .lines) (run-sound .counts-done z)))))
 
@@ -151,7 +151,7 @@ module _ (image library : List ℕ) (s : Settings) (counts : List ℕ) (lent : L
     -- OWN ADDRESS: each row of the list with a grade of 1 to 3, under rule set 1, as it is read from lent memory; a row
     -- behind the list's has grade 0, so that no count is asked for
     pub own-row : s .rules ≡ 1 → h .number ≡ 0 → (i : ℕ) → 1 ≤ lineAt (h .left .lines) i .grade
-        → Own library (view image (s .stretch)) (modulesIn (file library)) (lineAt (h .left .lines) i .name) (lineAt (h .left .lines) i .address)
+        → Own library (view image (s .stretch)) (askedOf s) (modulesIn (file library)) (lineAt (h .left .lines) i .name) (lineAt (h .left .lines) i .address)
     unfolding handed
     own-row = rw is-handed own-graded
 

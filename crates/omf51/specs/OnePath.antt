@@ -18,7 +18,9 @@ use Rattle.omf51.specs.Record.{frameAt, expected, recordOf}
 use Rattle.omf51.specs.Entry as Entry
 use Rattle.omf51.specs.Module.{fills}
 use Rattle.omf51.specs.File.{file, fileRefusal}
-use Rattle.omf51.specs.Reaches.{State, opening, header, definitions, contents, fixups, ending, closing28, closing26, closing2A, expects, lengthAt, frameOf, behind, nameIn, least, HasLengthZero, HasBodyPastEnd, Taken, Stops, other-type, no-lengths, no-checksum, rejected, ComesTo, is-library, is-bare, opened, headed, defined, all-defined, filled, fixed, all-fixed, skipped, all-filled, ended, no-header, no-end, closed28, closed26, NothingRead, no-opening, no-first-header, no-first-end, lacks-28, lacks-26, lacks-2A, AllRead, closed2A, bare-header, bare-end, Ends}
+use Rattle.omf51.specs.Reaches.{State, opening, header, definitions, contents, fixups, ending, closing28, closing26, closing2A, expects, lengthAt, frameOf, behind, nameIn, least, HasLengthZero, HasBodyPastEnd, Taken, Stops, other-type, no-lengths, no-checksum, rejected, ComesTo}
+use Rattle.omf51.specs.Reaches.{is-library, is-bare, opened, headed, defined, all-defined, filled, fixed, all-fixed, skipped, all-filled, ended, no-header, no-end, closed28, closed26, NothingRead, no-opening, no-first-header, no-first-end, lacks-28, lacks-26, lacks-2A, AllRead}
+use Rattle.omf51.specs.Reaches.{closed2A, bare-header, bare-end, Ends}
 use Rattle.omf51.specs.ReachesLaws.{reading-ends}
 
 -- one turn leads to a further place, or is the last

@@ -10,7 +10,8 @@ use lib.ListN.{length}
 use Rattle.lent.specs.ChoiceLaws.{both}
 use Rattle.lent.specs.Lists.{any}
 use Rattle.lent.specs.Parts.{same, byteAt}
-use Rattle.omf51.specs.Reaches.{Begun, State, opening, header, definitions, contents, fixups, ending, expects, lengthAt, frameOf, nameIn, least, Taken, other-type, ComesTo, is-library, is-bare, opened, headed, defined, all-defined, filled, all-fixed, all-filled, ended, no-header, NothingRead, no-first-header, lacks-28, BodyPasses, LengthIsZero, NamesApart, AllRead, bare-header}
+use Rattle.omf51.specs.Reaches.{Begun, State, opening, header, definitions, contents, fixups, ending, expects, lengthAt, frameOf, nameIn, least, Taken, other-type, ComesTo, is-library, is-bare, opened, headed, defined, all-defined, filled, all-fixed, all-filled, ended, no-header}
+use Rattle.omf51.specs.Reaches.{NothingRead, no-first-header, lacks-28, BodyPasses, LengthIsZero, NamesApart, AllRead, bare-header}
 
 -- a record is taken if these tests pass
 abbrev takes : List ℕ → State → ℕ → Bool

@@ -19,7 +19,8 @@ use Rattle.omf51.specs.Record.{recordOf}
 use Rattle.omf51.specs.Entry.{idSize, nameOffset, definitionAt, fixupAt}
 use Rattle.omf51.specs.Module.{Module, definitionsAt, fixupsAt, contentBody, sectionAt, sectionsAt, moduleAt, defines, fills, isIdle}
 use Rattle.omf51.specs.File.{modulesAt, libraryAt, file, fileRefusal}
-use Rattle.omf51.specs.Reaches.{Begun, State, opening, header, definitions, contents, fixups, ending, closing28, closing26, closing2A, expects, lengthAt, frameOf, behind, nameIn, definitionEnd, fixupEnd, least, Taken, Stops, ComesTo, is-library, is-bare, opened, headed, defined, all-defined, filled, fixed, all-fixed, skipped, all-filled, ended, no-header, no-end, closed28, closed26, NothingRead, no-opening, no-first-header, no-first-end, lacks-28, lacks-26, lacks-2A, AllRead, closed2A, bare-header, bare-end, Ends}
+use Rattle.omf51.specs.Reaches.{Begun, State, opening, header, definitions, contents, fixups, ending, closing28, closing26, closing2A, expects, lengthAt, frameOf, behind, nameIn, definitionEnd, fixupEnd, least, Taken, Stops, ComesTo, is-library, is-bare, opened, headed, defined}
+use Rattle.omf51.specs.Reaches.{all-defined, filled, fixed, all-fixed, skipped, all-filled, ended, no-header, no-end, closed28, closed26, NothingRead, no-opening, no-first-header, no-first-end, lacks-28, lacks-26, lacks-2A, AllRead, closed2A, bare-header, bare-end, Ends}
 use Rattle.omf51.specs.OutcomeLaws.{Out, reads, stops, refuses, then-out, map-out, many-out, Within, takes, anything, ending-within, name-within, least-within, definition-within, fixup-within, Refuses, zero-length, body-past, record-out}
 
 module _ (library : List ℕ) where
