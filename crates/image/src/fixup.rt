@@ -1,6 +1,6 @@
 // References out of a pattern: their kinds, and the targets to which the bytes of the image lead.
 ghost use mathlib.Core.Path.{_≡_};
-ghost use Prim.Native.Nat.{_+_, _<_, _^_};
+ghost use Prim.Native.Nat.{_<_};
 ghost use Rattle.image.specs.View.{view, cellAt};
 ghost use Rattle.image.specs.fixup.Target.{signed as signedOf, topBits, addr16 as addr16Of, reads, readable as readableIn, leadsTo, target};
 ghost use Rattle.image.specs.fixup.AddressLaws.{page11};
@@ -103,10 +103,8 @@ fn byte_at(image: &[u8], at: usize) -> u8
     0
 }
 
-// The address to which the bytes a and b at `pos` lead. The sum pos + 2 of an Inblock does not
-// wrap, since its bytes lie in an image.
+// The address to which the bytes a and b at `pos` lead. All sums wrap at 64 bits, as document 01 says.
 fn leads_to(rules: Rules, pos: u64, kind: Kind, a: u8, b: u8) -> u64
-    requires { ⌜ pos + reads kind < 2 ^ 64 ⌝ }
     ensures { λ r. ⌜ r ≡ leadsTo rules pos kind a b ⌝ }
 {
     match kind {
@@ -115,7 +113,10 @@ fn leads_to(rules: Rules, pos: u64, kind: Kind, a: u8, b: u8) -> u64
             std::num::wrapping_add_u64(next, signed(a))
         }
         Kind::Word => addr16(a, b),
-        Kind::Inblock => addr11(rules, pos + 2, a, b),
+        Kind::Inblock => {
+            let next = std::num::wrapping_add_u64(pos, 2);
+            addr11(rules, next, a, b)
+        }
     }
 }
 

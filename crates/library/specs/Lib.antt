@@ -10,5 +10,6 @@ pub mod Reading
 pub mod WholeLaws
 pub mod ReadingLaws
 pub mod StandLaws
+pub mod LaterLaws
 pub mod OneOutcome
 pub mod items

@@ -1,4 +1,4 @@
--- A file of bare modules: when there is no first module, and what a damaged later module does. Assumes nothing.
+-- A file of bare modules: when there is no first module. What a damaged later module does: library/specs/LaterLaws.antt. Assumes nothing.
 use Prim.Native.Nat.{ℕ, zero, suc}
 use mathlib.Core.Path.{_≡_, refl}
 use mathlib.Core.Logic.{_↔_}
@@ -69,13 +69,3 @@ no-first library e = ((λ q. there (moduleAt library 0) (module-some library 0) 
     there (read (x ∷ xs) next) s q = absurd (not-stop (repeat (length library) (moduleAt library) (x ∷ xs) next) (repeat-full (length library) (moduleAt library) x xs next) q)
     there stop s q = refl
     there (refused r) s q = let z : _≡_ {A = ℕ} 0 1 = cc in absurd (omega arith)
-
--- a later bare module that can't be read ends the list, and those before it stay: it is no refusal 5
-pub damaged-second : (b : ℕ) (rest : List ℕ) (modules : List Module) (next : ℕ) → eqb b 0x2c ≡ false
-    → moduleAt (b ∷ rest) 0 ≡ read modules next → moduleAt (b ∷ rest) next ≡ stop → file (b ∷ rest) ≡ read modules next
-unfolding file repeat
-damaged-second b rest modules next e p q = rw (e, p, q) (go modules (rw p at (module-some (b ∷ rest) 0)))
-  where
-    go : (ms : List Module) → Some (read ms next) → notEmpty ms next ≡ read ms next
-    go [] s = absurd s
-    go (m ∷ ms) s = refl

@@ -21,8 +21,12 @@ unfoldable pub ending : {A : Type 0} → Frame → A → Reader A
 ending f a next = if leb next (f .end) then read a next else stop
 
 -- a name: a length byte and that many bytes, given as that part of the library
+abbrev pub namePart : List ℕ → ℕ → Part
+namePart library at = record { at = at + 1; len = byteAt library at }
+
+-- the name at a place, if it ends within the body
 abbrev pub nameAt : List ℕ → Frame → Reader Part
-nameAt library f at = let n = byteAt library at in ending f (record { at = at + 1; len = n }) (at + 1 + n)
+nameAt library f at = let n = byteAt library at in ending f (namePart library at) (at + 1 + n)
 
 -- the name in the body of a header (2 bytes follow it) or of an end (4 bytes follow it); further bytes are dropped
 abbrev pub nameWith : ℕ → List ℕ → Frame → Reader Part

@@ -5,14 +5,15 @@ use mathlib.Core.Bool.{Bool, true, false}
 use mathlib.Core.List.{List}
 use native.Mathlib.Omega.{arith}
 use lib.Dec.{eqb, leb}
+use lib.ListN.{length, take, drop, length-take, length-drop}
 use borrow.Author.Tests.{le-leb, lt-leb, eq-eqb, ne-eqb}
 use Rattle.lent.specs.declared.part.Part.{Part}
 use Rattle.lent.specs.Choice.{if_then_else_}
-use Rattle.lent.specs.Parts.{byteAt}
+use Rattle.lent.specs.Parts.{byteAt, bytesOf}
 use Rattle.omf51.specs.declared.Frame.{Frame}
 use Rattle.omf51.specs.declared.End.the-variants.{At, Stop}
 use Rattle.omf51.specs.Reader.{read, stop, andThen}
-use Rattle.omf51.specs.Entry.{ending, idSize, nameOffset, nameWith, definitionAt, fixupAt}
+use Rattle.omf51.specs.Entry.{ending, namePart, idSize, nameOffset, nameWith, definitionAt, fixupAt}
 use Rattle.omf51.specs.Record.{expected, recordOf}
 use Rattle.omf51.specs.RecordLaws.{record-framed}
 use Rattle.omf51.specs.Ends.{endOf}
@@ -25,6 +26,12 @@ module _ {A : Type 0} (f : Frame) (a : A) {next : ℕ} where
   pub cut-past : f .end < next → ending f a next ≡ stop
   unfolding ending
   cut-past h = rw (lt-leb next (f .end) h)
+
+-- a name within the library has as many bytes as its length byte says
+pub name-long : (library : List ℕ) (at : ℕ) → at + byteAt library at < length library → length (bytesOf library (namePart library at)) ≡ byteAt library at
+name-long library at h =
+    let n = byteAt library at in
+    rw (le-leb (at + 1 + n) (length library) (omega arith)) (length-take n (drop (at + 1) library) ∙ omega (arith, length-drop (at + 1) library))
 
 -- a definition, its name standing at p
 module _ (library : List ℕ) (f : Frame) (at : ℕ) {p : ℕ} (here : p ≡ at + nameOffset f) where

@@ -3,7 +3,7 @@ use Prim.Native.Nat.{ℕ, _≤_}
 use mathlib.Core.Path.{_≡_, sym, _∙_}
 use mathlib.Core.List.{List}
 use Rattle.lent.specs.OneOutcome.{Determines, by-equation, by-map}
-use Rattle.lent.specs.Parts.{byteAt, wordAt}
+use Rattle.lent.specs.Parts.{byteAt, wordAt, bytesOf}
 use Rattle.omf51.specs.declared.Frame.{Frame}
 use Rattle.omf51.specs.declared.types.Allowed.{Allowed}
 use Rattle.omf51.specs.declared.record.Framed.{Framed}
@@ -12,7 +12,7 @@ use Rattle.omf51.specs.declared.entry.Entries.{Entries}
 use Rattle.omf51.specs.declared.entry.Named.{Named}
 use Rattle.omf51.specs.declared.entry.Named.the-variants as Named
 use Rattle.omf51.specs.Record.{expected, recordOf}
-use Rattle.omf51.specs.Entry.{segmentSize, idSize, isSegment, isPublic, nameOffset, nameWith}
+use Rattle.omf51.specs.Entry.{namePart, segmentSize, idSize, isSegment, isPublic, nameOffset, nameWith}
 use Rattle.omf51.specs.Module.{defines, fills}
 use Rattle.omf51.specs.Expected.{oneType, allows, frameRead}
 use Rattle.omf51.specs.Ends.{entryEnd, nameRead}
@@ -50,6 +50,13 @@ frames-apart (Framed.Refused r) (Framed.Refused s) e = cc
 
 pub record-at-one : (library : List ℕ) (what : Allowed) (at : ℕ) → Determines (λ r. frameRead r ≡ expected library (allows what) at)
 record-at-one library what at = by-map frameRead frames-apart (expected library (allows what) at)
+
+-- names
+pub read-name-one : (library : List ℕ) (at : ℕ) → Determines (λ r. r ≡ bytesOf library (namePart library at))
+read-name-one library at = by-equation (bytesOf library (namePart library at))
+
+pub name-at-one : (library : List ℕ) (at : ℕ) → Determines (λ r. r ≡ namePart library at)
+name-at-one library at = by-equation (namePart library at)
 
 -- entries
 pub is-segment-one : (f : Frame) → Determines (λ r. r ≡ isSegment f)

@@ -1,9 +1,11 @@
 // The entries of bodies (definitions, fixups, the names of headers and ends): where an entry
 // ends, if all of it stands within its body.
 ghost use mathlib.Core.Path.{_≡_};
-ghost use Prim.Native.Nat.{_≤_};
+ghost use Prim.Native.Nat.{_+_, _≤_, _<_};
+ghost use lib.ListN.{length};
+ghost use Rattle.lent.specs.Parts.{byteAt, bytesOf};
 ghost use Rattle.omf51.specs.Record.{recordOf};
-ghost use Rattle.omf51.specs.Entry.{idSize, isSegment, isPublic, nameOffset, nameWith, definitionAt, fixupAt};
+ghost use Rattle.omf51.specs.Entry.{namePart, idSize, isSegment, isPublic, nameOffset, nameWith, definitionAt, fixupAt};
 ghost use Rattle.omf51.specs.Expected.{oneType};
 ghost use Rattle.omf51.specs.Ends.{endOf, nameRead, entryEnd};
 use crate::End;
@@ -14,6 +16,7 @@ use crate::read_record::byte_at;
 use crate::read_record::record_at;
 use crate::record::Framed;
 use crate::types::Allowed;
+use lent::names::name;
 use lent::part::Part;
 use lent::refusal::Refusal;
 
@@ -22,6 +25,30 @@ fn wide(x: u8) -> usize
     ensures { λ r. ⌜ (r ≡ x) × (r ≤ 255) ⌝ }
 {
     x as usize
+}
+
+// The name whose length byte stands at a place: that many bytes behind it, lent as that very part of the library. A name
+// that passes the library's end has none.
+pub fn read_name<'a>(library: &'a [u8], at: usize) -> &'a [u8]
+    ensures { λ r. ⌜ now r ≡ bytesOf (now (library .entry)) (namePart (now (library .entry)) at) ⌝ }
+{
+    if library.len() <= at {
+        return &library[0..0];
+    }
+    let len = wide(byte_at(library, at));
+    name(library, Part { at: at + 1, len })
+}
+
+// Where the name whose length byte stands at a place is, if all of it stands within the library.
+pub fn name_at(library: &[u8], at: usize) -> Part
+    requires { ⌜ at + byteAt (now library) at < length (now library) ⌝ }
+    ensures { λ r. ⌜ r ≡ namePart (now (library .entry)) at ⌝ }
+{
+    let bytes = read_name(library, at);
+    Part {
+        at: at + 1,
+        len: bytes.len(),
+    }
 }
 
 // Whether a definition record holds segments.
@@ -122,8 +149,9 @@ pub fn named_at(library: &[u8], kind: u8, more: u8, at: usize) -> Named
             if end - body < 1 + len + wide(more) {
                 return Named::Stop;
             }
+            let name = name_at(library, body);
             Named::Read {
-                name: Part { at: body + 1, len },
+                name,
                 next: end + 1,
             }
         }

@@ -63,8 +63,8 @@ module _ (rules : Rules) (pos : ℕ) (kind : Kind) (a b r : ℕ) where
   pub leads-word : kind ≡ Word → r ≡ addr16 a b → r ≡ leadsTo rules pos kind a b
   leads-word k e = rw k e
 
-  pub leads-inblock : kind ≡ Inblock → r ≡ page11 (pos + 2) (topBits rules a) b → r ≡ leadsTo rules pos kind a b
-  leads-inblock k e = rw k e
+  pub leads-inblock : (next : ℕ) → kind ≡ Inblock → next ≡ (pos + 2) % 2 ^ 64 → r ≡ page11 next (topBits rules a) b → r ≡ leadsTo rules pos kind a b
+  leads-inblock next k p e = rw (k, e, p)
 
 -- the target of bytes that can be read, which are the image's; and none of those that can't
 module _ (image : List ℕ) (s : Stretch) (bytes : Bytes image) (rules : Rules) (pos : ℕ) (offset : ℕ) where

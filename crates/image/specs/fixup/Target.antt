@@ -61,7 +61,7 @@ topBits Documented a = a / 32
 
 -- pos + 2 with its low 11 bits cleared, plus 256 times the top bits of the first byte, plus the second byte, kept to 16 bits
 abbrev pub addr11 : Rules → ℕ → ℕ → ℕ → ℕ
-addr11 rules pos a b = ((pos + 2) / 2048 * 2048 + 256 * topBits rules a + b) % 65536
+addr11 rules pos a b = (plus pos 2 / 2048 * 2048 + 256 * topBits rules a + b) % 65536
 
 -- the address to which the bytes a and b at `pos` lead
 abbrev pub leadsTo : Rules → ℕ → Kind → ℕ → ℕ → ℕ

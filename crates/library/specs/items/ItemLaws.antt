@@ -96,7 +96,7 @@ module _ (library : List ℕ) (f : Frame) (at : ℕ) where
   unfolding definitionAt
   definition-read e = rw (named e .is)
 
-  pub definition-room : {end : ℕ} → endOf (definitionAt library f at) ≡ At end → (at + nameOffset f < end) × (end ≤ f .end)
+  pub definition-room : {end : ℕ} → endOf (definitionAt library f at) ≡ At end → (at + nameOffset f + byteAt library (at + nameOffset f) < end) × (end ≤ f .end)
   definition-room e = (omega (arith, named e), omega (arith, named e))
 
   fixed : {end : ℕ} → endOf (fixupAt library f at) ≡ At end → Within f (ending f (one (fixupHere library f at)) fixup-end) (one (fixupHere library f at)) fixup-end end

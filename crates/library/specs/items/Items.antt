@@ -7,7 +7,7 @@ use Rattle.omf51.specs.declared.Frame.{Frame}
 use Rattle.omf51.specs.declared.Definition.{Definition}
 use Rattle.omf51.specs.declared.Fixup.{Fixup}
 use Rattle.omf51.specs.declared.entry.Entries.the-variants.{Definitions, Fixups}
-use Rattle.omf51.specs.Entry.{idSize, idAt, nameOffset, definitionOf}
+use Rattle.omf51.specs.Entry.{namePart, idSize, idAt, nameOffset, definitionOf}
 use Rattle.library.specs.declared.items.Cursor.{Cursor}
 use Rattle.library.specs.declared.items.Step.{Step}
 use Rattle.library.specs.declared.items.Step.the-variants.{Entry, Done}
@@ -19,7 +19,7 @@ use Rattle.library.specs.items.Walk.{nextEntry}
 
 -- a definition where it is whole, with its name; and a fixup
 abbrev pub nameHere : List ℕ → Frame → ℕ → Part
-nameHere library f at = record { at = at + nameOffset f + 1; len = byteAt library (at + nameOffset f) }
+nameHere library f at = namePart library (at + nameOffset f)
 
 abbrev pub definitionHere : List ℕ → Frame → ℕ → Definition
 definitionHere library f at = definitionOf library f at (nameHere library f at)

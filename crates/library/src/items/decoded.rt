@@ -2,7 +2,7 @@
 ghost use mathlib.Core.Path.{_≡_};
 ghost use Prim.Native.Nat.{_+_, _<_};
 ghost use lib.ListN.{length};
-ghost use Rattle.lent.specs.Parts.{wordAt};
+ghost use Rattle.lent.specs.Parts.{byteAt, wordAt};
 ghost use Rattle.omf51.specs.Entry.{idAt, nameOffset};
 ghost use Rattle.library.specs.items.Items.{definitionHere, fixupHere, nextDefinition, nextFixup};
 use crate::items::Cursor;
@@ -10,7 +10,6 @@ use crate::items::NextDefinition;
 use crate::items::NextFixup;
 use crate::items::Step;
 use crate::items::entries::next_entry;
-use lent::part::Part;
 use omf51::Definition;
 use omf51::Fixup;
 use omf51::Frame;
@@ -19,17 +18,11 @@ use omf51::entry::Entries;
 use omf51::read_entry::id_size;
 use omf51::read_entry::is_public;
 use omf51::read_entry::is_segment;
+use omf51::read_entry::name_at;
 use omf51::read_entry::name_offset;
 use omf51::read_record::byte_at;
 use omf51::read_record::word_at;
 use omf51::segment_size;
-
-// A byte as a size.
-fn wide(x: u8) -> usize
-    ensures { λ r. ⌜ r ≡ x ⌝ }
-{
-    x as usize
-}
 
 // The number of the two bytes at a place, low byte first, as a size.
 pub fn word(library: &[u8], at: usize) -> usize
@@ -50,14 +43,10 @@ pub fn id_at(library: &[u8], f: Frame, at: usize) -> ModuleId
 
 // The definition at a place where a whole definition stands.
 fn definition_of(library: &[u8], f: Frame, at: usize) -> Definition
-    requires { ⌜ at + nameOffset f < length (now library) ⌝ }
+    requires { ⌜ at + nameOffset f + byteAt (now library) (at + nameOffset f) < length (now library) ⌝ }
     ensures { λ r. ⌜ r ≡ definitionHere (now (library .entry)) f at ⌝ }
 {
-    let place = at + name_offset(f);
-    let name = Part {
-        at: place + 1,
-        len: wide(byte_at(library, place)),
-    };
+    let name = name_at(library, at + name_offset(f));
     let w = at + id_size(f);
     if is_segment(f) {
         let info = byte_at(library, w);

@@ -19,14 +19,6 @@ add-byte-at c =
     ap (readable cells (a .pos)) (sym (c .before .before .before .width .ensures)) ∙ sym (c .before .before .readable .ensures) ∙ c .before .if1 .taken in
     omega (arith, readable-fits (a .image .now) (a .s) (a .pos) (reads (a .kind)) can, reads-some (a .kind))
 
-leads-to-requires : tie.Need-leads-to-requires
-leads-to-requires c κs =
-    let a = c .before .before .before .before .before .before .args in
-    let cells = view (a .image .now) (a .s) in
-    let can : readable cells (a .pos) (reads (a .kind)) ≡ true =
-    ap (readable cells (a .pos)) (sym (c .before .before .before .before .width .ensures)) ∙ sym (c .before .before .before .readable .ensures) ∙ c .before .before .if1 .taken in
-    omega (arith, readable-fits (a .image .now) (a .s) (a .pos) (reads (a .kind)) can)
-
 returns : tie.Need-returns
 returns c =
     let a = c .before .before .before .before .before .before .before .before .args in
@@ -54,7 +46,7 @@ find-target-spec =
     (λ c κs. search needs)
     add-byte-at
     (λ c κs. search needs)
-    leads-to-requires
+    (λ c κs. search needs)
     (λ c κs. search needs)
     returns
     returns-2)

@@ -1,15 +1,9 @@
 -- `leads_to` by the kind. Assumes nothing.
-use mathlib.Core.Path.{ap}
-use native.Mathlib.Omega.{arith}
-use Rattle.image.specs.fixup.Target.{reads}
 use Rattle.image.specs.fixup.AddressLaws.{leads-relative, leads-word, leads-inblock}
 use borrow.Author.Needs.{needs}
 use Rattle.image.proofs.fixup.leads_to.Statement.{statement}
 use Rattle.image.proofs.fixup.leads_to.Tie as tie
 use Rattle.image.proofs.fixup.leads_to.Reads as reads
-
-add-addr11 : tie.Need-add-addr11
-add-addr11 c = omega (arith, c .before .before .pre, ap reads (c .enum-told3 .given .1))
 
 returns : tie.Need-returns
 returns c =
@@ -21,7 +15,10 @@ returns-2 : tie.Need-returns-2
 returns-2 c = let a = c .before .before .before .args in leads-word (a .rules) (a .pos) (a .kind) (a .a) (a .b) _ (c .before .enum-told2 .given .1) (c .addr16 .ensures)
 
 returns-3 : tie.Need-returns-3
-returns-3 c = let a = c .before .before .before .args in leads-inblock (a .rules) (a .pos) (a .kind) (a .a) (a .b) _ (c .before .enum-told3 .given .1) (c .addr11 .ensures)
+returns-3 c =
+    let a = c .before .before .before .before .args in
+    leads-inblock (a .rules) (a .pos) (a .kind) (a .a) (a .b) _ (c .before .wrapping-add-u643 .result) (c .before .before .enum-told3 .given .1)
+    (c .before .wrapping-add-u643 .ensures) (c .addr11 .ensures)
 
 pub leads-to-spec : {M : Type 1} → statement M
 leads-to-spec =
@@ -34,7 +31,7 @@ leads-to-spec =
     (λ c. search needs)
     (λ c κs. search needs)
     (λ c. search needs)
-    add-addr11
+    (λ c κs. search needs)
     (λ c κs. search needs)
     returns
     returns-2

@@ -1,6 +1,6 @@
 -- `named_at`: the record, then room in its body for the name and what follows it. Assumes nothing.
 use Prim.Native.Nat.{_+_}
-use mathlib.Core.Path.{_≡_, sym, ap, _∙_}
+use mathlib.Core.Path.{_≡_, refl, sym, ap, _∙_}
 use native.Mathlib.Omega.{arith}
 use denote.Ref.{now}
 use Rattle.omf51.specs.declared.Frame.{Frame}
@@ -34,15 +34,22 @@ returns c =
     let more = c .before .wide2 .ensures .0 in
     sym (named-cut (a .library .now) (oneType (a .kind)) (a .more) (a .at) (framed (c .before .before .before .before)) len (omega (arith, more, fits (c .before .before .before .before))))
 
+name-at-requires : tie.Need-name-at-requires
+name-at-requires c κs =
+    let len = c .before .before .wide .ensures .0 ∙ c .before .before .before .byte-at .ensures in
+    omega (arith, len, fits (c .before .before .before .before))
+
 add-t15 : tie.Need-add-t15
-add-t15 c = omega (arith, fits (c .before .before .before .before))
+add-t15 c = omega (arith, fits (c .before .before .before .before .before))
 
 returns-2 : tie.Need-returns-2
 returns-2 c =
-    let a = c .before .before .before .before .before .before .before .before .before .args in
-    let len = c .before .before .wide .ensures .0 ∙ c .before .before .before .byte-at .ensures in
-    let more = c .before .wide2 .ensures .0 in
-    sym (named-whole (a .library .now) (oneType (a .kind)) (a .more) (a .at) (framed (c .before .before .before .before)) len (omega (arith, more, fits (c .before .before .before .before))))
+    let e = c .before in
+    let a = e .before .before .before .before .before .before .before .before .before .args in
+    let len = e .before .before .wide .ensures .0 ∙ e .before .before .before .byte-at .ensures in
+    let more = e .before .wide2 .ensures .0 in
+    rw (c .name-at .ensures)
+    (sym (named-whole (a .library .now) (oneType (a .kind)) (a .more) (a .at) (framed (e .before .before .before .before)) refl (omega (arith, len, more, fits (e .before .before .before .before)))))
 
 returns-3 : tie.Need-returns-3
 returns-3 c =
@@ -67,7 +74,7 @@ named-at-spec =
     (λ c κs. search needs)
     (λ c. search needs)
     returns
-    (λ c. search needs)
+    name-at-requires
     add-t15
     (λ c. search needs)
     (λ c. search needs)

@@ -5,31 +5,32 @@ use borrow.Author.Needs.{needs}
 use Rattle.library.proofs.items.decoded.definition_of.Statement.{statement}
 use Rattle.library.proofs.items.decoded.definition_of.Tie as tie
 
+name-at-requires : tie.Need-name-at-requires
+name-at-requires c κs = rw (c .name-offset .ensures .0) (c .before .before .pre)
+
 returns : tie.Need-returns
 returns c =
-    let a = c .before .before .before .before .before .before .before .before .before .before .before .before .args in
+    let a = c .before .before .before .before .before .before .before .before .before .before .before .args in
     rw (
       c .before .before .before .id-at .ensures,
       c .segment-size .ensures,
       c .before .word-at .ensures,
-      c .before .before .byte-at3 .ensures,
-      c .before .before .before .before .byte-at2 .ensures,
-      c .before .before .before .before .before .before .before .before .wide .ensures,
-      c .before .before .before .before .before .before .before .before .before .byte-at .ensures,
-      c .before .before .before .before .before .before .before .before .before .before .name-offset .ensures .0,
+      c .before .before .byte-at2 .ensures,
+      c .before .before .before .before .byte-at .ensures,
+      c .before .before .before .before .before .before .before .before .name-at .ensures,
+      c .before .before .before .before .before .before .before .before .before .name-offset .ensures .0,
       c .before .before .before .before .before .before .before .id-size .ensures .0,
     )
     (sym (segment-here (a .library .now) (a .f) (a .at) (sym (c .before .before .before .before .before .before .is-segment .ensures) ∙ c .before .before .before .before .before .if1 .taken)))
 
 returns-2 : tie.Need-returns-2
 returns-2 c =
-    let a = c .before .before .before .before .before .before .before .before .before .before .before .args in
+    let a = c .before .before .before .before .before .before .before .before .before .before .args in
     rw (
       c .before .id-at2 .ensures,
       c .word .ensures,
-      c .before .before .before .before .before .before .before .wide .ensures,
-      c .before .before .before .before .before .before .before .before .byte-at .ensures,
-      c .before .before .before .before .before .before .before .before .before .name-offset .ensures .0,
+      c .before .before .before .before .before .before .before .name-at .ensures,
+      c .before .before .before .before .before .before .before .before .name-offset .ensures .0,
       c .before .before .before .before .before .before .id-size .ensures .0,
     )
     (sym (public-here (a .library .now) (a .f) (a .at)
@@ -38,13 +39,12 @@ returns-2 c =
 
 returns-3 : tie.Need-returns-3
 returns-3 c =
-    let a = c .before .before .before .before .before .before .before .before .before .before .before .args in
+    let a = c .before .before .before .before .before .before .before .before .before .before .args in
     rw (
       c .before .id-at3 .ensures,
-      c .byte-at4 .ensures,
-      c .before .before .before .before .before .before .before .wide .ensures,
-      c .before .before .before .before .before .before .before .before .byte-at .ensures,
-      c .before .before .before .before .before .before .before .before .before .name-offset .ensures .0,
+      c .byte-at3 .ensures,
+      c .before .before .before .before .before .before .before .name-at .ensures,
+      c .before .before .before .before .before .before .before .before .name-offset .ensures .0,
       c .before .before .before .before .before .before .id-size .ensures .0,
     )
     (sym (external-here (a .library .now) (a .f) (a .at)
@@ -57,9 +57,7 @@ definition-of-spec =
     (tie.spec
     (λ c κs. search needs)
     (λ c. search needs)
-    (λ c. search needs)
-    (λ c κs. search needs)
-    (λ c κs. search needs)
+    name-at-requires
     (λ c κs. search needs)
     (λ c. search needs)
     (λ c κs. search needs)
