@@ -11,5 +11,6 @@ pub mod WholeLaws
 pub mod ReadingLaws
 pub mod StandLaws
 pub mod LaterLaws
+pub mod NumberLaws
 pub mod OneOutcome
 pub mod items
