@@ -60,7 +60,7 @@ stands : (c : Told) → placesAt (now (at-loop c .before .before .before .args .
 stands c = sym (c .before .before .module-at .ensures) ∙ ap placesRead (c .places .given .1)
 
 loop-holds : tie.Need-loop-holds Inv-loop μ-loop
-loop-holds c = record { long = refl; clear = c .before .before .pre; same = refl }
+loop-holds c = record { long = refl; clear = c .before .before .pre .clear; same = refl }
 
 same-length : tie.Need-same-length Inv-loop μ-loop
 same-length c = c .before .before .loop .inv .long
@@ -74,7 +74,7 @@ returns c =
     record { clear-again = l .inv .clear; says = ap verdictOf (sym no-module ∙ ap collectRefusal (sym none) ∙ l .inv .same) }
 
 fill-requires : tie.Need-fill-requires Inv-loop μ-loop
-fill-requires c κs = at-loop (c .before .before) .loop .inv .clear
+fill-requires c κs = let loop = at-loop (c .before .before) in record { short = loop .before .before .before .pre .short; clear = loop .loop .inv .clear }
 
 clear-requires : tie.Need-clear-requires Inv-loop μ-loop
 clear-requires c κs = c .before .before .before .before .before .fill .ensures .tells

@@ -13,7 +13,9 @@ use Rattle.library.specs.declared.items.Cursor.{Cursor}
 use Rattle.library.specs.items.Left.{definitionsLeft}
 use Rattle.library.specs.items.Yields.{definitionsAfter, next-definition-yields, definitions-start}
 use Rattle.library.specs.items.ForwardLaws.{Ordered, Forward, definition-goes}
+use Rattle.library.specs.items.EntrySizeLaws.{definition-says}
 use Rattle.segments.specs.Ids.{isKept}
+use Rattle.module_ids.specs.IdRowLaws.{changed-small}
 use Rattle.module_ids.specs.Noted.{Tells}
 use Rattle.module_ids.specs.NotedLaws.{noted, kept-more, kept-step, none-kept, all-noted, note-length}
 use borrow.Author.Needs.{needs}
@@ -68,11 +70,21 @@ loop-holds c =
       long = refl;
       done = [];
       whole = definitions-start (a .library .now) (a .at);
-      tells = entry .pre;
+      tells = entry .pre .clear;
       number = none-kept;
       few = omega arith;
       ordered = record { before = omega arith; body-before = omega arith };
     })
+
+note-requires : tie.Need-note-requires Inv-loop μ-loop
+note-requires c κs =
+    let next-definition = after-next-definition (c .before) in
+    let loop = next-definition .before in
+    let entry = at-entry loop in
+    let lib = entry .args .library .now in
+    let d = c .before .before .definition in
+    changed-small lib (loop .loop .n) (d .given .0 .0) (λ i. omega (arith, loop .before .before .before .shared-slice-known .given i)) (entry .pre .short)
+    (omega (arith, loop .loop .inv .few, goes (c .before))) (definition-says lib (loop .loop .c) (sym (next-definition .next-definition .ensures) ∙ d .given .1))
 
 kept-after-requires : tie.Need-kept-after-requires Inv-loop μ-loop
 kept-after-requires c κs =
@@ -93,7 +105,7 @@ loop-again c =
           (c .before .before .before .before .before .before .before .before .before .loop .table) (c .before .before .before .before .before .before .before .before .before .loop .n) d ∙ i .long;
       done = i .done ++ one d;
       whole = append-assoc (i .done) (one d) _ ∙ ap (λ xs. i .done ++ xs) (sym (yields (c .before .before .before .before .before))) ∙ i .whole;
-      tells = rw (c .before .before .before .note .ensures .0, i .number) (noted (i .done) _ d (i .tells) (c .before .before .before .note .ensures .1));
+      tells = rw (c .before .before .before .note .ensures .0, i .number) (noted (i .done) _ d (i .tells) (c .before .before .before .note .ensures .1) (rw (i .number) at (c .before .before .before .note .ensures .2)));
       number = c .kept-after .ensures ∙ rw (i .number) (sym (kept-more (i .done) d));
       few = omega (arith, i .few, f, c .kept-after .ensures, kept-step (c .before .before .before .before .before .before .before .before .before .loop .n) d);
       ordered = f .ordered;
@@ -119,7 +131,7 @@ fill-spec =
     loop-holds
     (λ c κs. search needs)
     (λ c. search needs)
-    (λ c κs. search needs)
+    note-requires
     kept-after-requires
     loop-less
     loop-again
