@@ -40,7 +40,7 @@ pub fn conclude(
     library: &[u8],
     from: usize,
     stored: Stored,
-    table: &mut [u64],
+    table: &mut [u32],
     segments: &mut [u64],
     references: &mut [u64],
     symbols: &mut [u64],
