@@ -4,7 +4,16 @@ use Rattle.module_ids.proofs.row.id_row.Statement.{statement}
 use Rattle.module_ids.proofs.row.id_row.Tie as tie
 
 returns : tie.Need-returns
-returns c = (rw (c .before .before .before .mark-from .ensures, c .before .before .kept-from .ensures, c .before .mark-from2 .ensures, c .name-from .ensures, c .before .before .before .before .numbers .ensures), search needs)
+returns c = (
+  rw (
+    c .before .before .before .mark-from .ensures,
+    c .before .before .kept-from .ensures,
+    c .before .mark-from2 .ensures,
+    c .name-from .ensures,
+    c .before .before .before .before .numbers .ensures,
+  ),
+  search needs,
+)
 
 pub id-row-spec : {M : Type 1} → statement M
 id-row-spec =

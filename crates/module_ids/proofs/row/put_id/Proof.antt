@@ -18,15 +18,13 @@ packed-requires-3 c κs = let p = c .before .before .before .before .before .bef
 
 returns : tie.Need-returns
 returns c =
-    let packed3 = c .before .before .before .before in
-    let packed = packed3 .before .before .before in
     rw (
-      ← packed .before .before .kept-cells .ensures,
-      ← packed .before .mark-number .ensures .0,
-      ← packed .packed .ensures,
-      ← packed3 .before .before .mark-number2 .ensures .0,
-      ← packed3 .before .packed2 .ensures,
-      ← packed3 .packed3 .ensures,
+      ← c .before .before .before .before .before .before .before .before .before .kept-cells .ensures,
+      ← c .before .before .before .before .before .before .before .before .mark-number .ensures .0,
+      ← c .before .before .before .before .before .before .before .packed .ensures,
+      ← c .before .before .before .before .before .before .mark-number2 .ensures .0,
+      ← c .before .before .before .before .before .packed2 .ensures,
+      ← c .before .before .before .before .packed3 .ensures,
     ) (c .before .before .put .ensures)
 
 pub put-id-spec : {M : Type 1} → statement M

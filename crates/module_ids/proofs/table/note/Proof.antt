@@ -13,13 +13,14 @@ use Rattle.module_ids.proofs.table.note.Statement.{statement}
 use Rattle.module_ids.proofs.table.note.Tie as tie
 
 -- The ladder: places of the code that the answers cite, each as it is seen from a later place.
-abbrev at-entry : tie.After-changed → tie.Start
-at-entry c = c .before .before .before .before .before .before
+abbrev after-id-of : tie.After-changed → tie.After-id-of
+after-id-of c = c .before .before .before .before
 
-new-small : (c : tie.After-changed) → let a = at-entry c .args in Small (changed (idRowAt (a .table .now) (idOf (a .d))) (a .n) (a .d))
+new-small : (c : tie.After-changed) → let a = after-id-of c .before .before .args in Small (changed (idRowAt (a .table .now) (idOf (a .d))) (a .n) (a .d))
 new-small c =
-    let a = at-entry c .args in
-    at-entry c .pre (idRowAt (a .table .now) (idOf (a .d))) (read-small (a .table .now) (λ i. omega (arith, c .before .before .before .before .before .slice-known .given i)) (idOf (a .d)))
+    let entry = after-id-of c .before .before in
+    let a = entry .args in
+    entry .pre (idRowAt (a .table .now) (idOf (a .d))) (read-small (a .table .now) (λ i. omega (arith, after-id-of c .before .slice-known .given i)) (idOf (a .d)))
 
 put-id-requires : tie.Need-put-id-requires
 put-id-requires c κs =
@@ -28,8 +29,9 @@ put-id-requires c κs =
 returns : tie.Need-returns
 returns c =
     let changed = c .before .before .before in
-    let a = at-entry changed .args in
-    let i = changed .before .before .before .before .id-of .ensures in (
+    let id-of = after-id-of changed in
+    let a = id-of .before .before .args in
+    let i = id-of .id-of .ensures in (
       note-steps (a .table .now) (a .n) (a .d) (i .0) (changed .before .before .id-row .ensures .0) (changed .changed .ensures) (c .before .before .put-id .ensures),
       subst (λ (x : ModuleId). x .0 < 65536) (i .0) (i .1),
       new-small changed,
