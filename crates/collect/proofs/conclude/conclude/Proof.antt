@@ -60,7 +60,7 @@ returns c =
     }
 
 scan-requires : tie.Need-scan-requires
-scan-requires c κs = at-entry c .pre .0
+scan-requires c κs = let p = at-entry c .pre in record { short = p .1; clear = p .0 }
 
 same-length-6 : tie.Need-same-length-6
 same-length-6 c = after-table c .table .given
