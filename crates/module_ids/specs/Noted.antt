@@ -51,8 +51,14 @@ changed r n (External id info name) = record {
   name = firstName (r .external) (r .name) name;
 }
 
-unfoldable pub noteIn : List ℕ → ℕ → Definition → List ℕ
-noteIn table n d = putRow 3 table (idOf d .0) (idCells (changed (idRowAt table (idOf d)) n d))
+abbrev pub rowNoted : List ℕ → ℕ → Definition → List ℕ
+rowNoted table n d = putRow 3 table (idOf d .0) (idCells (changed (idRowAt table (idOf d)) n d))
+
+-- no id leads to a public definition
+abbrev pub noteIn : List ℕ → ℕ → Definition → List ℕ
+noteIn table n (Segment id info relocation size name) = rowNoted table n (Segment id info relocation size name)
+noteIn table n (Public id offset name) = table
+noteIn table n (External id info name) = rowNoted table n (External id info name)
 
 -- the row of its id still fits
 abbrev pub StaysSmall : ℕ → Definition → Type 0

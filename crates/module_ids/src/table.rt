@@ -141,12 +141,15 @@ fn changed(row: IdRow, n: usize, d: Definition) -> IdRow
     }
 }
 
-// Changes the table by one definition; the module has `n` kept segments before it.
+// Changes the table by one definition; the module has `n` kept segments before it. No id leads to a public definition.
 fn note(table: &mut [u32], n: usize, d: Definition)
     requires { ⌜ StaysSmall n d ⌝ }
     ensures { λ _. ⌜ (now (table .exit) ≡ noteIn (now (table .entry)) n d) × (idOf d .0 < 65536) × Small (changedRow (idRowAt (now (table .entry)) (idOf d)) n d) ⌝ }
 {
     let id = id_of(d);
+    if let Definition::Public { id, offset, name } = d {
+        return;
+    }
     let row = id_row(table, id);
     put_id(table, id, changed(row, n, d));
 }
