@@ -12,12 +12,12 @@ use Rattle.collect.specs.all_modules.Modules.{Workable}
 use Rattle.tables.specs.zeros.Zeros.{zeroList}
 use Rattle.tables.specs.zeros.ZeroLaws.{zero-length, zero-list}
 
-zero-tells : (n : ℕ) → 65536 * 6 ≤ n → Tells [] (zeroList n)
+zero-tells : (n : ℕ) → 65536 * 3 ≤ n → Tells [] (zeroList n)
 unfolding zeroList
 zero-tells n h = zeros-tell n h
 
-pub table-tells : {table : List ℕ} → table ≡ zeroList 393216 → Tells [] table
-table-tells e = rw e (zero-tells 393216 (omega arith))
+pub table-tells : {table : List ℕ} → table ≡ zeroList 196608 → Tells [] table
+table-tells e = rw e (zero-tells 196608 (omega arith))
 
 zero-blank : (size : ℕ) (library : List ℕ) (n h : ℕ) → length library ≤ size * n → length library < 4294967296 → n < 4294967296 → 65536 ≤ h
     → Blank size library (zeroList n) (zeroList n) (zeroList h) (zeroList n)
@@ -39,6 +39,7 @@ zeros-work library n k a b s f g t = record {
   masks = rw (zero-length 65536) (omega arith);
   few-keys = rw (zero-length k) g;
   few = omega arith;
+  short = s;
 }
 
 pub tables-work : (library : List ℕ) (n k : ℕ) {table ids places first next keys entries names onward apart : List ℕ} → length library ≤ 7 * n → length library ≤ 5 * k → length library ≤ 1048576 → n < 4294967296 → k ≤ 209920

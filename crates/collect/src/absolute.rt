@@ -22,7 +22,7 @@ pub fn store_absolutes(
     library: &[u8],
     own: bool,
     number: usize,
-    table: &[u64],
+    table: &[u32],
     first: &[u32],
     next: &[u32],
     places: &[u32],

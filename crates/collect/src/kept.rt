@@ -46,7 +46,7 @@ fn store_definition(
     library: &[u8],
     d: Definition,
     number: usize,
-    table: &[u64],
+    table: &[u32],
     first: &[u32],
     next: &[u32],
     places: &[u32],
@@ -99,7 +99,7 @@ fn store_definition(
 pub fn store_keeps(
     library: &[u8],
     from: usize,
-    table: &[u64],
+    table: &[u32],
     first: &[u32],
     next: &[u32],
     places: &[u32],

@@ -1,4 +1,5 @@
 -- Where repetitions, modules and the file end, as the code goes over them.
+pub mod Longest
 pub mod Gathered
 pub mod RepeatLaws
 pub mod EndLaws

@@ -32,7 +32,7 @@ fn append_left(leaves: Leaves, m: &mut [u64], f: Fill) -> Fill
 // what the module's ids lead to; `number` is that of the module's first segment; `base` is added to the fixups' locations.
 pub fn refer(
     library: &[u8],
-    table: &[u64],
+    table: &[u32],
     number: usize,
     base: usize,
     from: Cursor,
@@ -63,7 +63,7 @@ pub fn refer(
 // location. `next` and `places` are the links between the module's contents and their places in the library.
 pub fn refer_along(
     library: &[u8],
-    table: &[u64],
+    table: &[u32],
     number: usize,
     link: u32,
     next: &[u32],

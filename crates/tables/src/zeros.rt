@@ -3,11 +3,11 @@
 ghost use mathlib.Core.Path.{_≡_};
 ghost use Rattle.tables.specs.zeros.Zeros.{zeroList};
 
-// The table of ids of one module: a row of six numbers for each of the 65,536 ids.
-pub fn id_table() -> [u64; 393216]
-    ensures { λ r. ⌜ r ≡ zeroList 393216 ⌝ }
+// The table of ids of one module: a row of three numbers for each of the 65,536 ids.
+pub fn id_table() -> [u32; 196608]
+    ensures { λ r. ⌜ r ≡ zeroList 196608 ⌝ }
 {
-    [0u64; 393216]
+    [0u32; 196608]
 }
 
 // The first place of each of 65,536 keys (ids or offsets), as a link.

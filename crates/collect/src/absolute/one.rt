@@ -23,7 +23,7 @@ use segment_parts::symbols_by_offset::names::name_inside;
 // the ids lead to, `number` is that of the module's first segment; `own` is explained at `is_own`.
 pub fn store_absolute(
     library: &[u8],
-    table: &[u64],
+    table: &[u32],
     number: usize,
     own: bool,
     content: Content,

@@ -34,7 +34,7 @@ pub fn store_all(
     library: &[u8],
     rules: Rules,
     from: usize,
-    table: &mut [u64],
+    table: &mut [u32],
     ids: &mut [u16],
     places: &mut [u32],
     first: &mut [u32],

@@ -19,7 +19,7 @@ pub fn store_module(
     own: bool,
     at: Places,
     c: CollectCounts,
-    table: &mut [u64],
+    table: &mut [u32],
     ids: &mut [u16],
     places: &mut [u32],
     first: &mut [u32],

@@ -19,7 +19,7 @@ use segment_parts::symbols::name_along;
 // (along `onward`, at `entries`) its symbols. `table` tells of ids, `number` is that of the module's first segment.
 pub fn store_kept(
     library: &[u8],
-    table: &[u64],
+    table: &[u32],
     number: usize,
     link: u32,
     next: &[u32],

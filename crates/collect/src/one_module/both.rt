@@ -17,7 +17,7 @@ pub fn both_parts(
     library: &[u8],
     own: bool,
     from: usize,
-    table: &[u64],
+    table: &[u32],
     first: &[u32],
     next: &[u32],
     places: &[u32],

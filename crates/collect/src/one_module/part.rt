@@ -21,7 +21,7 @@ use tables::links::number_at;
 pub fn first_part(
     library: &[u8],
     from: usize,
-    table: &[u64],
+    table: &[u32],
     first: &[u32],
     next: &[u32],
     places: &[u32],
@@ -73,7 +73,7 @@ pub fn second_part(
     own: bool,
     from: usize,
     number: usize,
-    table: &[u64],
+    table: &[u32],
     first: &[u32],
     next: &[u32],
     places: &[u32],

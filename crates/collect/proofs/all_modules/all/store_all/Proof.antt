@@ -195,6 +195,7 @@ store-module-requires c κs =
       masks = omega (arith, p .masks, i .apart-long);
       few-keys = omega (arith, p .few-keys, loop .loop .inv .0 .keys-long);
       few = omega (arith, i .few, i .long .segments, entry .good .1 .1 .1 .1 .1 .1 .1 .1 .1 .1 .1 .1 .0, entry .good .0);
+      short = p .short;
     }
 
 same-length-16 : tie.Need-same-length-16 Inv-loop μ-loop

@@ -43,6 +43,9 @@ after-apart c = after-first2 c .before .before .before .before .before .before
 abbrev after-bytes : tie.After-slice-known32 → tie.After-bytes
 after-bytes c = after-apart c .before .before .before .before
 
+fill-requires : tie.Need-fill-requires
+fill-requires c κs = let p = c .before .before .before .before .before .before .before .before .before .before .before .before .before .before .before .before .before .pre in record { short = p .short; clear = p .tells }
+
 both-parts-requires : tie.Need-both-parts-requires
 both-parts-requires c κs =
     let block-flags = after-block-flags c in
@@ -124,7 +127,7 @@ pub store-module-spec : {M : Type 1} → statement M
 store-module-spec =
     tie.close
     (tie.spec
-    (λ c κs. search needs)
+    fill-requires
     (λ c κs. search needs)
     (λ c κs. search needs)
     (λ c. search needs)
