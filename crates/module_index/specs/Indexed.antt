@@ -12,10 +12,9 @@ use Rattle.module_index.specs.gather.Into.{Roomy}
 use Rattle.module_ids.specs.Noted.{Tells}
 
 -- tables in which nothing stands: room for all that a library can hold, `size` bytes being the least that one takes, and heads of 0
-pub record Blank (size : ℕ) (library keys places first next : List ℕ) : Type 0 where
-  pub roomy : Roomy size library keys places
-  pub few : length keys < 4294967296
-  pub room : length keys ≤ length next
+pub record Blank (size : ℕ) (library things first : List ℕ) : Type 0 where
+  pub roomy : Roomy size library things
+  pub few : length things < 268435456
   pub heads : 65536 ≤ length first
   pub clear : (key : ℕ) → key < 65536 → getD first key 0 ≡ 0
 

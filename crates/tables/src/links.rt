@@ -7,10 +7,11 @@ ghost use lib.ListN.{length, getD, take};
 ghost use Rattle.tables.specs.links.Things.{thingKey, thingOf, linkedTo, keysOf, placesOf, nextOf};
 ghost use Rattle.tables.specs.links.Index.{Ready, LinkedThings, Cleared};
 
-// A thing of this key, which is read again at this place of the library, and is not linked yet.
+// A thing of this key, which is read again at this place of the library, and is not linked yet. That a key has 16 bits
+// is said for callers, who know it of the type only.
 pub fn thing(key: u16, place: usize) -> u64
     requires { ⌜ place < 1048576 ⌝ }
-    ensures { λ r. ⌜ r ≡ thingOf key place ⌝ }
+    ensures { λ r. ⌜ (r ≡ thingOf key place) × (key < 65536) ⌝ }
 {
     key as u64 + 65536 * place as u64
 }

@@ -8,12 +8,13 @@ use library::items::NextDefinition;
 use library::items::decoded::next_definition;
 use library::items::entries::start;
 use omf51::Definition;
+use tables::links::thing;
 
 // Stores the id and the place of each public definition from a place on, and answers how many there are. The place is
 // that of the definition's offset, four bytes before the bytes of its name.
-pub fn gather_publics(library: &[u8], from: usize, keys: &mut [u16], places: &mut [u32]) -> usize
-    requires { ⌜ Roomy 5 (now library) (now keys) (now places) ⌝ }
-    ensures { λ r. ⌜ GatheredInto publicKey (PublicIs (now (library .entry))) noDefinition (keep isPublicDefinition (itemsAt (now (library .entry)) (definitionsAt (now (library .entry))) from)) (now (keys .entry)) (now (places .entry)) (now (keys .exit)) (now (places .exit)) r ⌝ }
+pub fn gather_publics(library: &[u8], from: usize, things: &mut [u64]) -> usize
+    requires { ⌜ Roomy 6 (now library) (now things) ⌝ }
+    ensures { λ r. ⌜ GatheredInto publicKey (PublicIs (now (library .entry))) noDefinition (keep isPublicDefinition (itemsAt (now (library .entry)) (definitionsAt (now (library .entry))) from)) (now (things .entry)) (now (things .exit)) r ⌝ }
 {
     let mut c = start(from);
     let mut n = 0;
@@ -21,8 +22,7 @@ pub fn gather_publics(library: &[u8], from: usize, keys: &mut [u16], places: &mu
         match next_definition(library, c) {
             NextDefinition::Item { definition, rest } => {
                 if let Definition::Public { id, offset, name } = definition {
-                    keys[n] = id.0;
-                    places[n] = (name.at - 4) as u32;
+                    things[n] = thing(id.0, name.at - 4);
                     n += 1;
                 }
                 c = rest;

@@ -17,8 +17,8 @@ use Rattle.tables.specs.links.Index.{keyAt, LinkedIn, ClearedTo, Cleared
 pub number-at-one : (numbers : List ℕ) (i : ℕ) → Determines (λ r. r ≡ getD numbers i 0)
 number-at-one numbers i = by-equation (getD numbers i 0)
 
-pub thing-one : (key place : ℕ) → Determines (λ r. r ≡ thingOf key place)
-thing-one key place = by-equation (thingOf key place)
+pub thing-one : (key place : ℕ) → Determines (λ r. (r ≡ thingOf key place) × (key < 65536))
+thing-one key place a b p q = p .0 ∙ sym (q .0)
 
 -- the head of a key is 0 if it is one of the keys, and else as it was: those from m on are looked at already
 module _ (keys before : List ℕ) (n : ℕ) (a b : List ℕ) (p : ClearedTo keys n before a) (q : ClearedTo keys n before b) (key : ℕ) where
