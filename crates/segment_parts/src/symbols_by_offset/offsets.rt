@@ -10,11 +10,12 @@ use library::items::decoded::next_definition;
 use library::items::entries::start;
 use omf51::Definition;
 use tables::links::link;
+use tables::links::thing;
 
 // Stores the offset and the place of each public definition of id 0 from a place on, and answers how many there are.
-fn gather_offsets(library: &[u8], from: usize, keys: &mut [u16], places: &mut [u32]) -> usize
-    requires { ⌜ Roomy 5 (now library) (now keys) (now places) ⌝ }
-    ensures { λ r. ⌜ GatheredInto offsetKey (PublicIs (now (library .entry))) noDefinition (zeroPublics (itemsAt (now (library .entry)) (definitionsAt (now (library .entry))) from)) (now (keys .entry)) (now (places .entry)) (now (keys .exit)) (now (places .exit)) r ⌝ }
+fn gather_offsets(library: &[u8], from: usize, things: &mut [u64]) -> usize
+    requires { ⌜ Roomy 6 (now library) (now things) ⌝ }
+    ensures { λ r. ⌜ GatheredInto offsetKey (PublicIs (now (library .entry))) noDefinition (zeroPublics (itemsAt (now (library .entry)) (definitionsAt (now (library .entry))) from)) (now (things .entry)) (now (things .exit)) r ⌝ }
 {
     let mut c = start(from);
     let mut n = 0;
@@ -23,8 +24,7 @@ fn gather_offsets(library: &[u8], from: usize, keys: &mut [u16], places: &mut [u
             NextDefinition::Item { definition, rest } => {
                 if let Definition::Public { id, offset, name } = definition {
                     if id.0 == 0 {
-                        keys[n] = offset as u16;
-                        places[n] = (name.at - 4) as u32;
+                        things[n] = thing(offset as u16, name.at - 4);
                         n += 1;
                     }
                 }
@@ -37,20 +37,13 @@ fn gather_offsets(library: &[u8], from: usize, keys: &mut [u16], places: &mut [u
     }
 }
 
-// Indexes the public definitions of id 0, from a place on, and answers how many there are: the offset of each goes into
-// `keys`, its place in the library into `places`; `first` and `next` link the public definitions of one offset.
-pub fn index_offsets(
-    library: &[u8],
-    from: usize,
-    keys: &mut [u16],
-    places: &mut [u32],
-    first: &mut [u32],
-    next: &mut [u32],
-) -> usize
-    requires { ⌜ Blank 5 (now library) (now keys) (now places) (now first) (now next) ⌝ }
-    ensures { λ r. ⌜ OffsetsIndexed (now (library .entry)) (zeroPublics (itemsAt (now (library .entry)) (definitionsAt (now (library .entry))) from)) (now (keys .entry)) (now (places .entry)) (now (first .entry)) (now (next .entry)) (now (keys .exit)) (now (places .exit)) (now (first .exit)) (now (next .exit)) r ⌝ }
+// Indexes the public definitions of id 0, from a place on, and answers how many there are: each goes into `things`, with
+// its offset as its key; `first` leads to the first public definition of each offset.
+pub fn index_offsets(library: &[u8], from: usize, things: &mut [u64], first: &mut [u32]) -> usize
+    requires { ⌜ Blank 6 (now library) (now things) (now first) ⌝ }
+    ensures { λ r. ⌜ OffsetsIndexed (now (library .entry)) (zeroPublics (itemsAt (now (library .entry)) (definitionsAt (now (library .entry))) from)) (now (things .entry)) (now (first .entry)) (now (things .exit)) (now (first .exit)) r ⌝ }
 {
-    let n = gather_offsets(library, from, keys, places);
-    link(&keys[0..n], first, next);
+    let n = gather_offsets(library, from, things);
+    link(things, n, first);
     n
 }

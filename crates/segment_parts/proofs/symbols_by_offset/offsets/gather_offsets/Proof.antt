@@ -25,9 +25,11 @@ use Rattle.library.specs.items.Fewer.{fewer-definitions}
 use Rattle.library.specs.items.ContentSizeLaws.{word-small}
 use Rattle.library.specs.items.ForwardLaws.{Ordered, Sized, definition-sized}
 use Rattle.library.specs.items.EntrySizeLaws.{PublicAgain, public-again}
+use Rattle.library.specs.items.PublicSizeLaws.{public-sized}
 use Rattle.segments.specs.Ids.{idOf}
-use Rattle.module_index.specs.gather.Places.{publicAt, noDefinition, isPublicDefinition}
-use Rattle.module_index.specs.gather.GatherLaws.{Held, none-gathered, gather-turn, all-done}
+use Rattle.module_index.specs.gather.Places.{publicAt, PublicIs, noDefinition, isPublicDefinition}
+use Rattle.module_index.specs.gather.Into.{Held}
+use Rattle.module_index.specs.gather.GatherLaws.{none-gathered, gather-turn, all-done}
 use Rattle.module_index.specs.gather.PublicLaws.{read-again}
 use Rattle.segment_parts.specs.symbols_by_offset.Offsets.{offsetKey, zeroPublics}
 use Rattle.segment_parts.specs.symbols_by_offset.OffsetLaws.{zero-kept, other-id-passed, not-public-passed, no-zeros}
@@ -36,20 +38,19 @@ use Rattle.segment_parts.proofs.symbols_by_offset.offsets.gather_offset
 use Rattle.segment_parts.proofs.symbols_by_offset.offsets.gather_offsets.Tie as tie
 
 -- a public definition is read at a place
-abbrev Stands : List ℕ → ℕ → Definition → Type 0
-Stands library p d = publicAt library (idOf d) p ≡ d
+abbrev Read : List ℕ → ℕ → Definition → Type 0
+Read library p d = publicAt library (idOf d) p ≡ d
 
 -- those of id 0 among these are gathered
-abbrev Zero-held : List ℕ → List Definition → List ℕ → List ℕ → ℕ → Type 0
-Zero-held library ds keys places n = Held offsetKey (Stands library) noDefinition (zeroPublics ds) keys places n
+abbrev Zero-held : List ℕ → List Definition → List ℕ → ℕ → Type 0
+Zero-held library ds things n = Held offsetKey (PublicIs library) noDefinition (zeroPublics ds) things n
 
-record Inv (library : List ℕ) (from : ℕ) (keys₀ places₀ keys places : List ℕ) (c : Cursor) (n : ℕ) : Type 0 where
-  keys-long : length keys ≡ length keys₀
-  places-long : length places ≡ length places₀
+record Inv (library : List ℕ) (from : ℕ) (things₀ things : List ℕ) (c : Cursor) (n : ℕ) : Type 0 where
+  long : length things ≡ length things₀
   done : List Definition
   whole : done ++ definitionsLeft library c ≡ itemsAt library (definitionsAt library) from
-  gathered : Zero-held library done keys places n
-  few : 5 * n ≤ c .at
+  gathered : Zero-held library done things n
+  few : 6 * n ≤ c .at
   ordered : Ordered c
 
 not-public : (d : Definition) → OneOf (0 ∷ 2 ∷ []) (tagOf the-type d) → isPublicDefinition d ≡ false
@@ -59,17 +60,17 @@ not-public (Public id offset name) (inr z) = absurd (omega arith)
 not-public (External id info name) h = refl
 
 abbrev Inv-loop : tie.InvT-loop
-Inv-loop library from keys₀ places₀ c₀ n₀ keys places c n = Inv library from keys₀ places₀ keys places c n
+Inv-loop library from things₀ c₀ n₀ things c n = Inv library from things₀ things c n
 
 abbrev μ-loop : tie.MeasureT-loop
-μ-loop library from keys₀ places₀ c₀ n₀ keys places c n = length (definitionsLeft library c)
+μ-loop library from things₀ c₀ n₀ things c n = length (definitionsLeft library c)
 
 -- The ladder: places of the code that the answers cite, each as it is seen from a later place.
 abbrev at-loop : tie.After-known-told Inv-loop μ-loop → tie.At-loop Inv-loop μ-loop
 at-loop c = c .before .before .before .before
 
 abbrev at-entry : tie.After-known-told Inv-loop μ-loop → tie.Start Inv-loop μ-loop
-at-entry c = at-loop c .before .before .before .before .before
+at-entry c = at-loop c .before .before .before .before
 
 abbrev after-known-told : tie.After-known-told2 Inv-loop μ-loop → tie.After-known-told Inv-loop μ-loop
 after-known-told c = c .before .before .before
@@ -84,33 +85,20 @@ step c = sym (c .before .before .before .next-definition .ensures) ∙ c .before
 goes : (c : Told) → Sized (now (at-entry c .args .library)) 5 (at-loop c .loop .c) (c .before .definition .given .0 .1 .0)
 goes c = definition-sized (at-entry c .args .library .now) (at-loop c .loop .c) (at-loop c .loop .inv .ordered) (step c)
 
--- there is room for it
-below : (c : Told) → 5 * at-loop c .loop .n + 5 < 4294967296
-below c = omega (arith, at-loop c .loop .inv .few, goes c .size-later, goes c .forward .inside, at-entry c .pre .short)
-
-room : (c : Told) → (at-loop c .loop .n < length (at-loop c .loop .keys)) × (at-loop c .loop .n < length (at-loop c .loop .places))
-room c =
-    let i = at-loop c .loop .inv in
-    let g = goes c in
-    let r = at-entry c .pre in
-    (omega (arith, i .few, g .size-later, g .forward .inside, r .for-keys, i .keys-long), omega (arith, i .few, g .size-later, g .forward .inside, r .for-places, i .places-long))
-
 -- with it the rest goes on, whether it is stored or not
-goes-on : (c : Told) (n : ℕ) (keys places : List ℕ) (d : Definition) → d ≡ c .before .definition .given .0 .0 → length keys ≡ length
-    (at-entry c .args .keys .now) → length places ≡ length (at-entry c .args .places .now)
-    → 5 * n ≤ at-loop c .loop .c .at + 5 → Zero-held (at-entry c .args .library .now) (at-loop c .loop .inv .done ++ one d) keys places n
-    → Inv (at-entry c .args .library .now) (at-entry c .args .from) (at-entry c .args .keys .now) (at-entry c .args .places .now) keys places (c .before .definition .given .0 .1 .0) n
-goes-on c n keys places d e k p few held =
+goes-on : (c : Told) (n : ℕ) (things : List ℕ) (d : Definition) → d ≡ c .before .definition .given .0 .0 → length things ≡ length (at-entry c .args .things .now)
+    → 6 * n ≤ c .before .definition .given .0 .1 .0 .at → Zero-held (at-entry c .args .library .now) (at-loop c .loop .inv .done ++ one d) things n
+    → Inv (at-entry c .args .library .now) (at-entry c .args .from) (at-entry c .args .things .now) things (c .before .definition .given .0 .1 .0) n
+goes-on c n things d e k few held =
     let lib = at-entry c .args .library .now in
     let l = at-loop c .loop in
     let same : nextDefinition lib (l .c) ≡ Item d (c .before .definition .given .0 .1 .0) = step c ∙ ap (λ x. Item x (c .before .definition .given .0 .1 .0)) (sym e) in
     record {
-      keys-long = k;
-      places-long = p;
+      long = k;
       done = l .inv .done ++ one d;
       whole = append-assoc (l .inv .done) (one d) _ ∙ ap (λ xs. l .inv .done ++ xs) (sym (next-definition-yields lib (l .c) ∙ ap (definitionsAfter lib) same)) ∙ l .inv .whole;
       gathered = held;
-      few = omega (arith, few, goes c .size-later);
+      few = few;
       ordered = goes c .forward .ordered;
     }
 
@@ -130,81 +118,93 @@ step-public c = step (after-known-told c) ∙ ap (λ d. Item d (after-known-told
 again : (c : Found) → PublicAgain (now (at-entry (after-known-told c) .args .library)) (c .before .definition2 .given .0 .1 .0) (c .before .definition2 .given .0 .1 .1 .0)
 again c = public-again (at-entry (after-known-told c) .args .library .now) (at-loop (after-known-told c) .loop .c) (step-public c)
 
+sized : (c : Found) → Sized (now (at-entry (after-known-told c) .args .library)) 6 (at-loop (after-known-told c) .loop .c) (after-known-told c .before .definition .given .0 .1 .0)
+sized c =
+    let loop = at-loop (after-known-told c) in
+    public-sized (at-entry (after-known-told c) .args .library .now) (loop .loop .c) (loop .loop .inv .ordered) (step-public c)
+
+-- there is room for it
+below : (c : Found) → 6 * at-loop (after-known-told c) .loop .n + 6 ≤ 1048576
+below c = omega (arith, at-loop (after-known-told c) .loop .inv .few, sized c .size-later, sized c .forward .inside, at-entry (after-known-told c) .pre .short)
+
+room : (c : Found) → at-loop (after-known-told c) .loop .n < length (at-loop (after-known-told c) .loop .things)
+room c =
+    let i = at-loop (after-known-told c) .loop .inv in
+    let g = sized c in
+    omega (arith, i .few, g .size-later, g .forward .inside, at-entry (after-known-told c) .pre .room, i .long)
+
+early : (c : Found) → c .before .definition2 .given .0 .1 .1 .0 .at - 4 < 1048576
+early c = omega (arith, again c .front, again c .inside, at-entry (after-known-told c) .pre .short)
+
 loop-holds : tie.Need-loop-holds Inv-loop μ-loop
 loop-holds c =
-    let a = c .before .before .before .before .args in
+    let a = c .before .before .before .args in
     rw
     (c .start .ensures)
     (record {
-      keys-long = refl;
-      places-long = refl;
+      long = refl;
       done = [];
       whole = definitions-start (a .library .now) (a .from);
-      gathered = rw no-zeros (none-gathered offsetKey (Stands (a .library .now)) noDefinition (a .keys .now) (a .places .now));
+      gathered = rw no-zeros (none-gathered offsetKey (Read (a .library .now)) noDefinition (a .things .now));
       few = omega arith;
       ordered = record { before = omega arith; body-before = omega arith };
     })
 
-cast-keys : tie.Need-cast-keys Inv-loop μ-loop
-cast-keys c =
+cast-thing : tie.Need-cast-thing Inv-loop μ-loop
+cast-thing c =
     let known-told = after-known-told (c .before .before) in
     omega (
       arith,
       again (c .before .before) .offset-is,
       word-small (at-entry known-told .args .library .now)
-          (λ i. omega (arith, at-loop known-told .before .before .before .before .shared-slice-known .given i)) (c .before .before .before .definition2 .given .0 .1 .1 .0 .at - 4),
+          (λ i. omega (arith, at-loop known-told .before .before .before .shared-slice-known .given i)) (c .before .before .before .definition2 .given .0 .1 .1 .0 .at - 4),
     )
 
-mul-keys : tie.Need-mul-keys Inv-loop μ-loop
-mul-keys c = omega (arith, below (after-known-told (c .before .before)))
+sub-thing : tie.Need-sub-thing Inv-loop μ-loop
+sub-thing c = omega (arith, again (c .before .before .before) .front)
 
-slice-write-keys : tie.Need-slice-write-keys Inv-loop μ-loop
-slice-write-keys c = room (after-known-told (c .before .before)) .0
+thing-requires : tie.Need-thing-requires Inv-loop μ-loop
+thing-requires c κs = early (c .before .before .before)
 
-sub-places : tie.Need-sub-places Inv-loop μ-loop
-sub-places c = omega (arith, again (c .before .before .before) .front)
+mul-things : tie.Need-mul-things Inv-loop μ-loop
+mul-things c = omega (arith, below (c .before .before .before .before))
 
-cast-places : tie.Need-cast-places Inv-loop μ-loop
-cast-places c = omega (arith, again (c .before .before .before) .inside, at-entry (after-known-told (c .before .before .before)) .pre .short)
-
-mul-places : tie.Need-mul-places Inv-loop μ-loop
-mul-places c = omega (arith, below (after-known-told (c .before .before .before)))
-
-slice-write-places : tie.Need-slice-write-places Inv-loop μ-loop
-slice-write-places c = room (after-known-told (c .before .before .before)) .1
+slice-write-things : tie.Need-slice-write-things Inv-loop μ-loop
+slice-write-things c = room (c .before .before .before .before)
 
 add-n : tie.Need-add-n Inv-loop μ-loop
-add-n c = omega (arith, below (after-known-told (c .before .before .before)))
+add-n c = omega (arith, below (c .before .before .before .before))
 
 loop-less : tie.Need-loop-less Inv-loop μ-loop
 loop-less c =
-    let known-told = after-known-told (c .before .before .before) in
-    fewer-definitions (at-entry known-told .args .library .now) (at-loop known-told .loop .c) (step known-told)
+    let known-told = after-known-told (c .before .before .before .before) in
+    fewer-definitions (at-entry known-told .args .library .now) (at-loop known-told .loop .c) (step-public (c .before .before .before .before))
 
 loop-again : tie.Need-loop-again Inv-loop μ-loop
 loop-again c =
     let lib = c .before .before .before .before .before .before .before .before .before .before .before .before .before .before .before .args .library .now in
-    let l = c .before .before .before .before .before .before .before .before .before .before .loop in
-    let d : Definition = this (c .before .before .before) in
-    let name = c .before .before .before .before .definition2 .given .0 .1 .1 .0 in
-    goes-on (c .before .before .before .before .before .before) (l .n + 1) _ _ d (sym (c .before .before .before .before .definition2 .given .1)) (length-set (l .keys) (l .n) _ ∙ l .inv .keys-long)
-    (length-set (l .places) (l .n) _ ∙ l .inv .places-long) (omega (arith, l .inv .few))
-    (rw (zero-kept (l .inv .done) d refl (eq-eqb _ _ (c .before .if1 .taken)))
-    (gather-turn offsetKey (Stands lib) noDefinition (zeroPublics (l .inv .done)) (l .keys) (l .places) (l .n) d (name .at - 4)
-    (room (c .before .before .before .before .before .before) .0) (room (c .before .before .before .before .before .before) .1)
-    (read-again lib _ _ name (again (c .before .before .before))) (l .inv .gathered)))
+    let l = c .before .before .before .before .before .before .before .before .before .before .before .loop in
+    let d : Definition = this (c .before .before .before .before) in
+    let name = c .before .before .before .before .before .definition2 .given .0 .1 .1 .0 in
+    goes-on (c .before .before .before .before .before .before .before) (l .n + 1) _ d
+    (sym (c .before .before .before .before .before .definition2 .given .1)) (length-set (l .things) (l .n) _ ∙ l .inv .long)
+    (omega (arith, l .inv .few, sized (c .before .before .before .before) .size-later))
+    (rw (c .thing .ensures .0, zero-kept (l .inv .done) d refl (eq-eqb _ _ (c .before .before .if1 .taken)))
+    (gather-turn offsetKey (Read lib) noDefinition (zeroPublics (l .inv .done)) (l .things) (l .n) d (name .at - 4)
+    (room (c .before .before .before .before)) (c .thing .ensures .1) (early (c .before .before .before .before))
+    (read-again lib _ _ name (again (c .before .before .before .before))) (l .inv .gathered)))
 
 loop-less-2 : tie.Need-loop-less-2 Inv-loop μ-loop
 loop-less-2 c =
     let known-told = after-known-told (c .before .before) in
-    fewer-definitions (at-entry known-told .args .library .now) (at-loop known-told .loop .c) (step known-told)
+    fewer-definitions (at-entry known-told .args .library .now) (at-loop known-told .loop .c) (step-public (c .before .before))
 
 loop-again-2 : tie.Need-loop-again-2 Inv-loop μ-loop
 loop-again-2 c =
     let l = c .before .before .before .before .before .before .before .before .before .loop in
     let d : Definition = this (c .before .before) in
-    goes-on (c .before .before .before .before .before) (l .n) (l .keys) (l .places) d (sym (c .before .before .before .definition2 .given .1))
-    (l .inv .keys-long) (l .inv .places-long) (omega (arith, l .inv .few)) (rw (other-id-passed (l .inv .done) d refl (ne-eqb _ _ (c .if1 .left))) (l .inv .gathered))
+    goes-on (c .before .before .before .before .before) (l .n) (l .things) d (sym (c .before .before .before .definition2 .given .1))
+    (l .inv .long) (omega (arith, l .inv .few, sized (c .before .before) .size-later)) (rw (other-id-passed (l .inv .done) d refl (ne-eqb _ _ (c .if1 .left))) (l .inv .gathered))
 
 loop-less-3 : tie.Need-loop-less-3 Inv-loop μ-loop
 loop-less-3 c = fewer-definitions (at-entry (c .before) .args .library .now) (at-loop (c .before) .loop .c) (step (c .before))
@@ -213,24 +213,20 @@ loop-again-3 : tie.Need-loop-again-3 Inv-loop μ-loop
 loop-again-3 c =
     let l = c .before .before .before .before .before .loop in
     let d = c .before .before .definition .given .0 .0 in
-    goes-on (c .before) (l .n) (l .keys) (l .places) d refl (l .inv .keys-long) (l .inv .places-long) (omega (arith, l .inv .few))
+    goes-on (c .before) (l .n) (l .things) d refl (l .inv .long) (omega (arith, l .inv .few, goes (c .before) .size-later))
     (rw (not-public-passed (l .inv .done) d (not-public d (c .match2 .keys2))) (l .inv .gathered))
 
 same-length : tie.Need-same-length Inv-loop μ-loop
-same-length c = c .before .before .before .loop .inv .keys-long
-
-same-length-2 : tie.Need-same-length-2 Inv-loop μ-loop
-same-length-2 c = c .before .before .before .loop .inv .places-long
+same-length c = c .before .before .before .loop .inv .long
 
 returns : tie.Need-returns Inv-loop μ-loop
 returns c =
-    let lib = c .before .before .before .before .before .before .before .before .args .library .now in
+    let lib = c .before .before .before .before .before .before .before .args .library .now in
     let l = c .before .before .before .loop in
     let none = next-definition-yields lib (l .c) ∙ ap (definitionsAfter lib) (sym (c .before .before .next-definition .ensures) ∙ c .enum-told .given .1) in
     record {
-      gathered = subst (λ ds. Zero-held lib ds (l .keys) (l .places) (l .n)) (all-done (l .inv .whole) none) (l .inv .gathered);
-      keys-long = l .inv .keys-long;
-      places-long = l .inv .places-long;
+      gathered = subst (λ ds. Zero-held lib ds (l .things) (l .n)) (all-done (l .inv .whole) none) (l .inv .gathered);
+      long = l .inv .long;
     }
 
 pub gather-offsets-spec : {M : Type 1} → statement M
@@ -244,13 +240,11 @@ gather-offsets-spec =
     (λ c κs. search needs)
     (λ c. search needs)
     (λ c. search needs)
-    cast-keys
-    mul-keys
-    slice-write-keys
-    sub-places
-    cast-places
-    mul-places
-    slice-write-places
+    cast-thing
+    sub-thing
+    thing-requires
+    mul-things
+    slice-write-things
     add-n
     loop-less
     loop-again
@@ -260,5 +254,4 @@ gather-offsets-spec =
     loop-again-3
     (λ c. search needs)
     same-length
-    same-length-2
     returns)
