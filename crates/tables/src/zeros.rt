@@ -25,10 +25,10 @@ pub fn content_room() -> [u8; 65536]
 }
 
 // A flag for each 256 public definitions of one module; enough for a library of 1 MiB.
-pub fn block_flags() -> [u8; 820]
-    ensures { λ r. ⌜ r ≡ zeroList 820 ⌝ }
+pub fn block_flags() -> [u8; 683]
+    ensures { λ r. ⌜ r ≡ zeroList 683 ⌝ }
 {
-    [0u8; 820]
+    [0u8; 683]
 }
 
 // The contents of a module, in a library of at most 64 KiB. A content takes 7 bytes at least, so that 9,363 are enough.
