@@ -1,7 +1,7 @@
 -- Gathered things whose keys are linked are indexed; and tables are blank at the start, and again once the keys are forgotten. Assumes nothing.
-use Prim.Native.Nat.{ℕ, _<_, _≤_}
-use mathlib.Core.Path.{_≡_, sym, ap, subst, _∙_}
-use mathlib.Core.List.{List}
+use Prim.Native.Nat.{ℕ, zero, suc, _<_, _≤_}
+use mathlib.Core.Path.{_≡_, refl, sym, ap, subst, _∙_}
+use mathlib.Core.List.{List, [], _∷_}
 use native.Mathlib.Omega.{arith}
 use lib.ListN.{length, getD, take, getD-replicate}
 use Rattle.lent.specs.Rows.{zeros}
@@ -14,6 +14,12 @@ use Rattle.module_index.specs.gather.Into.{Roomy, Held, GatheredInto}
 use Rattle.module_index.specs.gather.GatherLaws.{gathered-follow, gathered-within}
 use Rattle.module_index.specs.Indexed.{Blank}
 use Rattle.module_index.specs.IndexedTables.{IndexedInto}
+
+-- within a list its default makes no difference
+getD-any : {A : Type 0} (xs : List A) (j : ℕ) (a b : A) → j < length xs → getD xs j a ≡ getD xs j b
+getD-any [] j a b h = absurd (omega arith)
+getD-any (x ∷ xs) zero a b h = refl
+getD-any (x ∷ xs) (suc j) a b h = getD-any xs j a b (omega arith)
 
 module _ {A : Type 0} (key : A → ℕ) (is : List ℕ → ℕ → A → Type 0) (none : A) {xs : List A} {things₀ gathered : List ℕ} {n : ℕ} (g : GatheredInto key is none xs things₀ gathered n) where
   within : n ≤ length gathered
@@ -32,6 +38,7 @@ module _ {A : Type 0} (key : A → ℕ) (is : List ℕ → ℕ → A → Type 0)
       record {
         number = g .gathered .number;
         keyed = held .keyed;
+        stand = λ j h other. rw (getD-any xs j other none (omega (arith, g .gathered .number))) (held .stand j h);
         meets = gathered-follow key (is (placesOf things)) none xs (keysOf things) n first (nextOf things) held linked;
         linked = linked;
         within = omega (arith, within);

@@ -11,7 +11,7 @@ use Rattle.tables.specs.links.Index.{Linked}
 use Rattle.tables.specs.links.Follow.{Follows}
 use Rattle.module_index.specs.gather.Places.{SectionIs}
 use Rattle.module_ids.specs.Noted.{Tells}
-use Rattle.segment_parts.specs.symbols_by_offset.Offsets.{zeroPublics}
+use Rattle.module_index.specs.gather.Publics.{zeroPublics}
 use Rattle.segment_parts.specs.symbols_by_offset.Inside.{Standing}
 use Rattle.collect.specs.declared.absolute.Absolutes.{Absolutes}
 use Rattle.collect.specs.declared.stored.CollectCounts.{CollectCounts}

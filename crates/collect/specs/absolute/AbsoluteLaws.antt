@@ -20,7 +20,7 @@ use Rattle.collect.specs.declared.stored.Stored.the-variants.{Rows, NoRo
 use Rattle.collect.specs.stored.Stores.{CollectLists, Room, Stores, Extends}
 use Rattle.collect.specs.stored.Progress.{Progress}
 use Rattle.collect.specs.stored.ProgressLaws.{progress-starts, progress-on, progress-lacks, progress-ends}
-use Rattle.segment_parts.specs.symbols_by_offset.Offsets.{zeroPublics}
+use Rattle.module_index.specs.gather.Publics.{zeroPublics}
 use Rattle.segment_parts.specs.symbols_by_offset.Flags.{Clear}
 use Rattle.segment_parts.specs.symbols_by_offset.Inside.{Offered}
 use Rattle.collect.specs.absolute.Absolute.{absoluteSegments, ByOffset}

@@ -5,13 +5,14 @@ use mathlib.Core.List.{List, _++_, append-assoc, append-nil, map}
 use native.Mathlib.Omega.{arith}
 use lib.ListN.{getD}
 use Rattle.tables.specs.links.Things.{keysOf, placesOf, nextOf}
-use Rattle.module_index.specs.gather.Places.{SectionIs}
+use Rattle.module_index.specs.gather.Places.{SectionIs, PublicIs, noDefinition}
 use Rattle.tables.specs.links.FollowLaws.{follows-end}
 use Rattle.image.specs.declared.fixup.Rules.{Rules}
 use Rattle.omf51.specs.Module.{Module, definitionsAt}
 use Rattle.library.specs.Gathered.{itemsAt}
 use Rattle.segments.specs.Collect.{Collected, moduleSegments, sectionsOf, absoluteId, absoluteSegment}
-use Rattle.segment_parts.specs.symbols_by_offset.Offsets.{zeroPublics, OffsetsIndexed}
+use Rattle.module_index.specs.gather.Publics.{offsetKey, zeroPublics}
+use Rattle.module_index.specs.IndexedTables.{IndexedInto}
 use Rattle.segment_parts.specs.symbols_by_offset.Inside.{Standing}
 use Rattle.collect.specs.declared.stored.CollectCounts.{CollectCounts}
 use Rattle.collect.specs.declared.stored.Stored.{Stored}
@@ -45,12 +46,12 @@ module _ (rules : Rules) (library : List ℕ) (m : Module) (number : ℕ) where
 
 -- public definitions that are indexed by their offsets are met by them, and absolute contents from the head of id 0 on
 pub by-offset : {library : List ℕ} {m : Module} {from : ℕ} {table first contents definitions₀ heads₀ definitions heads : List ℕ} {link n : ℕ} → link ≡ getD first 0 0 → Known library m from table first contents
-    → OffsetsIndexed library (zeroPublics (itemsAt library (definitionsAt library) from)) definitions₀ heads₀ definitions heads n → ByOffset library m link table contents definitions n heads
+    → IndexedInto (PublicIs library) offsetKey (zeroPublics (itemsAt library (definitionsAt library) from)) definitions₀ heads₀ definitions heads n → ByOffset library m link table contents definitions n heads
 by-offset {library} {m} {contents = contents} {definitions = definitions} {n = n} e k i = record {
   tells = k .tells;
   sections = rw e (k .sections 0 (omega arith));
-  standing = subst (Standing library (keysOf definitions) n (placesOf definitions)) (ap zeroPublics (sym (k .defined))) (record { number = i .indexed .number; keyed = i .indexed .keyed; stand = i .stand });
-  linked = i .indexed .linked;
+  standing = subst (Standing library (keysOf definitions) n (placesOf definitions)) (ap zeroPublics (sym (k .defined))) (record { number = i .number; keyed = i .keyed; stand = λ j h. i .stand j h noDefinition });
+  linked = i .linked;
 }
 
 -- a module without absolute contents has nothing in its second part

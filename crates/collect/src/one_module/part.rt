@@ -11,8 +11,8 @@ use crate::absolute::store_absolutes;
 use crate::kept::store_keeps;
 use crate::stored::CollectCounts;
 use crate::stored::Stored;
+use module_index::gather::publics::PublicsBy;
 use module_index::index_publics;
-use segment_parts::symbols_by_offset::offsets::index_offsets;
 use tables::links::unlink;
 
 // Stores the kept segments of a module, whose definitions start at `from`, behind what `c` counts. The module's ids
@@ -39,7 +39,7 @@ pub fn first_part(
         (lists (now (segments .entry)) (now (references .entry)) (now (symbols .entry)) (now (bytes .entry)) (now (masks .entry))) (now (apart .entry))
         (lists (now (segments .exit)) (now (references .exit)) (now (symbols .exit)) (now (bytes .exit)) (now (masks .exit))) (now (apart .exit)) r ⌝ }
 {
-    let n = index_publics(library, from, publics, heads);
+    let n = index_publics(library, from, PublicsBy::Id, publics, heads);
     let stored = store_keeps(
         library,
         from,
@@ -87,7 +87,7 @@ pub fn second_part(
     if absolutes.link == 0 {
         return Stored::Rows(c);
     }
-    let n = index_offsets(library, from, publics, heads);
+    let n = index_publics(library, from, PublicsBy::Offset, publics, heads);
     let stored = store_absolutes(
         library,
         absolutes,

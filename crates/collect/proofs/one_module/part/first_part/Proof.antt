@@ -72,8 +72,8 @@ returns c =
       extends = λ m k gs t. s .ensures .extends m (k .defined) (record {
         tells = k .tells;
         sections = k .sections;
-        publics = subst (λ ds. Meets (PublicIs (a .library .now) (placesOf (i .last .1 .1 .0))) publicKey (keep isPublicDefinition ds)
-            (i .last .1 .1 .1 .0) (nextOf (i .last .1 .1 .0))) (sym (k .defined)) (i .ensures .meets);
+        publics = subst (λ ds. Meets (PublicIs (a .library .now) (placesOf (i .last .1 .1 .1 .0))) publicKey (keep isPublicDefinition ds)
+            (i .last .1 .1 .1 .1 .0) (nextOf (i .last .1 .1 .1 .0))) (sym (k .defined)) (i .ensures .meets);
       }) gs t;
     }
 

@@ -40,12 +40,12 @@ returns c =
 store-absolutes-requires : tie.Need-store-absolutes-requires
 store-absolutes-requires c κs =
     let p = at-entry (after-slice-known2 (c .before .before .before .before .before .before .before .before .before)) .pre in
-    (p .0, (p .1 .0, omega (arith, p .1 .1 .1, c .before .before .before .before .before .before .before .before .before .before .before .before .index-offsets .ensures .indexed .things-long)))
+    (p .0, (p .1 .0, omega (arith, p .1 .1 .1, c .before .before .before .before .before .before .before .before .before .before .before .before .index-publics .ensures .things-long)))
 
 unlink-requires : tie.Need-unlink-requires
 unlink-requires c κs =
     let heads = after-heads (after-bytes c .before .before) in
-    let i = heads .before .before .before .index-offsets .ensures .indexed in (i .within, omega (arith, i .first-long, at-entry (after-slice-known2 heads) .pre .1 .1 .0 .heads))
+    let i = heads .before .before .before .index-publics .ensures in (i .within, omega (arith, i .first-long, at-entry (after-slice-known2 heads) .pre .1 .1 .0 .heads))
 
 same-length : tie.Need-same-length
 same-length c = after-heads (after-symbols c) .before .before .publics .given
@@ -74,10 +74,10 @@ same-length-8 c = c .before .before .before .before .before .before .apart .give
 returns-2 : tie.Need-returns-2
 returns-2 c =
     let heads = after-heads (after-symbols c) in
-    let i = heads .before .before .before .index-offsets in
+    let i = heads .before .before .before .index-publics in
     let s = after-symbols c .before .before .before .before .before .store-absolutes in
     record {
-      blank = forgotten (at-entry (after-slice-known2 heads) .pre .1 .1 .0) (i .ensures .indexed) (c .before .before .unlink .ensures);
+      blank = forgotten (at-entry (after-slice-known2 heads) .pre .1 .1 .0) (i .ensures) (c .before .before .unlink .ensures);
       long = s .ensures .long;
       apart-long = s .ensures .apart-long;
       extends = λ rules m first o e k. s .ensures .extends rules m o (by-offset e k (i .ensures));
