@@ -38,10 +38,9 @@ pub fn both_parts(
         (lists (now (segments .entry)) (now (references .entry)) (now (symbols .entry)) (now (bytes .entry)) (now (masks .entry))) (now (apart .entry))
         (lists (now (segments .exit)) (now (references .exit)) (now (symbols .exit)) (now (bytes .exit)) (now (masks .exit))) (now (apart .exit)) r ⌝ }
 {
-    let at = task.at;
     let stored = first_part(
         library,
-        at.definitions,
+        task.at.definitions,
         table,
         first,
         contents,
@@ -65,7 +64,7 @@ pub fn both_parts(
     };
     second_part(
         library,
-        at.definitions,
+        task.at.definitions,
         absolutes,
         table,
         contents,

@@ -5,6 +5,7 @@ ghost use Prim.Native.Nat.{_<_, _≤_, _^_};
 ghost use lib.ListN.{getD, set};
 ghost use Rattle.tables.specs.links.Things.{nextOf};
 ghost use Rattle.segment_parts.specs.symbols_by_offset.Flags.{FlagsBlock, FlagsAlong, FlagsInside, Clears};
+use tables::links::head_at;
 use tables::links::next_at;
 
 // Bounds of the flagged blocks: all of them lie from `low` on and below `high`.
@@ -78,16 +79,6 @@ fn flag_along(link: u32, publics: &[u64], before: Blocks, flags: &mut [u8]) -> B
         here = next_at(publics, here - 1);
     }
     s
-}
-
-// The link to the first public definition with offset v, 0 past the end of the heads.
-fn head_at(first: &[u32], v: usize) -> u32
-    ensures { λ r. ⌜ r ≡ getD (now (first .entry)) v 0 ⌝ }
-{
-    if v < first.len() {
-        return first[v];
-    }
-    0
 }
 
 // Flags the blocks of all public definitions with an offset inside the `len` numbers from `at` on.

@@ -12,7 +12,7 @@ use Rattle.lent.specs.Choice.{if_then_else_}
 use Rattle.tables.specs.links.First.{firstOf, linkTo}
 use Rattle.tables.specs.links.Things.{thingKey, keysOf, nextOf}
 use Rattle.tables.specs.links.ThingLaws.{keys-long, next-long, key-is, key-small, linkedAt, link-keys, link-places, link-next}
-use Rattle.tables.specs.links.Index.{keyAt, linkFrom, Linked, LinkedIn, Ready, LinkedThings}
+use Rattle.tables.specs.links.Index.{keyAt, Linked, Ready, LinkedThings}
 use Rattle.tables.specs.links.IndexLaws.{none-linked, link-turn}
 
 -- a link is not above the number of keys

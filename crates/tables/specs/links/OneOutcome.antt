@@ -13,9 +13,9 @@ use Rattle.lent.specs.OneOutcome.{Determines, by-equation}
 use Rattle.tables.specs.links.Things.{thingOf, keysOf}
 use Rattle.tables.specs.links.Index.{keyAt, LinkedIn, ClearedTo, Cleared}
 
--- `number_at`; `key_at`, `place_at` and `next_at` with the keys, places or links of things as the numbers
-pub number-at-one : (numbers : List ℕ) (i : ℕ) → Determines (λ r. r ≡ getD numbers i 0)
-number-at-one numbers i = by-equation (getD numbers i 0)
+-- `head_at` of heads; `key_at`, `place_at` and `next_at` of the keys, places or links of things
+pub number-one : (numbers : List ℕ) (i : ℕ) → Determines (λ r. r ≡ getD numbers i 0)
+number-one numbers i = by-equation (getD numbers i 0)
 
 pub thing-one : (key place : ℕ) → Determines (λ r. (r ≡ thingOf key place) × (key < 65536))
 thing-one key place a b p q = p .0 ∙ sym (q .0)

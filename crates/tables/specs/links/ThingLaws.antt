@@ -8,11 +8,11 @@ use lib.Seq.{map-set-same}
 use Rattle.tables.specs.links.Things.{thingKey, thingPlace, thingNext, thingOf, linkedTo, keysOf, placesOf, nextOf}
 
 -- in one number
-pub of-key : (key place : ℕ) → key < 65536 → thingKey (thingOf key place) ≡ key
+of-key : (key place : ℕ) → key < 65536 → thingKey (thingOf key place) ≡ key
 unfolding thingKey thingOf
 of-key key place h = omega arith
 
-pub of-place : (key place : ℕ) → key < 65536 → place < 1048576 → thingPlace (thingOf key place) ≡ place
+of-place : (key place : ℕ) → key < 65536 → place < 1048576 → thingPlace (thingOf key place) ≡ place
 unfolding thingPlace thingOf
 of-place key place h l = omega arith
 

@@ -1,11 +1,10 @@
 -- `link` goes from the last thing to the first. The invariant: the things from here on are linked. Assumes nothing.
 use Prim.Native.Nat.{ℕ, _+_, _-_, _≤_, _<_}
-use mathlib.Core.Path.{_≡_, refl, sym, ap, subst, _∙_}
+use mathlib.Core.Path.{_≡_, refl, subst}
 use mathlib.Core.List.{List}
 use native.Mathlib.Omega.{arith}
-use lib.ListN.{length, getD, length-set}
+use lib.ListN.{length, length-set}
 use denote.Ref.{now}
-use Rattle.tables.specs.links.Things.{thingKey}
 use Rattle.tables.specs.links.Index.{LinkedThings}
 use Rattle.tables.specs.links.LinkedLaws.{none-yet, small-key, small-link, one-linked}
 use borrow.Author.Needs.{needs}

@@ -1,9 +1,9 @@
 -- `unlink` goes over the things. The invariant: the heads of the keys before this place are 0, the others as they were. Assumes nothing.
 use Prim.Native.Nat.{ℕ, _-_, _≤_, _<_}
-use mathlib.Core.Path.{_≡_, subst, sym, _∙_}
+use mathlib.Core.Path.{_≡_, sym, _∙_}
 use mathlib.Core.List.{List}
 use native.Mathlib.Omega.{arith}
-use lib.ListN.{length, take, length-take}
+use lib.ListN.{take, length-take}
 use lib.Seq.{getD-take}
 use denote.Ref.{now}
 use Rattle.tables.specs.links.Things.{keysOf}

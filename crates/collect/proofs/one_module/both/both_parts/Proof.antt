@@ -9,20 +9,20 @@ use Rattle.collect.proofs.one_module.both.both_parts.Statement.{stateme
 use Rattle.collect.proofs.one_module.both.both_parts.Tie as tie
 
 -- The ladder: places of the code that the answers cite, each as it is seen from a later place.
-abbrev after-slice-known7 : tie.After-heads → tie.After-slice-known7
-after-slice-known7 c = c .before .before .before .before .before .before .before .before .before .before .before .before .before .before
+abbrev after-slice-known7 : tie.After-segments → tie.After-slice-known7
+after-slice-known7 c = c .before .before .before .before .before .before .before .before .before .before .before .before .before .before .before
 
 abbrev after-symbols : tie.After-apart → tie.After-symbols
 after-symbols c = c .before .before .before .before .before .before
 
-abbrev after-heads : tie.After-apart → tie.After-heads
-after-heads c = after-symbols c .before .before .before .before .before .before
+abbrev after-segments : tie.After-apart → tie.After-segments
+after-segments c = after-symbols c .before .before .before .before
 
 abbrev after-publics : tie.After-apart → tie.After-publics
-after-publics c = after-heads c .before .before
+after-publics c = after-segments c .before .before .before .before
 
 abbrev at-entry : tie.After-apart → tie.Start
-at-entry c = after-slice-known7 (after-heads c) .before .before .before .before .before .before .before .before .before .before .before
+at-entry c = after-slice-known7 (after-segments c) .before .before .before .before .before .before .before .before .before .before .before
 
 abbrev after-apart-from-enum-told : tie.After-enum-told → tie.After-apart
 after-apart-from-enum-told c = c .before .before .before
@@ -46,10 +46,10 @@ same-length : tie.Need-same-length
 same-length c = after-publics (after-apart-from-enum-told c) .publics .given
 
 same-length-2 : tie.Need-same-length-2
-same-length-2 c = after-heads (after-apart-from-enum-told c) .heads .given
+same-length-2 c = after-segments (after-apart-from-enum-told c) .before .before .heads .given
 
 same-length-3 : tie.Need-same-length-3
-same-length-3 c = after-symbols (after-apart-from-enum-told c) .before .before .before .before .segments .given
+same-length-3 c = after-segments (after-apart-from-enum-told c) .segments .given
 
 same-length-4 : tie.Need-same-length-4
 same-length-4 c = after-symbols (after-apart-from-enum-told c) .before .before .references .given
@@ -91,10 +91,10 @@ same-length-9 : tie.Need-same-length-9
 same-length-9 c = after-publics2 c .publics2 .given ∙ after-publics (after-apart-from-slice-known24 c) .publics .given
 
 same-length-10 : tie.Need-same-length-10
-same-length-10 c = after-symbols2 c .before .before .before .before .before .before .heads2 .given ∙ after-heads (after-apart-from-slice-known24 c) .heads .given
+same-length-10 c = after-symbols2 c .before .before .before .before .before .before .heads2 .given ∙ after-segments (after-apart-from-slice-known24 c) .before .before .heads .given
 
 same-length-11 : tie.Need-same-length-11
-same-length-11 c = after-symbols2 c .before .before .before .before .segments2 .given ∙ after-symbols (after-apart-from-slice-known24 c) .before .before .before .before .segments .given
+same-length-11 c = after-symbols2 c .before .before .before .before .segments2 .given ∙ after-segments (after-apart-from-slice-known24 c) .segments .given
 
 same-length-12 : tie.Need-same-length-12
 same-length-12 c = after-symbols2 c .before .before .references2 .given ∙ after-symbols (after-apart-from-slice-known24 c) .before .before .references .given

@@ -2,7 +2,6 @@
 use mathlib.Core.Path.{sym, ap, _∙_}
 use borrow.Author.Needs.{needs}
 use borrow.Author.Tests.{eq-eqb, ne-eqb}
-use Rattle.module_index.specs.declared.gather.publics.PublicsBy.the-variants.{Id, Offset}
 use Rattle.module_index.specs.gather.Publics.{keyedBy}
 use Rattle.module_index.proofs.gather.publics.key_by.Statement.{statement}
 use Rattle.module_index.proofs.gather.publics.key_by.Tie as tie

@@ -2,8 +2,8 @@
 use mathlib.Core.Path.{sym}
 use lib.ListN.{List·getD-eq-default}
 use borrow.Author.Needs.{needs}
-use Rattle.segment_parts.proofs.symbols_by_offset.flags.head_at.Statement.{statement}
-use Rattle.segment_parts.proofs.symbols_by_offset.flags.head_at.Tie as tie
+use Rattle.tables.proofs.links.head_at.Statement.{statement}
+use Rattle.tables.proofs.links.head_at.Tie as tie
 
 returns-2 : tie.Need-returns-2
 returns-2 c = sym (List·getD-eq-default (c .before .args .first .now) 0 (c .if1 .left))
