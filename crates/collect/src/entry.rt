@@ -30,8 +30,8 @@ use tables::zeros::many_publics;
 // A library up to this length is collected with small tables.
 const SHORT_LIBRARY: usize = 65536;
 
-// Stores the segments of all modules from the place `from` on, with tables of contents and of public definitions that
-// are large enough for the library, and lent as zeros; the other tables of a module are made here.
+// Stores the segments of all modules from the place `from` on. The tables of contents and of public definitions are lent,
+// and large enough for the library, whatever they hold; the other tables of a module are made here.
 fn store_in(
     library: &[u8],
     rules: Rules,
