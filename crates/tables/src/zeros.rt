@@ -25,67 +25,38 @@ pub fn content_room() -> [u8; 65536]
 }
 
 // A flag for each 256 public definitions of one module; enough for a library of 1 MiB.
-pub fn block_flags() -> [u8; 820]
-    ensures { λ r. ⌜ r ≡ zeroList 820 ⌝ }
+pub fn block_flags() -> [u8; 683]
+    ensures { λ r. ⌜ r ≡ zeroList 683 ⌝ }
 {
-    [0u8; 820]
+    [0u8; 683]
 }
 
-// The ids of a module's contents, in a library of at most 64 KiB. A content takes 7 bytes at least, so that 9,363 are enough.
-pub fn few_ids() -> [u16; 9363]
+// The contents of a module, in a library of at most 64 KiB. A content takes 7 bytes at least, so that 9,363 are enough.
+pub fn few_contents() -> [u64; 9363]
     ensures { λ r. ⌜ r ≡ zeroList 9363 ⌝ }
 {
-    [0u16; 9363]
+    [0u64; 9363]
 }
 
-// The places of these contents in the library, or the links between them: as many as there are ids.
-pub fn few_places() -> [u32; 9363]
-    ensures { λ r. ⌜ r ≡ zeroList 9363 ⌝ }
+// The public definitions of a module, in a library of at most 64 KiB. A public definition takes 6 bytes at least, so that 10,923 are enough.
+pub fn few_publics() -> [u64; 10923]
+    ensures { λ r. ⌜ r ≡ zeroList 10923 ⌝ }
 {
-    [0u32; 9363]
+    [0u64; 10923]
 }
 
-// The keys (ids or offsets) of a module's public definitions, in a library of at most 64 KiB. A definition takes 5
-// bytes at least, so that 13,108 are enough.
-pub fn few_keys() -> [u16; 13108]
-    ensures { λ r. ⌜ r ≡ zeroList 13108 ⌝ }
-{
-    [0u16; 13108]
-}
-
-// The places of these public definitions in the library, or the links between them: as many as there are keys.
-pub fn few_entries() -> [u32; 13108]
-    ensures { λ r. ⌜ r ≡ zeroList 13108 ⌝ }
-{
-    [0u32; 13108]
-}
-
-// The ids of a module's contents, as in `few_ids`, but in a library of up to 1 MiB, the longest there is.
-pub fn many_ids() -> [u16; 149797]
+// The contents of a module, as in `few_contents`, but in a library of up to 1 MiB, the longest there is.
+pub fn many_contents() -> [u64; 149797]
     ensures { λ r. ⌜ r ≡ zeroList 149797 ⌝ }
 {
-    [0u16; 149797]
+    [0u64; 149797]
 }
 
-// The places of contents, or links between them, for a library of up to 1 MiB.
-pub fn many_places() -> [u32; 149797]
-    ensures { λ r. ⌜ r ≡ zeroList 149797 ⌝ }
+// The public definitions of a module in a library of up to 1 MiB.
+pub fn many_publics() -> [u64; 174763]
+    ensures { λ r. ⌜ r ≡ zeroList 174763 ⌝ }
 {
-    [0u32; 149797]
-}
-
-// The keys of public definitions, for a library of up to 1 MiB.
-pub fn many_keys() -> [u16; 209716]
-    ensures { λ r. ⌜ r ≡ zeroList 209716 ⌝ }
-{
-    [0u16; 209716]
-}
-
-// The places of public definitions, or links between them, for a library of up to 1 MiB.
-pub fn many_entries() -> [u32; 209716]
-    ensures { λ r. ⌜ r ≡ zeroList 209716 ⌝ }
-{
-    [0u32; 209716]
+    [0u64; 174763]
 }
 
 // For each byte value the first place in the image that has it, as a link, and then how often the image has it.
