@@ -2,11 +2,11 @@
 // last number is the link to an earlier row in the same bucket of key and name. A link is one more than a row's number, or 0.
 ghost use mathlib.Core.Path.{_≡_};
 ghost use mathlib.Core.Bool.{_&&_};
-ghost use Prim.Native.Nat.{_+_};
+ghost use Prim.Native.Nat.{_+_, _<_};
 ghost use lib.Dec.{eqb};
 ghost use lib.ListN.{getD, set};
 ghost use Rattle.lent.specs.Parts.{bytesOf, same as sameBytes};
-ghost use Rattle.tables.specs.by_name.Sheet.{nameBucket};
+ghost use Rattle.tables.specs.by_name.Sheet.{spread as spreadBytes, ends, nameBucket};
 ghost use Rattle.tables.specs.by_name.Tables.{followed, headsWith};
 ghost use Rattle.tables.specs.by_name.Tags.{Whole, tagAt, otherLength, headedBy};
 use lent::names;
@@ -121,18 +121,41 @@ pub fn find(library: &[u8], m: &[u64], width: usize, link: usize, key: u64, name
     0
 }
 
-// The bucket of a key and a name together: a number made of the key's low 16 bits and the name's bytes.
+// A number of 32 bits after bytes were mixed in.
+fn spread(from: u64, bytes: &[u8]) -> u64
+    requires { ⌜ from < 4294967296 ⌝ }
+    ensures { λ r. ⌜ r ≡ spreadBytes from (now (bytes .entry)) ⌝ }
+{
+    let mut h = from;
+    let mut i = 0;
+    while i < bytes.len() {
+        h = (h + bytes[i] as u64) * 2654435761 % 4294967296;
+        i += 1;
+    }
+    h
+}
+
+// The same of a name: of a long one only the bytes at its ends are mixed in, so that its length does not count.
+fn spread_ends(from: u64, bytes: &[u8]) -> u64
+    requires { ⌜ from < 4294967296 ⌝ }
+    ensures { λ r. ⌜ r ≡ spreadBytes from (ends (now (bytes .entry))) ⌝ }
+{
+    let len = bytes.len();
+    if len <= 16 {
+        return spread(from, bytes);
+    }
+    let back = len - 8;
+    let front = spread(from, &bytes[0..8]);
+    spread(front, &bytes[back..len])
+}
+
+// The bucket of a key and a name together: a number made of the key's low 16 bits, and of the name's length and ends.
 pub fn bucket(library: &[u8], key: u64, name: Part) -> usize
     ensures { λ r. ⌜ r ≡ nameBucket key (bytesOf (now (library .entry)) name) ⌝ }
 {
     let bytes = names::name(library, name);
-    let mut h = key % BUCKETS;
-    let mut i = 0;
-    while i < bytes.len() {
-        h = (h * 31 + bytes[i] as u64) % BUCKETS;
-        i += 1;
-    }
-    h as usize
+    let mixed = spread_ends(bytes.len() as u64 % BUCKETS, bytes);
+    ((key % BUCKETS + mixed / BUCKETS) % BUCKETS) as usize
 }
 
 // The link in the head of bucket i, 0 past the end of the heads.
