@@ -9,7 +9,9 @@ use lib.Dec.{ltb}
 use lib.ListN.{length, getD, set, length-set, List·getD-eq-default}
 use lib.Seq.{set-out, getD-set-same, getD-set-other}
 use Rattle.lent.specs.Choice.{if_then_else_}
-use Rattle.tables.specs.by_name.Heads.{headCount, near, headAt, lowHead, headSet, headLimit}
+use Rattle.tables.specs.zeros.Zeros.{zeroList}
+use Rattle.tables.specs.zeros.ZeroLaws.{zero-length, zero-at}
+use Rattle.tables.specs.by_name.Heads.{headCount, near, headAt, lowHead, headSet, headLimit, Blank}
 
 pub head-length : (heads : List ℕ) (i link : ℕ) → length (headSet heads i link) ≡ length heads
 unfolding headSet
@@ -81,3 +83,9 @@ module _ (heads : List ℕ) (i link : ℕ) (small : i < headCount) where
             let is : getD (headSet heads i link) i 0 ≡ link % near + near = low-is ∙ ap (λ b. if b then link else link % near + near) e in
             let w = wide (ltb (length heads) (headCount + headCount)) refl far fits in
             head-far (headSet heads i link) i (omega (arith, is)) ∙ omega (arith, is, high-is (w .0), w .1, far)
+
+-- tables of zeros are blank heads
+pub zeros-blank : (n memory : ℕ) (heads : List ℕ) → heads ≡ zeroList n → headCount ≤ n → memory < headLimit n → Blank memory heads
+zeros-blank n memory heads z room fits =
+    let long : length heads ≡ n = ap length z ∙ zero-length n in
+    record { room = omega (arith, room, long); fits = rw long fits; clear = λ i. ap (λ xs. getD xs i 0) z ∙ zero-at n i }

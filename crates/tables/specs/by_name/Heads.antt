@@ -1,8 +1,9 @@
 -- The heads of the buckets: for each bucket of keys, and then for each of key and name, a link to its newest row, in numbers of 32 bits.
-use Prim.Native.Nat.{ℕ, _+_, _*_, _/_, _%_}
+use Prim.Native.Nat.{ℕ, _+_, _*_, _/_, _%_, _<_, _≤_}
+use mathlib.Core.Path.{_≡_}
 use mathlib.Core.List.{List}
 use lib.Dec.{ltb}
-use lib.ListN.{getD, set}
+use lib.ListN.{length, getD, set}
 use Rattle.lent.specs.Choice.{if_then_else_}
 use Rattle.tables.specs.by_name.Sheet.{keyBuckets, nameBuckets, keyBucket}
 
@@ -33,3 +34,9 @@ headsWith heads key bucket number = headSet (headSet heads (keyBucket key) numbe
 -- links below this fit a table of so many numbers
 abbrev pub headLimit : ℕ → ℕ
 headLimit numbers = if ltb numbers (headCount + headCount) then near else near * near
+
+-- heads that lead nowhere yet, and fit links to the rows of a memory of so many numbers
+pub record Blank (memory : ℕ) (heads : List ℕ) : Type 0 where
+  pub room : headCount ≤ length heads
+  pub fits : memory < headLimit (length heads)
+  pub clear : (i : ℕ) → getD heads i 0 ≡ 0

@@ -20,7 +20,7 @@ use Rattle.tables.specs.by_name.NewestLaws.{newest-room, newest-hit, new
 use Rattle.tables.specs.by_name.Sheet.{Sheet, keyBuckets, nameBucket, isNamed, inName, bucketOf, rowAfter, linkedFrom, linked}
 use Rattle.tables.specs.by_name.SheetLaws.{linked-length, linked-at}
 use Rattle.tables.specs.by_name.NamedLaws.{bucket-small, named-bucket}
-use Rattle.tables.specs.by_name.Heads.{headCount, headAt, headLimit}
+use Rattle.tables.specs.by_name.Heads.{headAt, Blank}
 use Rattle.tables.specs.by_name.HeadLaws.{head-none}
 use Rattle.tables.specs.by_name.Tables.{rowIs, followedFor, followed, Table, Single, Tabled}
 use Rattle.tables.specs.by_name.FollowLaws.{follow-none, follow-hit, follow-on}
@@ -56,14 +56,14 @@ module _ {A R : Type 0} (s : Sheet A R) (library : List ℕ) where
   }
 
   -- none yet: memory and heads are zeros
-  pub table-starts : (memory heads : List ℕ) → memory ≡ zeros (length memory) → headCount ≤ length heads → length memory < headLimit (length heads) → ((i : ℕ) → getD heads i 0 ≡ 0)
+  pub table-starts : (memory heads : List ℕ) → memory ≡ zeros (length memory) → Blank (length memory) heads
       → Tabled s library [] (record { memory = memory; heads = heads; fill = record { rows = 0; over = false } })
   unfolding newestFrom linkedFrom Single
-  table-starts memory heads z room fits none = record {
+  table-starts memory heads z blank = record {
     filling = none-filled (s .layout) memory z;
-    headed = λ e. record { by-key = λ b h. head-none heads b (none b); by-name = λ b h. head-none heads (keyBuckets + b) (none (keyBuckets + b)) };
-    room = room;
-    fits = fits;
+    headed = λ e. record { by-key = λ b h. head-none heads b (blank .clear b); by-name = λ b h. head-none heads (keyBuckets + b) (blank .clear (keyBuckets + b)) };
+    room = blank .room;
+    fits = blank .fits;
     single = tt;
   }
 
