@@ -24,7 +24,7 @@ pub const BUCKETS: u64 = 65536;
 const HEADS: usize = 131072;
 
 // A link below this stands in its head by itself.
-const NEAR: usize = 2147483648;
+pub const NEAR: usize = 2147483648;
 
 // What a search looks at in a row: its key, its name, and its link to an earlier row of its bucket.
 struct Tag {
