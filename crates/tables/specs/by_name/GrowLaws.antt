@@ -8,7 +8,7 @@ use native.Mathlib.Omega.{arith}
 use borrow.Author.Tests.{eqb-true, eqb-false}
 use lib.Dec.{eqb}
 use lib.ListN.{length, getD, take, drop, set, length-append, length-set}
-use lib.Seq.{set-at, sets, set-split, split-at, length-take-le, getD-set-same, getD-set-other}
+use lib.Seq.{set-at, sets, set-split, split-at, length-take-le}
 use Rattle.lent.specs.Lists.{one, any, joined}
 use Rattle.lent.specs.ListLaws.{rows-length, joined-append}
 use Rattle.lent.specs.Parts.{bytesOf}

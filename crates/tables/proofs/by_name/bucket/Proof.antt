@@ -1,6 +1,6 @@
 -- `bucket` mixes in the name's ends, and adds the key. Assumes nothing.
 use Prim.Native.Nat.{_+_, _%_, _/_}
-use mathlib.Core.Path.{_≡_, ap, _∙_}
+use mathlib.Core.Path.{ap, _∙_}
 use Rattle.tables.specs.by_name.Sheet.{nameBuckets, nameBucket}
 use borrow.Author.Needs.{needs}
 use Rattle.tables.proofs.by_name.bucket.Statement.{statement}

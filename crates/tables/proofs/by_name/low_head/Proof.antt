@@ -1,5 +1,4 @@
 -- `low_head`: a link that is near, and one that is not. Assumes nothing.
-use mathlib.Core.Path.{sym}
 use borrow.Author.Tests.{lt-ltb, le-ltb}
 use Rattle.tables.specs.by_name.Heads.{near}
 use borrow.Author.Needs.{needs}
