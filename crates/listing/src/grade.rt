@@ -26,7 +26,7 @@ use tables::by_name::find;
 use tables::by_name::head_at;
 
 // Whether a row with this key and name is found, from the head of their bucket on.
-fn is_found(library: &[u8], width: usize, m: &[u64], heads: &[u64], key: u64, name: Part) -> bool
+fn is_found(library: &[u8], width: usize, m: &[u64], heads: &[u32], key: u64, name: Part) -> bool
     ensures { λ r. ⌜ r ≡ isFound (now (library .entry)) width (now (m .entry)) (now (heads .entry)) key name ⌝ }
 {
     let shared = bucket(library, key, name);
@@ -42,7 +42,7 @@ fn bears_out(
     rules: Rules,
     library: &[u8],
     placed: &[u64],
-    positions: &[u64],
+    positions: &[u32],
     base: usize,
     r: Reference,
 ) -> bool
@@ -67,7 +67,7 @@ fn bear_out(
     references: &[u64],
     part: Part,
     placed: &[u64],
-    positions: &[u64],
+    positions: &[u32],
     base: usize,
 ) -> bool
     ensures { λ b. ⌜ b ≡ all (bearsOut (isFound (now (library .entry)) 8 (now (placed .entry)) (now (positions .entry))) (view (now (image .entry)) s) rules base) (rowsOf referenceLayout (now (references .entry)) part) ⌝ }
@@ -99,7 +99,7 @@ fn is_borne(
     n: usize,
     references: &[u64],
     placed: &[u64],
-    positions: &[u64],
+    positions: &[u32],
     number: usize,
     base: usize,
 ) -> bool
@@ -141,9 +141,9 @@ pub fn grade(
     n: usize,
     references: &[u64],
     placed: &[u64],
-    positions: &[u64],
+    positions: &[u32],
     noted: &[u64],
-    goals: &[u64],
+    goals: &[u32],
     row: Placed,
 ) -> u8
     ensures { λ r. ⌜ r ≡ rowGrade (view (now (image .entry)) s) (now (library .entry)) rules (now (segments .entry)) (now (references .entry)) n (now (placed .entry)) (now (positions .entry)) (now (noted .entry)) (now (goals .entry)) row ⌝ }

@@ -73,10 +73,24 @@ pub fn place_links() -> [u32; 65536]
     [0u32; 65536]
 }
 
+// The same for an image of at most 4 KiB.
+pub fn few_links() -> [u32; 4096]
+    ensures { λ r. ⌜ r ≡ zeroList 4096 ⌝ }
+{
+    [0u32; 4096]
+}
+
 // The heads of the buckets by which rows of placed symbols or noted names are found: 65,536 buckets
 // of keys, then as many of key and name.
-pub fn bucket_heads() -> [u64; 131072]
+pub fn bucket_heads() -> [u32; 131072]
     ensures { λ r. ⌜ r ≡ zeroList 131072 ⌝ }
 {
-    [0u64; 131072]
+    [0u32; 131072]
+}
+
+// The same with as many numbers behind the heads, for links of more than 31 bits.
+pub fn wide_heads() -> [u32; 262144]
+    ensures { λ r. ⌜ r ≡ zeroList 262144 ⌝ }
+{
+    [0u32; 262144]
 }

@@ -1,7 +1,7 @@
 -- `asked_of`: the settings, without what the search does not ask. Assumes nothing.
 use borrow.Author.Needs.{needs}
-use Rattle.libfind.proofs.entry.asked_of.Statement.{statement}
-use Rattle.libfind.proofs.entry.asked_of.Tie as tie
+use Rattle.libfind.proofs.collected.asked_of.Statement.{statement}
+use Rattle.libfind.proofs.collected.asked_of.Tie as tie
 use mathlib.Core.Path.{ap}
 
 returns : tie.Need-returns

@@ -1,6 +1,6 @@
 -- `rules_of`: 1 is as documented, any other number as found. Assumes nothing.
-use Rattle.libfind.proofs.entry.rules_of.Statement.{statement}
-use Rattle.libfind.proofs.entry.rules_of.Tie as tie
+use Rattle.libfind.proofs.collected.rules_of.Statement.{statement}
+use Rattle.libfind.proofs.collected.rules_of.Tie as tie
 use mathlib.Core.Path.{refl, sym, ap}
 use borrow.Author.Tests.{ne-eqb}
 use Rattle.image.specs.declared.fixup.Rules.the-variants.{Documented, AsFound}

@@ -1,7 +1,7 @@
 -- `conclude`: the answer is the one that the counts and the list give. Assumes nothing.
 use borrow.Author.Needs.{needs}
-use Rattle.libfind.proofs.entry.conclude.Statement.{statement}
-use Rattle.libfind.proofs.entry.conclude.Tie as tie
+use Rattle.libfind.proofs.collected.conclude.Statement.{statement}
+use Rattle.libfind.proofs.collected.conclude.Tie as tie
 use mathlib.Core.Path.{sym, ap}
 use Rattle.libfind.specs.Ends.{answerBy}
 
