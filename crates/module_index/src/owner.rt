@@ -5,13 +5,13 @@ ghost use Rattle.module_index.specs.owner.Owned.{isFirst, linkAt};
 use module_ids::IdRow;
 use module_ids::KeptAs;
 use omf51::ModuleId;
-use tables::links::head_at;
+use tables::links::number_at;
 
 // The link to the first content, or public definition, of an id.
 pub fn head_of(heads: &[u32], id: ModuleId) -> u32
     ensures { λ r. ⌜ r ≡ getD (now (heads .entry)) (id .0) 0 ⌝ }
 {
-    head_at(heads, id.0 as usize)
+    number_at(heads, id.0 as usize)
 }
 
 // Whether the segment at this place among the module's kept segments is the first kept segment of its id.

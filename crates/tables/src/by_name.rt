@@ -176,7 +176,7 @@ pub fn head_at(heads: &[u32], i: usize) -> usize
     if low < NEAR {
         return low;
     }
-    low % NEAR + NEAR * number_at(heads, HEADS + i)
+    low % NEAR + NEAR * number_at(heads, HEADS + i) as usize
 }
 
 // What stands in the head of a link itself.

@@ -92,12 +92,12 @@ pub fn unlink(things: &[u64], n: usize, first: &mut [u32])
     }
 }
 
-// The link to the first thing of a key, 0 past the end of the heads.
-pub fn head_at(first: &[u32], key: usize) -> u32
-    ensures { λ r. ⌜ r ≡ getD (now (first .entry)) key 0 ⌝ }
+// The number at a place of a list, 0 past the end: of heads, the link to the first thing of a key.
+pub fn number_at(numbers: &[u32], i: usize) -> u32
+    ensures { λ r. ⌜ r ≡ getD (now (numbers .entry)) i 0 ⌝ }
 {
-    if key < first.len() {
-        return first[key];
+    if i < numbers.len() {
+        return numbers[i];
     }
     0
 }

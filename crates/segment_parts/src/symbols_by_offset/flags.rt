@@ -5,7 +5,7 @@ ghost use Prim.Native.Nat.{_<_, _≤_, _^_};
 ghost use lib.ListN.{getD, set};
 ghost use Rattle.tables.specs.links.Things.{nextOf};
 ghost use Rattle.segment_parts.specs.symbols_by_offset.Flags.{FlagsBlock, FlagsAlong, FlagsInside, Clears};
-use tables::links::head_at;
+use tables::links::number_at;
 use tables::links::next_at;
 
 // Bounds of the flagged blocks: all of them lie from `low` on and below `high`.
@@ -98,7 +98,7 @@ pub fn flag_inside(
     };
     let mut i = 0;
     while i < len {
-        s = flag_along(head_at(first, at + i), publics, s, flags);
+        s = flag_along(number_at(first, at + i), publics, s, flags);
         i += 1;
     }
     s

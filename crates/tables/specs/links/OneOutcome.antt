@@ -13,7 +13,7 @@ use Rattle.lent.specs.OneOutcome.{Determines, by-equation}
 use Rattle.tables.specs.links.Things.{thingOf, keysOf}
 use Rattle.tables.specs.links.Index.{keyAt, LinkedIn, ClearedTo, Cleared}
 
--- `head_at` of heads; `key_at`, `place_at` and `next_at` of the keys, places or links of things
+-- `number_at` of heads; `key_at`, `place_at` and `next_at` of the keys, places or links of things
 pub number-one : (numbers : List ℕ) (i : ℕ) → Determines (λ r. r ≡ getD numbers i 0)
 number-one numbers i = by-equation (getD numbers i 0)
 

@@ -36,7 +36,7 @@ loop-again c =
     let a = flag-along .before .before .before .before .before .before .before .before .args in
     let along : FlagsAlong _ (nextOf (a .publics .now)) (l .flags) (l .s) _ (flag-along .flag-along .result) = subst
     (λ h. FlagsAlong h (nextOf (a .publics .now)) (l .flags) (l .s) (flag-along .flag-along .last .1 .1 .1 .0) (flag-along .flag-along .result))
-    (flag-along .before .before .head-at .ensures) (flag-along .flag-along .ensures) in
+    (flag-along .before .before .number-at .ensures) (flag-along .flag-along .ensures) in
     record {
       within = omega arith;
       grows = grows-on (l .inv .grows) (flag-along .flag-along .ensures .grows);
