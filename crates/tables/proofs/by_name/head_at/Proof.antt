@@ -18,6 +18,12 @@ cast-low c = let a = c .before .before .before .args in omega (arith, c .shared-
 returns-2 : tie.Need-returns-2
 returns-2 c = let a = c .before .before .before .before .args in sym (head-near (a .heads .now) (a .i) (c .if2 .taken))
 
+cast-result : tie.Need-cast-result
+cast-result c =
+    let known = c .before .before .shared-slice-known2 .given in
+    let a = c .before .before .before .before .before .args in
+    omega (arith, c .number-at .ensures, known (headCount + a .i))
+
 mul-result : tie.Need-mul-result
 mul-result c =
     let known = c .before .before .shared-slice-known2 .given in
@@ -46,6 +52,7 @@ head-at-spec =
     returns-2
     (λ c. search needs)
     (λ c κs. search needs)
+    cast-result
     mul-result
     add-result
     returns-3)
