@@ -31,7 +31,7 @@ abbrev after-bytes : tie.After-slice-known24 → tie.After-bytes
 after-bytes c = after-apart c .before .before .before .before
 
 fill-requires : tie.Need-fill-requires
-fill-requires c κs = let p = c .before .before .before .before .before .before .before .before .before .before .before .before .before .before .before .before .before .pre in record { short = p .short; clear = p .tells }
+fill-requires c κs = let p = c .before .before .before .before .before .before .before .before .before .before .before .before .before .before .pre in record { short = p .short; clear = p .tells }
 
 both-parts-requires : tie.Need-both-parts-requires
 both-parts-requires c κs =
