@@ -16,6 +16,7 @@ use search_rules::PLACED_WIDTH;
 use search_rules::Placed;
 use segments::Goal;
 use segments::Reference;
+use segments::SegmentNumber;
 use segments::recalled::lies_within;
 use segments::rows::REFERENCE_WIDTH;
 use segments::rows::reference_at;
@@ -100,15 +101,16 @@ fn is_borne(
     references: &[u64],
     placed: &[u64],
     positions: &[u32],
-    number: usize,
+    number: SegmentNumber,
     base: usize,
 ) -> bool
-    ensures { λ b. ⌜ b ≡ isBorne (view (now (image .entry)) s) (now (library .entry)) rules (now (segments .entry)) (now (references .entry)) n (now (placed .entry)) (now (positions .entry)) number base ⌝ }
+    ensures { λ b. ⌜ b ≡ isBorne (view (now (image .entry)) s) (now (library .entry)) rules (now (segments .entry)) (now (references .entry)) n (now (placed .entry)) (now (positions .entry)) (number .0) base ⌝ }
 {
-    if n <= number {
+    let i = number.0;
+    if n <= i {
         return true;
     }
-    let row = segment_at(segments, number);
+    let row = segment_at(segments, i);
     bear_out(
         image,
         s,
@@ -170,7 +172,7 @@ pub fn grade(
         references,
         placed,
         positions,
-        number.0,
+        number,
         row.base,
     ) {
         return 1;

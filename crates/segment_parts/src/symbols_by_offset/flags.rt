@@ -5,8 +5,8 @@ ghost use Prim.Native.Nat.{_<_, _≤_, _^_};
 ghost use lib.ListN.{getD, set};
 ghost use Rattle.tables.specs.links.Things.{nextOf};
 ghost use Rattle.segment_parts.specs.symbols_by_offset.Flags.{FlagsBlock, FlagsAlong, FlagsInside, Clears};
-use tables::links::number_at;
 use tables::links::next_at;
+use tables::links::number_at;
 
 // Bounds of the flagged blocks: all of them lie from `low` on and below `high`.
 pub struct Blocks {
