@@ -91,8 +91,8 @@ fn list(image: &[u8], library: &[u8], rules: u64) -> i32 {
     if std::io::stdout().write_all(&text(library, &lines, n)).is_ok() { 0 } else { 2 }
 }
 
-// A thread of Rust's has 2 MiB of stack where nothing is said, and a run takes 7.6 MB.
+// A thread of Rust's has 2 MiB of stack where nothing is said, and a run takes nearly 4 MiB.
 fn main() {
-    let thread = std::thread::Builder::new().stack_size(16 << 20).spawn(|| run(std::env::args().collect()));
+    let thread = std::thread::Builder::new().stack_size(5 << 20).spawn(|| run(std::env::args().collect()));
     exit(thread.expect("a thread").join().expect("an answer"));
 }

@@ -2,7 +2,7 @@
    crates/libfind_c/specs/Exported.antt defines, for all inputs.
 
    A list that is lent is a pointer to its first element and then its length, in elements and not in bytes. Lists that are written must overlap nothing else
-   that is handed over. An empty list may have any pointer but NULL. sillmarble_find takes 7,600,000 bytes of stack: the 8 MiB that a program usually has are
+   that is handed over. An empty list may have any pointer but NULL. sillmarble_find takes less than 4 MiB of stack: the 8 MiB that a program usually has are
    enough, the 2 MiB that a further thread often has are not. */
 #ifndef SILLMARBLE_LIBFIND_H
 #define SILLMARBLE_LIBFIND_H
