@@ -30,6 +30,9 @@ searchloads.py --out FOLDER writes, all with checking on and a minimum of 4 unle
   symbols-mixed     the same, names of 1 to 30 letters
   symbols-colliding the same, and all names share a bucket"""
 import argparse
+import bisect
+import functools
+import itertools
 import random
 from pathlib import Path
 
@@ -42,6 +45,7 @@ from model import reader
 
 FULL = 1 << 16
 EMPTY = CODE | 0x80  # the info of a segment without bytes
+FACTOR = 2654435761  # of the port's buckets of names (`spread` in crates/tables/specs/by_name/Sheet.antt)
 
 # Instructions of the 8051 that compilers write: opcode, how many bytes follow, how often. A fixup stands in the last four.
 PLAIN = ((0x90, 2, 8), (0xE0, 0, 12), (0xF0, 0, 12), (0xA3, 0, 9), (0x74, 1, 5), (0xE5, 1, 8), (0xF5, 1, 8), (0x75, 2, 6), (0xFF, 0, 3), (0xFE, 0, 3),
@@ -227,17 +231,28 @@ def halves(rng):
     return alike(bytes(image), [bytes(n - 1) + b"\1" for n in LENGTHS[1:]])
 
 
-def colliding(key, buckets=16384):
-    """Names that differ, of different lengths, that share a bucket with each other for each key of this rest modulo so many, at most 65,536."""
+@functools.cache
+def before_last(buckets):
+    """The numbers, ascending, that the last step of a name's bucket takes to a bucket of rest 0 modulo so many, at most 65,536."""
+    back = pow(FACTOR, -1, 1 << 32)
+    return sorted((bucket * 65536 + low) * back % (1 << 32) for bucket in range(0, 65536, buckets) for low in range(65536))
+
+
+def colliding(buckets=16384):
+    """Names that differ, of different lengths, that share a bucket with each other, modulo so many, at most 65,536."""
     def make(number):
         name = mixed_name(number)
-        hashed = key
-        for byte in name:
-            hashed = (hashed * 31 + byte) % buckets
-        # what three letters from the space on have to add, so that the hash comes to 0
-        lacking = (-hashed * 31 ** 3 - 32 * (31 * 31 + 31 + 1)) % buckets
-        high, rest = divmod(lacking, 31 * 31)
-        return name + bytes((32 + high, 32 + rest // 31, 32 + rest % 31))
+        whole = name + bytes(3)
+        hashed = len(whole)
+        for byte in (whole if len(whole) <= 16 else whole[:8] + whole[-8:])[:-3]:
+            hashed = (hashed + byte) * FACTOR % (1 << 32)
+        # three letters from the space on, of which the last comes to such a number
+        for first, second in itertools.product(range(32, 127), repeat=2):
+            reached = ((hashed + first) * FACTOR + second) * FACTOR % (1 << 32)
+            at = bisect.bisect_left(before_last(buckets), reached + 32)
+            if at < len(before_last(buckets)) and before_last(buckets)[at] < reached + 127:
+                return name + bytes((first, second, before_last(buckets)[at] - reached))
+        raise ValueError(f"no letters make name {number} share a bucket")
     return make
 
 
@@ -288,10 +303,10 @@ LOADS = (("firmware", firmware), ("firmware-random", firmware_random), ("modules
          ("zeros", zeros), ("zeros-reference", zeros_reference), ("zeros-referring", zeros_referring),
          ("zeros-but-last", zeros_but_last), ("zeros-half-masked", zeros_half_masked),
          ("half-masked", half_masked), ("halves", halves), ("tiny-image", tiny_image),
-         ("long-patterns", long_patterns), ("names-alike", names(named)), ("names-mixed", names(mixed_name)), ("names-colliding", names(colliding(256), SHARED_TARGETS)),
+         ("long-patterns", long_patterns), ("names-alike", names(named)), ("names-mixed", names(mixed_name)), ("names-colliding", names(colliding(), SHARED_TARGETS)),
          ("name-again", name_again, "1 1"),
          ("name-again-short", name_again), ("symbols", symbols(named)), ("symbols-mixed", symbols(mixed_name)),
-         ("symbols-colliding", symbols(colliding(500))))
+         ("symbols-colliding", symbols(colliding())))
 
 
 def written(loads, options):

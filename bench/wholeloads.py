@@ -135,7 +135,7 @@ LOADS = (("goal", run()), ("goal-unchecked", run(), "0 4"), ("goal-2ch", run(for
          ("library-1m", run(6500, 0.1)), ("flash-zeros", erased(0)), ("flash-ffs", erased(255)), ("empties", run(form=with_empties)), ("tiny", tiny, "1 3"),
          *small(1, 1, "512", "1k", "2k", "4k"), *small(10, 0.6, "1k", "2k", "4k"), *small(1, 0, "1k", "2k", "4k"), *small(10, 0, "512", "1k", "2k"),
          *((f"collect-{label}", collected(label, shape)) for label, shape in COLLECTED),
-         ("names-sharing", names(colliding(0x8000, FULL), (b"\x80\0",))), ("symbols-sharing", symbols(colliding(500, FULL))),
+         ("names-sharing", names(colliding(FULL), (b"\x80\0",))), ("symbols-sharing", symbols(colliding(FULL))),
          ("long-noted", long_noted, "1 1"), ("long-placed", long_placed), ("long-ordered", long_ordered),
          *some_of(searchloads.LOADS, SEARCHED), *some_of(listloads.LOADS, LISTED))
 

@@ -44,6 +44,8 @@ else
 fi
 
 passed=0 failed=0
+# The examples and the program have to do with 6 MiB of stack.
+ulimit -S -s 6144
 # Runs an example and the listing program on the same files: status and standard output must be the same, and the refusal's number.
 try() { # EXAMPLE IMAGE LIBRARY RULES
     was=0 got=0

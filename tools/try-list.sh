@@ -2,6 +2,8 @@
 # try-list.sh: runs `./sillmarble list` on every outcome that it has, and holds status, standard output and standard error against what they must be.
 # The last line is 'N passed, 0 failed', and then the status is 0. Another program than ./sillmarble is tried by SILLMARBLE=PATH. Needs python3.
 set -eu
+# The program has to do with 6 MiB of stack, three quarters of what it usually has.
+ulimit -S -s 6144
 root=$(cd "$(dirname "$0")/.." && pwd)
 program=${SILLMARBLE:-$root/sillmarble}
 work=$(mktemp -d)

@@ -9,13 +9,14 @@
    It links a static library with count_collecting (collecting.c) and
      #[no_mangle] pub extern "C" fn count_searching(image: &[u8], check: bool, minimum: usize, library: &[u8], n: usize, counts: &mut [u64],
          segments: &mut [u64], references: &mut [u64], symbols: &mut [u64], bytes: &mut [u8], masks: &mut [u8], placed: &mut [u64],
-         noted: &mut [u64]) -> u8
-   A lent slice is a pointer and a length. */
+         noted: &mut [u64], positions: &mut [u32], goals: &mut [u32]) -> u8
+   which asks for heads of zeros, so that these are set to zero before each search, and counted with it. A lent slice is a pointer and a length. */
 #include "loaded.h"
 #include <stdbool.h>
+#include <string.h>
 
 /* Rows of 8, 6 and 3 numbers, and pattern bytes; rows of 8 and 6 numbers that are found: more than any of the loads takes. */
-enum { SEGMENTS = 1 << 13, REFERENCES = 1 << 15, SYMBOLS = 1 << 15, PATTERN = 1 << 20, PLACED = 21 << 16, NOTED = 21 << 16, MEGA = 1 << 17 };
+enum { SEGMENTS = 1 << 13, REFERENCES = 1 << 15, SYMBOLS = 1 << 15, PATTERN = 1 << 20, PLACED = 21 << 16, NOTED = 21 << 16, MEGA = 1 << 17, HEADS = 1 << 17 };
 
 uint8_t count_collecting(const uint8_t *library, size_t length, uint64_t *counts, size_t four, uint64_t *segments, size_t in_segments,
                          uint64_t *references, size_t in_references, uint64_t *symbols, size_t in_symbols, uint8_t *bytes, size_t in_bytes,
@@ -24,9 +25,11 @@ uint8_t count_collecting(const uint8_t *library, size_t length, uint64_t *counts
 uint8_t count_searching(const uint8_t *image, size_t in_image, bool check, size_t minimum, const uint8_t *library, size_t length, size_t n,
                         uint64_t *counts, size_t two, uint64_t *segments, size_t in_segments, uint64_t *references, size_t in_references,
                         uint64_t *symbols, size_t in_symbols, uint8_t *bytes, size_t in_bytes, uint8_t *masks, size_t in_masks,
-                        uint64_t *placed, size_t in_placed, uint64_t *noted, size_t in_noted);
+                        uint64_t *placed, size_t in_placed, uint64_t *noted, size_t in_noted, uint32_t *positions, size_t in_positions,
+                        uint32_t *goals, size_t in_goals);
 
 static uint64_t segments[8 * SEGMENTS], references[6 * REFERENCES], symbols[3 * SYMBOLS], placed[8 * PLACED], noted[6 * NOTED];
+static uint32_t positions[HEADS], goals[HEADS];
 static uint8_t bytes[PATTERN], masks[PATTERN];
 
 struct job {
@@ -45,9 +48,11 @@ static int collected(struct job *j)
 /* The collection's lists are lent as far as they are filled. */
 static int searched(struct job *j, size_t in_placed, size_t in_noted)
 {
+    memset(positions, 0, sizeof positions);
+    memset(goals, 0, sizeof goals);
     return count_searching(j->image, j->in_image, j->check, j->minimum, j->library, j->length, j->stored[0], j->found, 2, segments,
                            8 * j->stored[0], references, 6 * j->stored[1], symbols, 3 * j->stored[2], bytes, j->stored[3], masks, j->stored[3],
-                           placed, in_placed, noted, in_noted);
+                           placed, in_placed, noted, in_noted, positions, HEADS, goals, HEADS);
 }
 
 int main(int count, char **words)

@@ -3,6 +3,7 @@ pub mod Outcome
 pub mod Concluded
 pub mod OutcomeLaws
 pub mod EndLaws
+pub mod Sizes
 pub mod ZeroLaws
 pub mod RecalledLaws
 pub mod OneOutcome

@@ -9,40 +9,39 @@ use Rattle.module_ids.specs.ClearLaws.{zeros-tell}
 use Rattle.module_index.specs.Indexed.{Blank}
 use Rattle.module_index.specs.IndexedTableLaws.{zeros-blank}
 use Rattle.collect.specs.all_modules.Modules.{Workable}
+use Rattle.collect.specs.Sizes.{Sizes}
 use Rattle.tables.specs.zeros.Zeros.{zeroList}
 use Rattle.tables.specs.zeros.ZeroLaws.{zero-length, zero-list}
 
-zero-tells : (n : ℕ) → 65536 * 6 ≤ n → Tells [] (zeroList n)
+zero-tells : (n : ℕ) → 65536 * 3 ≤ n → Tells [] (zeroList n)
 unfolding zeroList
 zero-tells n h = zeros-tell n h
 
-pub table-tells : {table : List ℕ} → table ≡ zeroList 393216 → Tells [] table
-table-tells e = rw e (zero-tells 393216 (omega arith))
+pub table-tells : {table : List ℕ} → table ≡ zeroList 196608 → Tells [] table
+table-tells e = rw e (zero-tells 196608 (omega arith))
 
-zero-blank : (size : ℕ) (library : List ℕ) (n h : ℕ) → length library ≤ size * n → length library < 4294967296 → n < 4294967296 → 65536 ≤ h
-    → Blank size library (zeroList n) (zeroList n) (zeroList h) (zeroList n)
-zero-blank size library n h r s f k =
-    zeros-blank
-    (record { for-keys = rw (zero-length n) r; for-places = rw (zero-length n) r; short = s })
-    (rw (zero-length n) f)
-    (omega arith)
-    (rw (zero-length h) k)
-    (zero-list h)
+-- tables of zeros, of the lengths that the library's length asks for
+pub zeros-size : {library contents definitions : List ℕ} (n k : ℕ) → contents ≡ zeroList n → definitions ≡ zeroList k → length library ≤ 1048576 → length library ≤ 7 * n → length library ≤ 6 * k → n ≤ 149797 → k ≤ 174848
+    → Sizes library contents definitions
+zeros-size n k c d s a b f g = rw (c, d) (record {
+  short = s;
+  for-contents = rw (zero-length n) a;
+  for-publics = rw (zero-length k) b;
+  few-contents = rw (zero-length n) f;
+  few-publics = rw (zero-length k) g;
+})
 
--- n contents take 7 bytes each at least, and k public definitions 5
-pub zeros-work : (library : List ℕ) (n k : ℕ) {table : List ℕ} → length library ≤ 7 * n → length library ≤ 5 * k → length library ≤ 1048576 → n < 4294967296 → k ≤ 209920 → Tells [] table
-    → Workable library 0 table (zeroList n) (zeroList n) (zeroList 65536) (zeroList n) (zeroList k) (zeroList k) (zeroList 65536) (zeroList k) (zeroList 65536)
-zeros-work library n k a b s f g t = record {
+heads-blank : (size : ℕ) {library things first : List ℕ} → length library ≤ size * length things → length library ≤ 1048576 → length things < 268435456 → first ≡ zeroList 65536 → Blank size library things first
+heads-blank size r s f e = rw e (zeros-blank (record { room = r; short = s }) f (omega (arith, zero-length 65536)) (zero-list 65536))
+
+pub tables-work : {library table contents first definitions heads apart : List ℕ} → Sizes library contents definitions → Tells [] table → first ≡ zeroList 65536 → heads ≡ zeroList 65536 → apart ≡ zeroList 65536
+    → Workable library 0 table contents first definitions heads apart
+tables-work s t f h p = record {
   tells = t;
-  contents = zero-blank 7 library n 65536 a (omega arith) f (omega arith);
-  publics = zero-blank 5 library k 65536 b (omega arith) (omega arith) (omega arith);
-  masks = rw (zero-length 65536) (omega arith);
-  few-keys = rw (zero-length k) g;
-  few = omega arith;
+  sections = heads-blank 7 (s .for-contents) (s .short) (omega (arith, s .few-contents)) f;
+  publics = heads-blank 6 (s .for-publics) (s .short) (omega (arith, s .few-publics)) h;
+  masks = rw (p, zero-length 65536) (omega arith);
+  few-publics = s .few-publics;
+  few = omega (arith, s .short);
+  short = s .short;
 }
-
-pub tables-work : (library : List ℕ) (n k : ℕ) {table ids places first next keys entries names onward apart : List ℕ} → length library ≤ 7 * n → length library ≤ 5 * k → length library ≤ 1048576 → n < 4294967296 → k ≤ 209920
-    → Tells [] table → ids ≡ zeroList n → places ≡ zeroList n → first ≡ zeroList 65536 → next ≡ zeroList n
-    → keys ≡ zeroList k → entries ≡ zeroList k → names ≡ zeroList 65536 → onward ≡ zeroList k → apart ≡ zeroList 65536
-    → Workable library 0 table ids places first next keys entries names onward apart
-tables-work library n k a b s f g t i p h x e y m o c = rw (i, p, h, x, e, y, m, o, c) (zeros-work library n k a b s f g t)

@@ -1,6 +1,5 @@
 -- The segments of all modules of a library.
 pub mod Modules
 pub mod FewLaws
-pub mod FlagLaws
 pub mod All
 pub mod AllLaws

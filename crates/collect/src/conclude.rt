@@ -1,11 +1,8 @@
 // The end of the collection, once all modules are stored or there was no room: rows, or zeros and a refusal.
 ghost use mathlib.Core.Path.{_≡_};
-ghost use mathlib.Core.List.{[]};
-ghost use Prim.Native.Nat.{_≤_};
-ghost use lib.ListN.{length};
 ghost use Rattle.omf51.specs.Module.{moduleAt};
 ghost use Rattle.library.specs.Gathered.{itemsAt};
-ghost use Rattle.module_ids.specs.Noted.{Tells};
+ghost use Rattle.module_ids.specs.Noted.{Fillable};
 ghost use Rattle.collect.specs.stored.Segments.{lists};
 ghost use Rattle.collect.specs.Outcome.{collectZeroed};
 ghost use Rattle.collect.specs.Concluded.{Concludes};
@@ -40,14 +37,14 @@ pub fn conclude(
     library: &[u8],
     from: usize,
     stored: Stored,
-    table: &mut [u64],
+    table: &mut [u32],
     segments: &mut [u64],
     references: &mut [u64],
     symbols: &mut [u64],
     bytes: &mut [u8],
     masks: &mut [u8],
 ) -> Collection
-    requires { ⌜ Tells [] (now table) × (length (now library) ≤ 1048576) ⌝ }
+    requires { ⌜ Fillable (now library) (now table) ⌝ }
     ensures { λ r. ⌜ Concludes (now (library .entry)) (itemsAt (now (library .entry)) (moduleAt (now (library .entry))) from) (lists (now (segments .entry)) (now (references .entry)) (now (symbols .entry)) (now (bytes .entry)) (now (masks .entry))) stored
         (record { answer = r; left = lists (now (segments .exit)) (now (references .exit)) (now (symbols .exit)) (now (bytes .exit)) (now (masks .exit)) }) ⌝ }
 {

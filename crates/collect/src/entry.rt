@@ -9,6 +9,7 @@ ghost use Rattle.module_ids.specs.Noted.{Tells};
 ghost use Rattle.collect.specs.stored.Stores.{Stores};
 ghost use Rattle.collect.specs.stored.Segments.{lists};
 ghost use Rattle.collect.specs.all_modules.All.{nothing, StoresAll};
+ghost use Rattle.collect.specs.Sizes.{Sizes};
 ghost use Rattle.collect.specs.Outcome.{collection};
 use crate::Collection;
 use crate::all_modules::all::store_all;
@@ -19,60 +20,48 @@ use image::fixup::Rules;
 use lent::refusal::Refusal;
 use library::LONGEST_LIBRARY;
 use tables::zeros::content_room;
-use tables::zeros::few_entries;
-use tables::zeros::few_ids;
-use tables::zeros::few_keys;
-use tables::zeros::few_places;
+use tables::zeros::few_contents;
+use tables::zeros::few_publics;
 use tables::zeros::heads;
 use tables::zeros::id_table;
-use tables::zeros::many_entries;
-use tables::zeros::many_ids;
-use tables::zeros::many_keys;
-use tables::zeros::many_places;
+use tables::zeros::many_contents;
+use tables::zeros::many_publics;
 
 // A library up to this length is collected with small tables.
 const SHORT_LIBRARY: usize = 65536;
 
-// Stores the segments of a library of at most 64 KiB, for which small tables do: tables are filled
-// with zeros in each run, which costs time.
-fn store_short(
+// Stores the segments of all modules from the place `from` on. The tables of contents and of public definitions are lent,
+// and large enough for the library, whatever they hold; the other tables of a module are made here.
+fn store_in(
     library: &[u8],
     rules: Rules,
     from: usize,
-    table: &mut [u64],
+    table: &mut [u32],
+    contents: &mut [u64],
+    publics: &mut [u64],
     segments: &mut [u64],
     references: &mut [u64],
     symbols: &mut [u64],
     bytes: &mut [u8],
     masks: &mut [u8],
 ) -> Stored
-    requires { ⌜ (length (now library) ≤ 65536) × (Tells [] (now table) × Stores [] (lists (now segments) (now references) (now symbols) (now bytes) (now masks)) nothing) ⌝ }
+    requires { ⌜ Sizes (now library) (now contents) (now publics) × (Tells [] (now table) × Stores [] (lists (now segments) (now references) (now symbols) (now bytes) (now masks)) nothing) ⌝ }
     ensures { λ r. ⌜ StoresAll (now (library .entry)) rules (itemsAt (now (library .entry)) (moduleAt (now (library .entry))) from) (now (table .exit))
         (lists (now (segments .entry)) (now (references .entry)) (now (symbols .entry)) (now (bytes .entry)) (now (masks .entry)))
         (lists (now (segments .exit)) (now (references .exit)) (now (symbols .exit)) (now (bytes .exit)) (now (masks .exit))) r ⌝ }
 {
-    let mut ids = few_ids();
-    let mut places = few_places();
     let mut first = heads();
-    let mut next = few_places();
-    let mut keys = few_keys();
-    let mut entries = few_entries();
     let mut names = heads();
-    let mut onward = few_entries();
     let mut apart = content_room();
     store_all(
         library,
         rules,
         from,
         table,
-        &mut ids,
-        &mut places,
+        contents,
         &mut first,
-        &mut next,
-        &mut keys,
-        &mut entries,
+        publics,
         &mut names,
-        &mut onward,
         segments,
         references,
         symbols,
@@ -82,60 +71,13 @@ fn store_short(
     )
 }
 
-// Stores the segments of a library of at most 1 MiB.
-fn store_long(
-    library: &[u8],
-    rules: Rules,
-    from: usize,
-    table: &mut [u64],
-    segments: &mut [u64],
-    references: &mut [u64],
-    symbols: &mut [u64],
-    bytes: &mut [u8],
-    masks: &mut [u8],
-) -> Stored
-    requires { ⌜ (length (now library) ≤ 1048576) × (Tells [] (now table) × Stores [] (lists (now segments) (now references) (now symbols) (now bytes) (now masks)) nothing) ⌝ }
-    ensures { λ r. ⌜ StoresAll (now (library .entry)) rules (itemsAt (now (library .entry)) (moduleAt (now (library .entry))) from) (now (table .exit))
-        (lists (now (segments .entry)) (now (references .entry)) (now (symbols .entry)) (now (bytes .entry)) (now (masks .entry)))
-        (lists (now (segments .exit)) (now (references .exit)) (now (symbols .exit)) (now (bytes .exit)) (now (masks .exit))) r ⌝ }
-{
-    let mut ids = many_ids();
-    let mut places = many_places();
-    let mut first = heads();
-    let mut next = many_places();
-    let mut keys = many_keys();
-    let mut entries = many_entries();
-    let mut names = heads();
-    let mut onward = many_entries();
-    let mut apart = content_room();
-    store_all(
-        library,
-        rules,
-        from,
-        table,
-        &mut ids,
-        &mut places,
-        &mut first,
-        &mut next,
-        &mut keys,
-        &mut entries,
-        &mut names,
-        &mut onward,
-        segments,
-        references,
-        symbols,
-        bytes,
-        masks,
-        &mut apart,
-    )
-}
-
-// Stores the segments of all modules from the place `from` on, with tables of the size that the library's length asks for.
+// Stores the segments of all modules from the place `from` on, with tables of the size that the library's length asks
+// for: tables are filled with zeros in each run, which costs time.
 fn store(
     library: &[u8],
     rules: Rules,
     from: usize,
-    table: &mut [u64],
+    table: &mut [u32],
     segments: &mut [u64],
     references: &mut [u64],
     symbols: &mut [u64],
@@ -148,11 +90,15 @@ fn store(
         (lists (now (segments .exit)) (now (references .exit)) (now (symbols .exit)) (now (bytes .exit)) (now (masks .exit))) r ⌝ }
 {
     if library.len() <= SHORT_LIBRARY {
-        return store_short(
+        let mut contents = few_contents();
+        let mut publics = few_publics();
+        return store_in(
             library,
             rules,
             from,
             table,
+            &mut contents,
+            &mut publics,
             segments,
             references,
             symbols,
@@ -160,11 +106,15 @@ fn store(
             masks,
         );
     }
-    store_long(
+    let mut contents = many_contents();
+    let mut publics = many_publics();
+    store_in(
         library,
         rules,
         from,
         table,
+        &mut contents,
+        &mut publics,
         segments,
         references,
         symbols,

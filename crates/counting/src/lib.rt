@@ -78,7 +78,8 @@ pub extern "C" fn count_collecting(
 }
 
 // Searches an image for the first n segments that were collected, under rule set 0 and with nothing withheld; gives 0
-// or the number of a refusal. With 0 the numbers of placed symbols and noted names are left in `counts`.
+// or the number of a refusal. With 0 the numbers of placed symbols and noted names are left in `counts`, and the heads
+// `positions` and `goals`, which are to be zeros before, lead to the rows.
 #[no_mangle]
 pub extern "C" fn count_searching(
     image: &[u8],
@@ -94,6 +95,8 @@ pub extern "C" fn count_searching(
     masks: &mut [u8],
     placed: &mut [u64],
     noted: &mut [u64],
+    positions: &mut [u32],
+    goals: &mut [u32],
 ) -> u8 {
     let asked = Asked {
         rules: Rules::AsFound,
@@ -113,6 +116,8 @@ pub extern "C" fn count_searching(
         masks,
         placed,
         noted,
+        positions,
+        goals,
     ) {
         Searched::Done(rows) => {
             let cells = [rows.placed as u64, rows.noted as u64];
@@ -131,8 +136,8 @@ fn skip_of(skips: bool, amount: usize) -> Skip {
     Skip::Never
 }
 
-// Lists the names of the rows that a search left (`symbols` rows of placed symbols, `names` of noted names), under rule
-// set 0 and with nothing withheld. Gives 0 and leaves the number of lines in `counts`, or 9 if the lines do not fit.
+// Lists the names of the rows that a search left, `names` of them noted names, with its heads, under rule set 0 and with
+// nothing withheld. Gives 0 and leaves the number of lines in `counts`, or 9 if the lines do not fit.
 #[no_mangle]
 pub extern "C" fn count_listing(
     image: &[u8],
@@ -144,8 +149,9 @@ pub extern "C" fn count_listing(
     segments: &[u64],
     references: &[u64],
     placed: &[u64],
-    symbols: usize,
+    positions: &[u32],
     noted: &[u64],
+    goals: &[u32],
     names: usize,
     lines: &mut [u64],
 ) -> u8 {
@@ -160,8 +166,9 @@ pub extern "C" fn count_listing(
         n,
         references,
         placed,
-        symbols,
+        positions,
         noted,
+        goals,
         names,
         lines,
     );

@@ -2,12 +2,12 @@
 use Prim.Native.Nat.{_-_, _≤_}
 use mathlib.Core.Path.{_≡_, refl, sym, ap, _∙_}
 use mathlib.Core.List.{List, [], _∷_}
-use mathlib.Core.Option.{some}
+use mathlib.Core.Option.{Option, none, some}
 use native.Mathlib.Omega.{arith}
 use lib.ListN.{getElem?}
 use Rattle.lent.specs.declared.refusal.Refusal.{Refusal}
 use Rattle.lent.specs.declared.refusal.Refusal.the-variants.{RuleSet, ImageTooLong, LibraryTooLong, StretchPastEnd, NoModule, BodyPastEnd, LengthZero, NamesDiffer, TooFewRows, UnknownKind, UnknownBlock, ContentPastSegment, NoKeptSegment}
-use Rattle.lent.specs.Refusals.{refusalNumber}
+use Rattle.lent.specs.Refusals.{refusalNumber, stageNumber}
 
 -- the refusals in the order of their numbers
 abbrev pub everyRefusal : List Refusal
@@ -52,3 +52,10 @@ number-range UnknownKind = omega arith
 number-range UnknownBlock = omega arith
 number-range ContentPastSegment = omega arith
 number-range NoKeptSegment = omega arith
+
+-- what a stage comes to is known by its number
+pub stage-tells : (a b : Option Refusal) → stageNumber a ≡ stageNumber b → a ≡ b
+stage-tells none none e = refl
+stage-tells none (some r) e = absurd (omega (arith, e, number-range r .0))
+stage-tells (some r) none e = absurd (omega (arith, e, number-range r .0))
+stage-tells (some r) (some s) e = ap some (number-tells r s e)

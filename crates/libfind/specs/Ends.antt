@@ -3,6 +3,7 @@ use Prim.Native.Nat.{ℕ, _≤_}
 use mathlib.Core.Path.{_≡_}
 use mathlib.Core.List.{List}
 use lib.ListN.{length}
+use Rattle.tables.specs.by_name.Heads.{Blank}
 use Rattle.image.specs.View.{view}
 use Rattle.search.specs.visit.Visits.{stored}
 use Rattle.collect.specs.declared.stored.CollectCounts.{CollectCounts as Stored}
@@ -71,6 +72,11 @@ abbrev pub FindsCollected : List ℕ → List ℕ → Settings → Stored → Le
 FindsCollected image library s c before r after =
     length image ≤ 65536
     → record { answer = r; left = after } ≡ concluded c (findOutcome (view image (s .stretch)) (askedOf s) (s .skip) library (c .segments) (givenLists before))
+
+-- the same with heads that are blank before
+abbrev pub FindsByHeads : List ℕ → List ℕ → Settings → Stored → Lent → List ℕ → List ℕ → Answer → Lent → Type 0
+FindsByHeads image library s c before positions goals r after =
+    Blank (length (before .placed)) positions → Blank (length (before .noted)) goals → FindsCollected image library s c before r after
 
 -- the run from the place of the first module on
 abbrev pub FindsFrom : List ℕ → List ℕ → Settings → ℕ → Lent → Answer → Lent → Type 0

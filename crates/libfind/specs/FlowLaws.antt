@@ -1,6 +1,6 @@
 -- Once the segments are collected, the search and then the list come to what both together come to. Assumes nothing.
 use Prim.Native.Nat.{ℕ, _≤_}
-use mathlib.Core.Path.{_≡_, sym, ap, subst, _∙_}
+use mathlib.Core.Path.{_≡_, sym, ap, _∙_}
 use mathlib.Core.List.{List}
 use native.Mathlib.Omega.{arith}
 use lib.ListN.{length}
@@ -13,7 +13,7 @@ use Rattle.search_rules.specs.declared.Asked.{Asked}
 use Rattle.search.specs.declared.SearchCounts.{SearchCounts}
 use Rattle.search.specs.declared.Searched.{Searched}
 use Rattle.search.specs.declared.Searched.the-variants as Searched
-use Rattle.search.specs.Outcome.{SearchLists, searched}
+use Rattle.search.specs.Outcome.{SearchLists, SearchFound}
 use Rattle.listing.specs.declared.FindAnswer.{FindAnswer}
 use Rattle.listing.specs.Outcome.{findOutcome}
 use Rattle.listing.specs.OutcomeLaws.{search-done, search-refused, refused-is}
@@ -37,17 +37,17 @@ module _ (image library : List ℕ) (s : Settings) (c : CollectCounts) (lent : L
   seen : length cells ≤ 65536
   seen = omega (arith, view-length image (s .stretch))
 
-  module _ {asked : Asked} (ask : asked ≡ askedOf s) {answer : Searched} {left : SearchLists}
-      (found : record { answer = answer; left = left } ≡ searched cells asked library (c .segments) before) where
+  module _ {asked : Asked} (ask : asked ≡ askedOf s) {answer : Searched} {left : SearchLists} {positions goals : List ℕ}
+      (found : SearchFound cells asked library (c .segments) before (record { answer = answer; left = left }) positions goals) where
     -- THE SEARCH IS DONE: its rows are listed
     pub listed-then : {rows : SearchCounts} → answer ≡ Searched.Done rows
         → length (left .placed) ≡ length (lent .placed) → length (left .noted) ≡ length (lent .noted)
-        → {r : FindAnswer} {left′ : SearchLists} {lines′ : List ℕ} → ListsFound cells asked (s .skip) library (c .segments) rows left (lent .lines) r left′ lines′
+        → {r : FindAnswer} {left′ : SearchLists} {lines′ : List ℕ} → ListsFound cells asked (s .skip) library (c .segments) rows left positions goals (lent .lines) r left′ lines′
         → {end : Answer} → end ≡ answerBy c r → record { answer = end; left = allOf (record { searched = left′; lines = lines′ }) } ≡ whole
     listed-then {rows} d p q {r} {left′} {lines′} lists e =
         ap (λ x. record { answer = x; left = allOf (record { searched = left′; lines = lines′ }) }) e
         ∙ ap (concluded c)
-        (lists before seen (sym p) (sym q) (search-done cells asked library (c .segments) before seen rows left (ap (λ x. record { answer = x; left = left }) (sym d) ∙ found))
+        (lists before seen (sym p) (sym q) (search-done cells asked library (c .segments) before seen rows left (ap (λ x. record { answer = x; left = left }) (sym d) ∙ found .same)) (found .sought rows d)
         ∙ ap (λ x. findOutcome cells x (s .skip) library (c .segments) (givenLists lent)) ask)
 
     -- THE SEARCH IS REFUSED: nothing is listed, and the lines are zero too
@@ -56,5 +56,5 @@ module _ (image library : List ℕ) (s : Settings) (c : CollectCounts) (lent : L
     unlisted {r} d {lines′} z =
         ap (concluded c)
         (refused-is cells asked (s .skip) library (c .segments) (givenLists lent) seen r left lines′
-        (search-refused cells asked library (c .segments) before seen r left (ap (λ x. record { answer = x; left = left }) (sym d) ∙ found)) z
+        (search-refused cells asked library (c .segments) before seen r left (ap (λ x. record { answer = x; left = left }) (sym d) ∙ found .same)) z
         ∙ ap (λ x. findOutcome cells x (s .skip) library (c .segments) (givenLists lent)) ask)

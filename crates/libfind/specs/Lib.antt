@@ -4,4 +4,5 @@ pub mod BeginLaws
 pub mod Ends
 pub mod EndLaws
 pub mod FlowLaws
+pub mod StageNumbers
 pub mod OneOutcome

@@ -1,4 +1,5 @@
 -- Where repetitions, modules and the file end, as the code goes over them.
+pub mod Longest
 pub mod Gathered
 pub mod RepeatLaws
 pub mod EndLaws
@@ -11,5 +12,6 @@ pub mod WholeLaws
 pub mod ReadingLaws
 pub mod StandLaws
 pub mod LaterLaws
+pub mod NumberLaws
 pub mod OneOutcome
 pub mod items

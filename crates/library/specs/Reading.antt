@@ -3,6 +3,7 @@ use Prim.Native.Nat.{ℕ}
 use mathlib.Core.List.{List}
 use lib.ListN.{length}
 use Rattle.lent.specs.declared.refusal.Refusal.the-variants.{NoModule}
+use Rattle.lent.specs.Refusals.{refusalNumber}
 use Rattle.omf51.specs.declared.End.{End}
 use Rattle.omf51.specs.declared.Frame.{Frame}
 use Rattle.omf51.specs.Reader.{ReadOutcome, read, stop, refused, give}
@@ -38,6 +39,15 @@ readingOf first (refused r) = Reading.Refused r
 
 unfoldable pub reading : List ℕ → Reading
 reading library = readingOf (firstAt library) (file library)
+
+-- document 01's number of an answer, and its value: how many modules were read
+abbrev pub readingNumber : Reading → ℕ
+readingNumber (Reading.Modules first count) = 0
+readingNumber (Reading.Refused r) = refusalNumber r
+
+abbrev pub readingCount : Reading → ℕ
+readingCount (Reading.Modules first count) = count
+readingCount (Reading.Refused r) = 0
 
 -- a record of one type whose body isn't looked at
 abbrev pub typeEnd : List ℕ → ℕ → ℕ → End

@@ -12,5 +12,6 @@ pub mod Yields
 pub mod ForwardLaws
 pub mod ContentSizeLaws
 pub mod EntrySizeLaws
+pub mod PublicSizeLaws
 pub mod Fewer
 pub mod OneOutcome

@@ -1,4 +1,6 @@
 -- The list of the names that a search found: all lines in lent memory, the answer, and what is left.
+pub mod Bare
+pub mod BareLaws
 pub mod Inside
 pub mod InsideLaws
 pub mod Listed

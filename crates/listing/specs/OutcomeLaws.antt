@@ -1,37 +1,33 @@
 -- The ends of search and list: by what the search came to, and by whether there was room for the lines. Assumes nothing.
 use Prim.Native.Nat.{ℕ, _*_, _<_, _≤_}
 use mathlib.Core.Path.{_≡_, refl, sym, ap, subst, _∙_}
-use mathlib.Core.Bool.{Bool, true, false, _||_, false≢true}
+use mathlib.Core.Bool.{Bool, true, false, false≢true}
 use mathlib.Core.List.{List}
 use mathlib.Core.Option.{none, some}
 use native.Mathlib.Omega.{arith}
-use borrow.Author.Tests.{lt-ltb, le-ltb, ltb-false}
+use borrow.Author.Tests.{lt-ltb, le-ltb}
 use lib.Dec.{ltb}
 use lib.ListN.{length}
 use Rattle.lent.specs.declared.refusal.Refusal.{Refusal}
 use Rattle.lent.specs.declared.refusal.Refusal.the-variants.{ImageTooLong, TooFewRows}
 use Rattle.lent.specs.Choice.{if_then_else_, leading}
-use Rattle.lent.specs.Rows.{zeros, padded}
-use Rattle.lent.specs.RowLaws.{padded-length}
+use Rattle.lent.specs.Rows.{zeros}
 use Rattle.tables.specs.declared.fill.Fill.{Fill}
 use Rattle.segments.specs.Collect.{Collected}
 use Rattle.search_rules.specs.declared.Asked.{Asked}
 use Rattle.search_rules.specs.Search.{Placing, Noting, placed, noted}
-use Rattle.search_rules.specs.SearchRows.{placedWidth, notedWidth, placedNumbers, notedNumbers}
-use Rattle.search_rules.specs.SearchRowLaws.{placed-take, noted-take}
 use Rattle.search.specs.declared.SearchCounts.{SearchCounts}
 use Rattle.search.specs.declared.Searched.{Searched}
 use Rattle.search.specs.declared.Searched.the-variants as Searched
 use Rattle.search.specs.visit.Visits.{stored, segmentsIn}
 use Rattle.search.specs.Outcome.{SearchLists as Searchable, tooFew, refusalOf as searchRefusal, searchZeroed as zeroedSearch, searchFilled as filledSearch, searchOutcomeOf as searchOutcome, searched}
-use Rattle.search.specs.Fills.{Fitted}
+use Rattle.search.specs.Fills.{Fitted, Sought}
 use Rattle.search.specs.EndLaws.{zeroed-same}
-use Rattle.search.specs.LookupLaws.{placed-single, noted-single}
 use Rattle.listing_rules.specs.declared.Skip.{Skip}
 use Rattle.listing_rules.specs.Listing.{listing, lineWidth, lineNumbers}
 use Rattle.listing.specs.declared.FindAnswer.the-variants.{Done, Refused}
 use Rattle.listing.specs.Outcome.{FindLists, Yield, yields, refusalOf, findZeroed, counted, findOutcomeOf, findOutcome}
-use Rattle.listing.specs.Listed.{Rowed, ListsRows}
+use Rattle.listing.specs.Listed.{ListsRows}
 
 -- what a search's answer says
 isDone : Searched → Bool
@@ -147,10 +143,6 @@ module _ (cells : List ℕ) (a : Asked) (skip : Skip) (library : List ℕ) (n : 
           ∙ sym (found-by false false (h .room) (lines-over ∙ e))
 
 -- THE ROWS that the search left, as the listing knows them
-neither : (p q : Bool) → (p || q) ≡ false → (p ≡ false) × (q ≡ false)
-neither false q z = (refl, z)
-neither true q z = absurd (false≢true (sym z))
-
 module _ (cells : List ℕ) (a : Asked) (library : List ℕ) (n : ℕ) (l : Searchable) (short : length cells ≤ 65536) where
   abbrev found-ps : List Placing
   found-ps = placed library cells a (segmentsIn (l .stored) n)
@@ -158,41 +150,17 @@ module _ (cells : List ℕ) (a : Asked) (library : List ℕ) (n : ℕ) (l : Sear
   abbrev found-ns : List Noting
   found-ns = noted library cells a (segmentsIn (l .stored) n)
 
-  abbrev filled-rowed : tooFew l found-ps found-ns ≡ false
-      → Rowed (a .rules) library (l .stored .segments) (l .stored .references) n (padded (length (l .placed)) (placedNumbers library found-ps)) (length found-ps) (padded (length (l .noted)) (notedNumbers library found-ns)) (length found-ns)
-  filled-rowed e =
-      let both = neither (ltb (length (l .placed)) (length found-ps * placedWidth)) (ltb (length (l .noted)) (length found-ns * notedWidth)) e in
-      let p = ltb-false (length (l .placed)) (length found-ps * placedWidth) (both .0) in
-      let q = ltb-false (length (l .noted)) (length found-ns * notedWidth) (both .1) in
-      let long-p : length (padded (length (l .placed)) (placedNumbers library found-ps)) ≡ length (l .placed) = padded-length (length (l .placed)) (placedNumbers library found-ps) (omega (arith, p, placed-take library found-ps)) in
-      let long-q : length (padded (length (l .noted)) (notedNumbers library found-ns)) ≡ length (l .noted) = padded-length (length (l .noted)) (notedNumbers library found-ns) (omega (arith, q, noted-take library found-ns)) in
-      record {
-        a = a;
-        ruled = refl;
-        symbol-rows = l .stored .symbols;
-        bytes = l .stored .bytes;
-        masks = l .stored .masks;
-        ps = found-ps;
-        ps-number = refl;
-        ps-room = omega (arith, p, long-p);
-        ps-rows = ap (λ k. padded k (placedNumbers library found-ps)) (sym long-p);
-        ps-single = placed-single library cells a (segmentsIn (l .stored) n);
-        ns = found-ns;
-        ns-number = refl;
-        ns-room = omega (arith, q, long-q);
-        ns-rows = ap (λ k. padded k (notedNumbers library found-ns)) (sym long-q);
-        ns-single = noted-single library cells a (segmentsIn (l .stored) n);
-      }
-
   -- the list of those rows is what is found
-  pub lines-found : (skip : Skip) (rows : SearchCounts) (left : Searchable) → SearchDone cells a library n l short rows left → (lines lines′ : List ℕ) (f : Fill)
-      → ListsRows cells (a .rules) skip library (left .stored .segments) n (left .stored .references) (left .placed) (rows .placed) (left .noted) (rows .noted) lines lines′ f
+  pub lines-found : (skip : Skip) (rows : SearchCounts) (left : Searchable) → SearchDone cells a library n l short rows left
+      → (positions goals : List ℕ) → Sought library found-ps found-ns (left .placed) positions (left .noted) goals → (lines lines′ : List ℕ) (f : Fill)
+      → ListsRows cells (a .rules) skip library (left .stored .segments) n (left .stored .references) (left .placed) positions (left .noted) goals (rows .noted) lines lines′ f
       → Fitted lineWidth (length (yields cells a skip library (segmentsIn (l .stored) n) .lines)) (lineNumbers (yields cells a skip library (segmentsIn (l .stored) n) .lines)) lines lines′ f
   unfolding yields filledSearch
-  lines-found skip rows left h lines lines′ f lists =
-      subst (λ x. ListsRows cells (a .rules) skip library (x .stored .segments) n (x .stored .references) (x .placed) (length found-ps) (x .noted) (length found-ns) lines lines′ f) (h .memory)
-      (subst (λ (r : SearchCounts). ListsRows cells (a .rules) skip library (left .stored .segments) n (left .stored .references) (left .placed) (r .placed) (left .noted) (r .noted) lines lines′ f) (h .numbers) lists)
-      (filled-rowed (h .room)) short
+  lines-found skip rows left h positions goals sought lines lines′ f lists =
+      subst (λ t. Fitted lineWidth (length (listing library cells a skip (segmentsIn t n) found-ps found-ns)) (lineNumbers (listing library cells a skip (segmentsIn t n) found-ps found-ns)) lines lines′ f)
+      (ap (λ x. x .stored) (h .memory))
+      (lists (record { a = a; ruled = refl; symbols = left .stored .symbols; bytes = left .stored .bytes; masks = left .stored .masks; ps = found-ps; ns = found-ns; sought = sought })
+      (sym (ap (λ r. r .noted) (h .numbers))) short)
 
   -- zeros depend on the lengths only, and those a search keeps
   pub emptied : (rows : SearchCounts) (left : Searchable) → SearchDone cells a library n l short rows left → length (left .placed) ≡ length (l .placed) → length (left .noted) ≡ length (l .noted)

@@ -13,11 +13,7 @@ use image::fixup::Rules;
 use lent::rows::clear;
 use listing_rules::Skip;
 use listing_rules::rows::LINE_WIDTH;
-use search_rules::NOTED_WIDTH;
-use search_rules::PLACED_WIDTH;
-use tables::by_name::head_rows;
 use tables::fill::Fill;
-use tables::zeros::bucket_heads;
 
 // Sets the numbers behind the first `count` to zero.
 fn clear_behind(m: &mut [u64], count: usize)
@@ -44,9 +40,9 @@ fn leave(m: &mut [u64], f: Fill)
     clear_behind(m, f.rows * LINE_WIDTH);
 }
 
-// Lists the names of `symbols` rows of placed symbols and `names` rows of noted names, first at the positions of the
-// image, then past its end. The heads of the buckets, by which rows are found, are made here from the rows. The image
-// with its stretch `s` and the first n segments with their references tell whether a symbol is borne out.
+// Lists the names of the rows that a search left, first at the positions of the image, then past its end. Rows of
+// placed symbols are found by the heads `positions`; `names` rows of noted names by the heads `goals`. The image with
+// its stretch `s` and the first n segments with their references tell whether a symbol is borne out.
 pub fn list_rows(
     image: &[u8],
     s: Stretch,
@@ -57,17 +53,14 @@ pub fn list_rows(
     n: usize,
     references: &[u64],
     placed: &[u64],
-    symbols: usize,
+    positions: &[u32],
     noted: &[u64],
+    goals: &[u32],
     names: usize,
     lines: &mut [u64],
 ) -> Fill
-    ensures { λ r. ⌜ ListsRows (view (now (image .entry)) s) rules skip (now (library .entry)) (now (segments .entry)) n (now (references .entry)) (now (placed .entry)) symbols (now (noted .entry)) names (now (lines .entry)) (now (lines .exit)) r ⌝ }
+    ensures { λ r. ⌜ ListsRows (view (now (image .entry)) s) rules skip (now (library .entry)) (now (segments .entry)) n (now (references .entry)) (now (placed .entry)) (now (positions .entry)) (now (noted .entry)) (now (goals .entry)) names (now (lines .entry)) (now (lines .exit)) r ⌝ }
 {
-    let mut positions = bucket_heads();
-    let mut goals = bucket_heads();
-    head_rows(library, placed, PLACED_WIDTH, symbols, &mut positions);
-    head_rows(library, noted, NOTED_WIDTH, names, &mut goals);
     let inside = list_inside(
         image,
         s,
@@ -78,16 +71,16 @@ pub fn list_rows(
         n,
         references,
         placed,
-        &positions,
+        positions,
         noted,
-        &goals,
+        goals,
         lines,
         Fill {
             rows: 0,
             over: false,
         },
     );
-    let all = list_beyond(noted, names, &goals, image.len(), skip, lines, inside);
+    let all = list_beyond(noted, names, goals, image.len(), skip, lines, inside);
     leave(lines, all);
     all
 }

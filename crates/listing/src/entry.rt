@@ -13,9 +13,9 @@ use search::SearchCounts;
 use search::entry::clear_all;
 use search_rules::Asked;
 
-// Lists the names that a search left in the `rows` rows of `placed` and `noted`, when it looked in the image, with its
-// stretch `s`, for the first n segments in the five lists of the collection. The contract speaks only of rows that a
-// search left. If the lines do not fit all eight lists are set to zero.
+// Lists the names that a search left in the `rows` rows of `placed` and `noted`, with the heads `positions` and `goals`,
+// when it looked in the image, with its stretch `s`, for the first n segments in the five lists of the collection. The
+// contract speaks only of rows and heads that a search left. If the lines do not fit all eight lists are set to zero.
 pub fn list(
     image: &[u8],
     s: Stretch,
@@ -31,10 +31,12 @@ pub fn list(
     placed: &mut [u64],
     noted: &mut [u64],
     lines: &mut [u64],
+    positions: &[u32],
+    goals: &[u32],
     rows: SearchCounts,
 ) -> FindAnswer
     ensures { λ r. ⌜ ListsFound (view (now (image .entry)) s) asked skip (now (library .entry)) n rows
-        (record { stored = stored (now (segments .entry)) (now (references .entry)) (now (symbols .entry)) (now (bytes .entry)) (now (masks .entry)); placed = now (placed .entry); noted = now (noted .entry) }) (now (lines .entry)) r
+        (record { stored = stored (now (segments .entry)) (now (references .entry)) (now (symbols .entry)) (now (bytes .entry)) (now (masks .entry)); placed = now (placed .entry); noted = now (noted .entry) }) (now (positions .entry)) (now (goals .entry)) (now (lines .entry)) r
         (record { stored = stored (now (segments .exit)) (now (references .exit)) (now (symbols .exit)) (now (bytes .exit)) (now (masks .exit)); placed = now (placed .exit); noted = now (noted .exit) }) (now (lines .exit)) ⌝ }
 {
     let rules = asked.rules;
@@ -48,8 +50,9 @@ pub fn list(
         n,
         references,
         placed,
-        rows.placed,
+        positions,
         noted,
+        goals,
         rows.noted,
         lines,
     );

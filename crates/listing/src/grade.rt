@@ -16,6 +16,7 @@ use search_rules::PLACED_WIDTH;
 use search_rules::Placed;
 use segments::Goal;
 use segments::Reference;
+use segments::SegmentNumber;
 use segments::recalled::lies_within;
 use segments::rows::REFERENCE_WIDTH;
 use segments::rows::reference_at;
@@ -26,7 +27,7 @@ use tables::by_name::find;
 use tables::by_name::head_at;
 
 // Whether a row with this key and name is found, from the head of their bucket on.
-fn is_found(library: &[u8], width: usize, m: &[u64], heads: &[u64], key: u64, name: Part) -> bool
+fn is_found(library: &[u8], width: usize, m: &[u64], heads: &[u32], key: u64, name: Part) -> bool
     ensures { λ r. ⌜ r ≡ isFound (now (library .entry)) width (now (m .entry)) (now (heads .entry)) key name ⌝ }
 {
     let shared = bucket(library, key, name);
@@ -42,7 +43,7 @@ fn bears_out(
     rules: Rules,
     library: &[u8],
     placed: &[u64],
-    positions: &[u64],
+    positions: &[u32],
     base: usize,
     r: Reference,
 ) -> bool
@@ -67,7 +68,7 @@ fn bear_out(
     references: &[u64],
     part: Part,
     placed: &[u64],
-    positions: &[u64],
+    positions: &[u32],
     base: usize,
 ) -> bool
     ensures { λ b. ⌜ b ≡ all (bearsOut (isFound (now (library .entry)) 8 (now (placed .entry)) (now (positions .entry))) (view (now (image .entry)) s) rules base) (rowsOf referenceLayout (now (references .entry)) part) ⌝ }
@@ -99,16 +100,17 @@ fn is_borne(
     n: usize,
     references: &[u64],
     placed: &[u64],
-    positions: &[u64],
-    number: usize,
+    positions: &[u32],
+    number: SegmentNumber,
     base: usize,
 ) -> bool
-    ensures { λ b. ⌜ b ≡ isBorne (view (now (image .entry)) s) (now (library .entry)) rules (now (segments .entry)) (now (references .entry)) n (now (placed .entry)) (now (positions .entry)) number base ⌝ }
+    ensures { λ b. ⌜ b ≡ isBorne (view (now (image .entry)) s) (now (library .entry)) rules (now (segments .entry)) (now (references .entry)) n (now (placed .entry)) (now (positions .entry)) (number .0) base ⌝ }
 {
-    if n <= number {
+    let i = number.0;
+    if n <= i {
         return true;
     }
-    let row = segment_at(segments, number);
+    let row = segment_at(segments, i);
     bear_out(
         image,
         s,
@@ -141,9 +143,9 @@ pub fn grade(
     n: usize,
     references: &[u64],
     placed: &[u64],
-    positions: &[u64],
+    positions: &[u32],
     noted: &[u64],
-    goals: &[u64],
+    goals: &[u32],
     row: Placed,
 ) -> u8
     ensures { λ r. ⌜ r ≡ rowGrade (view (now (image .entry)) s) (now (library .entry)) rules (now (segments .entry)) (now (references .entry)) n (now (placed .entry)) (now (positions .entry)) (now (noted .entry)) (now (goals .entry)) row ⌝ }
@@ -170,7 +172,7 @@ pub fn grade(
         references,
         placed,
         positions,
-        number.0,
+        number,
         row.base,
     ) {
         return 1;

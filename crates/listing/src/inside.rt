@@ -1,62 +1,16 @@
 // The lines of the positions of the image, ascending.
 ghost use Rattle.image.specs.View.{view};
-ghost use Rattle.listing.specs.position.PositionLines.{ListsAt};
 ghost use Rattle.listing.specs.Inside.{ListsInside};
+use crate::bare::skip_bare;
 use crate::position::lines::list_position;
 use image::Stretch;
 use image::fixup::Rules;
 use listing_rules::Skip;
-use tables::by_name::head_at;
 use tables::fill::Fill;
-
-// Lists the names of one position `at`. Most positions have no row in their bucket, and are passed over at once. The
-// parameters are those of `list_inside`.
-fn list_any(
-    image: &[u8],
-    s: Stretch,
-    rules: Rules,
-    skip: Skip,
-    library: &[u8],
-    segments: &[u64],
-    n: usize,
-    references: &[u64],
-    placed: &[u64],
-    positions: &[u64],
-    noted: &[u64],
-    goals: &[u64],
-    at: usize,
-    m: &mut [u64],
-    f: Fill,
-) -> Fill
-    ensures { λ r. ⌜ ListsAt (view (now (image .entry)) s) rules skip (now (library .entry)) (now (segments .entry)) n (now (references .entry)) (now (placed .entry)) (now (positions .entry)) (now (noted .entry)) (now (goals .entry)) at (now (m .entry)) f (now (m .exit)) r ⌝ }
-{
-    if head_at(positions, at) == 0 {
-        if head_at(goals, at) == 0 {
-            return f;
-        }
-    }
-    list_position(
-        image,
-        s,
-        rules,
-        skip,
-        library,
-        segments,
-        n,
-        references,
-        placed,
-        positions,
-        noted,
-        goals,
-        at,
-        m,
-        f,
-    )
-}
 
 // Lists the names at all positions of the image, behind the lines in `m` that `before` counts. The names stand in the
 // rows of the search, `placed` and `noted`, with the heads of their buckets, `positions` and `goals`; the image with
-// its stretch `s` and the first n segments with their references give the grades.
+// its stretch `s` and the first n segments with their references give the grades. Positions without rows are passed over.
 pub fn list_inside(
     image: &[u8],
     s: Stretch,
@@ -67,18 +21,18 @@ pub fn list_inside(
     n: usize,
     references: &[u64],
     placed: &[u64],
-    positions: &[u64],
+    positions: &[u32],
     noted: &[u64],
-    goals: &[u64],
+    goals: &[u32],
     m: &mut [u64],
     before: Fill,
 ) -> Fill
     ensures { λ r. ⌜ ListsInside (view (now (image .entry)) s) rules skip (now (library .entry)) (now (segments .entry)) n (now (references .entry)) (now (placed .entry)) (now (positions .entry)) (now (noted .entry)) (now (goals .entry)) (now (m .entry)) before (now (m .exit)) r ⌝ }
 {
     let mut f = before;
-    let mut at = 0;
+    let mut at = skip_bare(positions, goals, 0, image.len());
     while at < image.len() {
-        f = list_any(
+        f = list_position(
             image,
             s,
             rules,
@@ -95,7 +49,7 @@ pub fn list_inside(
             m,
             f,
         );
-        at += 1;
+        at = skip_bare(positions, goals, at + 1, image.len());
     }
     f
 }

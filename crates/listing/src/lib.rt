@@ -1,5 +1,6 @@
 // The list of the names that a search placed and noted: those at positions of the image, and then those past its end.
 pub mod all_rows;
+mod bare;
 pub mod entry;
 pub mod grade;
 pub mod inside;

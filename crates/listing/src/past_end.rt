@@ -17,7 +17,7 @@ use tables::fill::Fill;
 pub fn list_beyond(
     noted: &[u64],
     n: usize,
-    goals: &[u64],
+    goals: &[u32],
     end: usize,
     skip: Skip,
     lines: &mut [u64],

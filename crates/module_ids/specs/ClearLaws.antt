@@ -16,7 +16,7 @@ use Rattle.omf51.specs.declared.ModuleId.{ModuleId}
 use Rattle.omf51.specs.declared.Definition.{Definition}
 use Rattle.omf51.specs.declared.Definition.the-variants.{Segment, Public, External}
 use Rattle.segments.specs.Ids.{sameId, isKept, segmentOf, externalOf, idOf}
-use Rattle.module_ids.specs.IdRows.{idRow, idCells, idLayout, idRowAt}
+use Rattle.module_ids.specs.IdRows.{idRow, idCells, idLayout, idRowAt, Small}
 use Rattle.module_ids.specs.IdRowLaws.{id-wide, id-back}
 use Rattle.module_ids.specs.Noted.{noRow, Tells}
 
@@ -26,7 +26,7 @@ defined id ds = any (λ d. sameId (idOf d) id) ds
 
 -- rows of ids that are not among those left to clear are clear
 pub record Clearing (left : List Definition) (table : List ℕ) : Type 0 where
-  pub long : 65536 * 6 ≤ length table
+  pub long : 65536 * 3 ≤ length table
   pub rows : (id : ModuleId) → id .0 < 65536 → defined id left ≡ false → idRowAt table id ≡ noRow
 
 -- of an id that is not defined there is no first definition of any sort
@@ -71,17 +71,20 @@ undefined-row id ds e =
 pub clearing-starts : (ds : List Definition) (table : List ℕ) → Tells ds table → Clearing ds table
 clearing-starts ds table t = record { long = t .long; rows = λ id h e. t .rows id h ∙ undefined-row id ds e }
 
+pub none-small : Small noRow
+none-small = record { ordinal-small = omega arith; size-small = omega arith; at-small = omega arith; len-small = omega arith }
+
 pub clearing-step : (d : Definition) (left : List Definition) (table : List ℕ) → idOf d .0 < 65536 → Clearing (d ∷ left) table
-    → Clearing left (putRow 6 table (idOf d .0) (idCells noRow))
+    → Clearing left (putRow 3 table (idOf d .0) (idCells noRow))
 unfolding any
-clearing-step d left table small c = record { long = omega (arith, c .long, put-length 6 table (idOf d .0) (idCells noRow)); rows = λ id h e. go id h e (eqb (idOf d .0) (id .0)) refl }
+clearing-step d left table small c = record { long = omega (arith, c .long, put-length 3 table (idOf d .0) (idCells noRow)); rows = λ id h e. go id h e (eqb (idOf d .0) (id .0)) refl }
   where
     go : (id : ModuleId) → id .0 < 65536 → defined id left ≡ false → (b : Bool) → eqb (idOf d .0) (id .0) ≡ b
-        → idRowAt (putRow 6 table (idOf d .0) (idCells noRow)) id ≡ noRow
+        → idRowAt (putRow 3 table (idOf d .0) (idCells noRow)) id ≡ noRow
     go id h e true q =
         let same : idOf d .0 ≡ id .0 = eqb-true (idOf d .0) (id .0) q in
-        ap (λ i. idRowAt (putRow 6 table (idOf d .0) (idCells noRow)) (record { 0 = i })) (sym same)
-        ∙ get-put idLayout id-wide table (idOf d .0) noRow (omega (arith, c .long)) (id-back noRow)
+        ap (λ i. idRowAt (putRow 3 table (idOf d .0) (idCells noRow)) (record { 0 = i })) (sym same)
+        ∙ get-put idLayout id-wide table (idOf d .0) noRow (omega (arith, c .long)) (id-back noRow (none-small .len-small))
     go id h e false q =
         let n = eqb-false (idOf d .0) (id .0) q in
         get-other idLayout id-wide table (idOf d .0) (id .0) noRow (λ z. n (sym z)) ∙ c .rows id h (rw q e)
@@ -96,9 +99,9 @@ zero-at zero k = refl
 zero-at (suc n) zero = refl
 zero-at (suc n) (suc k) = zero-at n k
 
-zero-cell : (n i j : ℕ) → cellOf 6 (zeros n) i j ≡ 0
+zero-cell : (n i j : ℕ) → cellOf 3 (zeros n) i j ≡ 0
 unfolding cellOf
-zero-cell n i j = rw (zero-at n (i * 6 + j)) (go (hasRow 6 (zeros n) i && ltb j 6))
+zero-cell n i j = rw (zero-at n (i * 3 + j)) (go (hasRow 3 (zeros n) i && ltb j 3))
   where
     nil : ℕ
     nil = 0
@@ -111,8 +114,8 @@ none-defined : (id : ModuleId) → defined id [] ≡ false
 unfolding any
 none-defined id = refl
 
-pub zeros-tell : (n : ℕ) → 65536 * 6 ≤ n → Tells [] (zeros n)
+pub zeros-tell : (n : ℕ) → 65536 * 3 ≤ n → Tells [] (zeros n)
 zeros-tell n h = record { long = omega (arith, h, length-replicate {A = ℕ} n 0); rows = λ id k. row id ∙ sym (undefined-row id [] (none-defined id)) }
   where
     row : (id : ModuleId) → idRowAt (zeros n) id ≡ noRow
-    row id = rw (zero-cell n (id .0) 0, zero-cell n (id .0) 3, zero-cell n (id .0) 4, zero-cell n (id .0) 5)
+    row id = rw (zero-cell n (id .0) 0, zero-cell n (id .0) 1, zero-cell n (id .0) 2)

@@ -21,9 +21,9 @@ use Rattle.module_ids.specs.declared.Mark.the-variants.{Other, Code}
 use Rattle.module_ids.specs.declared.KeptAs.{KeptAs}
 use Rattle.module_ids.specs.declared.KeptAs.the-variants.{None, Place}
 use Rattle.module_ids.specs.declared.IdRow.{IdRow}
-use Rattle.module_ids.specs.IdRows.{markOf, keptAs, keptIn, idRow, idCells, idLayout, idRowAt}
+use Rattle.module_ids.specs.IdRows.{markOf, keptAs, keptIn, idRow, idCells, idLayout, idRowAt, Small}
 use Rattle.module_ids.specs.IdRowLaws.{id-wide, id-back}
-use Rattle.module_ids.specs.Noted.{firstMark, firstName, firstKeptAs, changed, noteIn, keptAfter, Tells, Filled}
+use Rattle.module_ids.specs.Noted.{firstMark, firstName, firstKeptAs, changed, rowNoted, noteIn, keptAfter, Tells, Filled}
 
 -- a list with one more: what is kept of it, and the first that passes a test
 keep-snoc : {A : Type 0} (p : A → Bool) (xs : List A) (x : A) → keep p (xs ++ one x) ≡ keep p xs ++ (if p x then one x else [])
@@ -162,19 +162,19 @@ other-external id (Public own offset name) n = refl
 other-external id (External own info name) n = ne-eqb (own .0) (id .0) n
 
 -- THE TABLE WITH ONE MORE DEFINITION
-pub noted : (ds : List Definition) (table : List ℕ) (d : Definition) → Tells ds table → idOf d .0 < 65536 → Tells (ds ++ one d) (noteIn table (length (keep isKept ds)) d)
-unfolding noteIn
-noted ds table d t small = record { long = omega (arith, t .long, put-length 6 table (idOf d .0) (idCells new)); rows = λ id h. go id h (eqb (idOf d .0) (id .0)) refl }
+row-noted : (ds : List Definition) (table : List ℕ) (d : Definition) → Tells ds table → idOf d .0 < 65536 → Small (changed (idRowAt table (idOf d)) (length (keep isKept ds)) d)
+    → Tells (ds ++ one d) (rowNoted table (length (keep isKept ds)) d)
+row-noted ds table d t below small = record { long = omega (arith, t .long, put-length 3 table (idOf d .0) (idCells new)); rows = λ id h. go id h (eqb (idOf d .0) (id .0)) refl }
   where
     new : IdRow
     new = changed (idRowAt table (idOf d)) (length (keep isKept ds)) d
 
-    go : (id : ModuleId) → id .0 < 65536 → (b : Bool) → eqb (idOf d .0) (id .0) ≡ b → idRowAt (putRow 6 table (idOf d .0) (idCells new)) id ≡ idRow (ds ++ one d) id
+    go : (id : ModuleId) → id .0 < 65536 → (b : Bool) → eqb (idOf d .0) (id .0) ≡ b → idRowAt (putRow 3 table (idOf d .0) (idCells new)) id ≡ idRow (ds ++ one d) id
     go id h true e =
         let same : idOf d .0 ≡ id .0 = eqb-true (idOf d .0) (id .0) e in
-        ap (λ i. idRowAt (putRow 6 table (idOf d .0) (idCells new)) (record { 0 = i })) (sym same)
-        ∙ get-put idLayout id-wide table (idOf d .0) new (omega (arith, t .long)) (id-back new)
-        ∙ ap (λ r. changed r (length (keep isKept ds)) d) (t .rows (idOf d) small ∙ ap (λ i. idRow ds (record { 0 = i })) same)
+        ap (λ i. idRowAt (putRow 3 table (idOf d .0) (idCells new)) (record { 0 = i })) (sym same)
+        ∙ get-put idLayout id-wide table (idOf d .0) new (omega (arith, t .long)) (id-back new (small .len-small))
+        ∙ ap (λ r. changed r (length (keep isKept ds)) d) (t .rows (idOf d) below ∙ ap (λ i. idRow ds (record { 0 = i })) same)
         ∙ sym (row-new id ds d same)
     go id h false e =
         let n = eqb-false (idOf d .0) (id .0) e in
@@ -182,10 +182,15 @@ noted ds table d t small = record { long = omega (arith, t .long, put-length 6 t
         ∙ t .rows id h
         ∙ sym (row-same id ds d (other-segment id d n) (other-external id d n))
 
+pub noted : (ds : List Definition) (table : List ℕ) (d : Definition) → Tells ds table → idOf d .0 < 65536 → Small (changed (idRowAt table (idOf d)) (length (keep isKept ds)) d)
+    → Tells (ds ++ one d) (noteIn table (length (keep isKept ds)) d)
+noted ds table (Segment id info relocation size name) t below small = row-noted ds table (Segment id info relocation size name) t below small
+noted ds table (Public id offset name) t below small = record { long = t .long; rows = λ i h. t .rows i h ∙ sym (row-same i ds (Public id offset name) refl refl) }
+noted ds table (External id info name) t below small = row-noted ds table (External id info name) t below small
+
 -- the same by its steps
 pub note-steps : (table : List ℕ) (n : ℕ) (d : Definition) {id : ModuleId} {row new : IdRow} {out : List ℕ} → id ≡ idOf d → row ≡ idRowAt table id → new ≡ changed row n d
-    → out ≡ putRow 6 table (id .0) (idCells new) → out ≡ noteIn table n d
-unfolding noteIn
+    → out ≡ putRow 3 table (id .0) (idCells new) → out ≡ rowNoted table n d
 note-steps table n d i r c o = rw (← i, ← r, ← c) o
 
 pub kept-more : (ds : List Definition) (d : Definition) → length (keep isKept (ds ++ one d)) ≡ keptAfter (length (keep isKept ds)) d
@@ -214,5 +219,6 @@ all-noted {all} {done} {left} table w e t k =
     record { tells = subst (λ ds. Tells ds table) q t; number = k ∙ ap (λ ds. length (keep isKept ds)) q }
 
 pub note-length : (table : List ℕ) (n : ℕ) (d : Definition) → length (noteIn table n d) ≡ length table
-unfolding noteIn
-note-length table n d = put-length 6 table (idOf d .0) _
+note-length table n (Segment id info relocation size name) = put-length 3 table (id .0) _
+note-length table n (Public id offset name) = refl
+note-length table n (External id info name) = put-length 3 table (id .0) _

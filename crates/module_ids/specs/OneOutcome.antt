@@ -23,8 +23,8 @@ id-of-one d a b p q = p .0 ∙ sym (q .0)
 pub id-row-one : (table : List ℕ) (id : ModuleId) → Determines (λ (r : IdRow). (r ≡ idRowAt table id) × (id .0 < 65536))
 id-row-one table id a b p q = p .0 ∙ sym (q .0)
 
-pub put-id-one : (table : List ℕ) (id : ModuleId) (row : IdRow) → Determines (λ out. out ≡ putRow 6 table (id .0) (idCells row))
-put-id-one table id row = by-equation (putRow 6 table (id .0) (idCells row))
+pub put-id-one : (table : List ℕ) (id : ModuleId) (row : IdRow) → Determines (λ out. out ≡ putRow 3 table (id .0) (idCells row))
+put-id-one table id row = by-equation (putRow 3 table (id .0) (idCells row))
 
 -- whatever the table is left as, the number is one
 pub fill-one : (definitions : List Definition) (left other : List ℕ) (a b : ℕ) → Filled definitions left a → Filled definitions other b → a ≡ b

@@ -1,28 +1,23 @@
-// The row of an id in the table: six numbers.
+// The row of an id in the table: three numbers of 32 bits, each of which holds a number below 2^24 and one below 256.
 ghost use mathlib.Core.Path.{_≡_};
+ghost use mathlib.Core.List.{[], _∷_};
 ghost use Prim.Native.Nat.{_≤_, _<_};
-ghost use Rattle.lent.specs.Rows.{putRow};
-ghost use Rattle.module_ids.specs.IdRows.{markNumber, markFrom, keptCells, keptFrom, idCells, idRowAt};
+ghost use Rattle.lent.specs.Rows.{cellOf, putRow};
+ghost use Rattle.module_ids.specs.IdRows.{markNumber, markFrom, keptCells, keptFrom, nameFrom, packed as packedNumber, idCells, idRowAt, Small};
 use crate::IdRow;
 use crate::KeptAs;
 use crate::Mark;
 use lent::part::Part;
-use lent::rows;
 use omf51::ModuleId;
 
-// How many numbers the row of an id has.
-const WIDTH: usize = 6;
-
-// The numbers of a kept segment. The flag is 3, above every mark, so that the sum of mark and flag tells both: the mark
-// is that sum % 3, and a segment is kept if it is 3 or more.
-struct KeptTriple {
-    flag: u64,
-    place: u64,
-    size: u64,
+// The numbers of a kept segment: which of its module's kept segments it is, counted from 1, and its size.
+struct KeptPair {
+    ordinal: usize,
+    size: usize,
 }
 
 // The number of a mark.
-fn mark_number(mark: Mark) -> u64
+fn mark_number(mark: Mark) -> usize
     ensures { λ r. ⌜ (r ≡ markNumber mark) × (r ≤ 2) ⌝ }
 {
     match mark {
@@ -33,7 +28,7 @@ fn mark_number(mark: Mark) -> u64
 }
 
 // The mark of a number.
-fn mark_from(n: u64) -> Mark
+fn mark_from(n: u32) -> Mark
     ensures { λ r. ⌜ r ≡ markFrom n ⌝ }
 {
     if n == 0 {
@@ -45,69 +40,101 @@ fn mark_from(n: u64) -> Mark
     }
 }
 
-// The three numbers of an id's first kept segment; zeros where there is none.
-fn kept_cells(kept: KeptAs) -> KeptTriple
-    ensures { λ r. ⌜ (r ≡ keptCells kept) × (r .flag ≤ 3) ⌝ }
+// The two numbers of an id's first kept segment; zeros where there is none.
+fn kept_cells(kept: KeptAs) -> KeptPair
+    requires { ⌜ keptCells kept .ordinal < 16777216 ⌝ }
+    ensures { λ r. ⌜ r ≡ keptCells kept ⌝ }
 {
     match kept {
-        KeptAs::None => KeptTriple {
-            flag: 0,
-            place: 0,
+        KeptAs::None => KeptPair {
+            ordinal: 0,
             size: 0,
         },
-        KeptAs::Place { place, size } => KeptTriple {
-            flag: 3,
-            place: place as u64,
-            size: size as u64,
+        KeptAs::Place { place, size } => KeptPair {
+            ordinal: place + 1,
+            size,
         },
     }
 }
 
-// An id's first kept segment, from the sum of mark and flag, its place and its size.
-fn kept_from(n: u64, place: u64, size: u64) -> KeptAs
-    ensures { λ r. ⌜ r ≡ keptFrom n place size ⌝ }
+// An id's first kept segment, from its two numbers.
+fn kept_from(ordinal: u32, size: u32) -> KeptAs
+    ensures { λ r. ⌜ r ≡ keptFrom ordinal size ⌝ }
 {
-    if n < 3 {
+    if ordinal == 0 {
         return KeptAs::None;
     }
     KeptAs::Place {
-        place: place as usize,
+        place: (ordinal - 1) as usize,
         size: size as usize,
     }
 }
 
+// The name of an id's first external, from its place and length in one number.
+fn name_from(n: u32) -> Part
+    ensures { λ r. ⌜ r ≡ nameFrom n ⌝ }
+{
+    Part {
+        at: (n / 256) as usize,
+        len: (n % 256) as usize,
+    }
+}
+
+// Two numbers in one.
+fn packed(high: usize, low: usize) -> u32
+    requires { ⌜ (high < 16777216) × (low < 256) ⌝ }
+    ensures { λ r. ⌜ r ≡ packedNumber high low ⌝ }
+{
+    (high * 256 + low) as u32
+}
+
+// The three numbers of an id's row; zeros if the table ends before the row's end.
+fn numbers(table: &[u32], id: ModuleId) -> [u32; 3]
+    ensures { λ r. ⌜ r ≡ cellOf 3 (now (table .entry)) (id .0) 0 ∷ cellOf 3 (now (table .entry)) (id .0) 1 ∷ cellOf 3 (now (table .entry)) (id .0) 2 ∷ [] ⌝ }
+{
+    let at = id.0 as usize * 3;
+    if at + 3 <= table.len() {
+        return [table[at], table[at + 1], table[at + 2]];
+    }
+    [0, 0, 0]
+}
+
+// Puts three numbers into an id's row; if the table ends before the row's end, it stays as it was.
+fn put(table: &mut [u32], id: ModuleId, a: u32, b: u32, c: u32)
+    ensures { λ _. ⌜ now (table .exit) ≡ putRow 3 (now (table .entry)) (id .0) (a ∷ b ∷ c ∷ []) ⌝ }
+{
+    let at = id.0 as usize * 3;
+    if at + 3 <= table.len() {
+        table[at] = a;
+        table[at + 1] = b;
+        table[at + 2] = c;
+    }
+}
+
 // What an id leads to, by the table. The contract also says that an id has 16 bits, for the proofs of callers.
-pub fn id_row(table: &[u64], id: ModuleId) -> IdRow
+pub fn id_row(table: &[u32], id: ModuleId) -> IdRow
     ensures { λ r. ⌜ (r ≡ idRowAt (now (table .entry)) id) × (id .0 < 65536) ⌝ }
 {
-    let n = rows::numbers(table, WIDTH, id.0 as usize);
+    let n = numbers(table, id);
     IdRow {
-        segment: mark_from(n[0] % 3),
-        kept: kept_from(n[0], n[1], n[2]),
-        external: mark_from(n[3]),
-        name: Part {
-            at: n[4] as usize,
-            len: n[5] as usize,
-        },
+        segment: mark_from(n[0] % 256),
+        kept: kept_from(n[0] / 256, n[1] / 256),
+        external: mark_from(n[1] % 256),
+        name: name_from(n[2]),
     }
 }
 
 // Puts what an id leads to into its row of the table.
-pub fn put_id(table: &mut [u64], id: ModuleId, row: IdRow)
-    ensures { λ _. ⌜ now (table .exit) ≡ putRow 6 (now (table .entry)) (id .0) (idCells row) ⌝ }
+pub fn put_id(table: &mut [u32], id: ModuleId, row: IdRow)
+    requires { ⌜ Small row ⌝ }
+    ensures { λ _. ⌜ now (table .exit) ≡ putRow 3 (now (table .entry)) (id .0) (idCells row) ⌝ }
 {
     let segment = row.segment;
     let kept = row.kept;
     let external = row.external;
     let k = kept_cells(kept);
-    let first = mark_number(segment);
-    let cells = [
-        first + k.flag,
-        k.place,
-        k.size,
-        mark_number(external),
-        row.name.at as u64,
-        row.name.len as u64,
-    ];
-    rows::put(table, id.0 as usize, &cells);
+    let a = packed(k.ordinal, mark_number(segment));
+    let b = packed(k.size, mark_number(external));
+    let c = packed(row.name.at, row.name.len);
+    put(table, id, a, b, c);
 }

@@ -1,9 +1,8 @@
 // The first of refusals 10 to 13 in a library, in file order.
-ghost use mathlib.Core.List.{[]};
 ghost use Rattle.omf51.specs.Module.{sectionsAt, moduleAt};
 ghost use Rattle.library.specs.Gathered.{itemsAt};
 ghost use Rattle.library.specs.items.Left.{fixupsLeft};
-ghost use Rattle.module_ids.specs.Noted.{Tells};
+ghost use Rattle.module_ids.specs.Noted.{Fillable};
 ghost use Rattle.module_ids.specs.fault.Scan.{fixupsFault, sectionFault, sectionsFault, Says, Scanned};
 ghost use Rattle.module_ids.specs.fault.ScanLaws.{sectionWith};
 use crate::fault::Verdict;
@@ -22,7 +21,7 @@ use library::module::module_at;
 use omf51::Content;
 
 // The first refusal among the fixups of a content, from a cursor on.
-fn fixups_fault(library: &[u8], table: &[u64], from: Cursor) -> Verdict
+fn fixups_fault(library: &[u8], table: &[u32], from: Cursor) -> Verdict
     ensures { λ r. ⌜ Says (λ ds. fixupsFault ds (fixupsLeft (now (library .entry)) from)) (now (table .entry)) r ⌝ }
 {
     let mut c = from;
@@ -43,7 +42,7 @@ fn fixups_fault(library: &[u8], table: &[u64], from: Cursor) -> Verdict
 }
 
 // The first refusal of one content: its fixups are tested first, and then whether the content passes its segment's size.
-fn section_fault(library: &[u8], table: &[u64], content: Content, fixups: Cursor) -> Verdict
+fn section_fault(library: &[u8], table: &[u32], content: Content, fixups: Cursor) -> Verdict
     ensures { λ r. ⌜ Says (λ ds. sectionFault ds (sectionWith content (fixupsLeft (now (library .entry)) fixups))) (now (table .entry)) r ⌝ }
 {
     let verdict = fixups_fault(library, table, fixups);
@@ -54,7 +53,7 @@ fn section_fault(library: &[u8], table: &[u64], content: Content, fixups: Cursor
 }
 
 // The first refusal among the contents of a module, from a place on.
-fn sections_fault(library: &[u8], table: &[u64], from: usize) -> Verdict
+fn sections_fault(library: &[u8], table: &[u32], from: usize) -> Verdict
     ensures { λ r. ⌜ Says (λ ds. sectionsFault ds (itemsAt (now (library .entry)) (sectionsAt (now (library .entry))) from)) (now (table .entry)) r ⌝ }
 {
     let mut at = from;
@@ -79,8 +78,8 @@ fn sections_fault(library: &[u8], table: &[u64], from: usize) -> Verdict
 }
 
 // The first refusal among all modules from the place `first` on. The table of ids is lent clear, and is clear again afterwards.
-pub fn scan(library: &[u8], first: usize, table: &mut [u64]) -> Verdict
-    requires { ⌜ Tells [] (now table) ⌝ }
+pub fn scan(library: &[u8], first: usize, table: &mut [u32]) -> Verdict
+    requires { ⌜ Fillable (now library) (now table) ⌝ }
     ensures { λ r. ⌜ Scanned (itemsAt (now (library .entry)) (moduleAt (now (library .entry))) first) (now (table .exit)) r ⌝ }
 {
     let mut at = first;

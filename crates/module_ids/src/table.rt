@@ -5,7 +5,8 @@ ghost use Prim.Native.Nat.{_+_, _<_, _^_};
 ghost use Rattle.omf51.specs.Module.{definitionsAt};
 ghost use Rattle.library.specs.Gathered.{itemsAt};
 ghost use Rattle.segments.specs.Ids.{codeInfo, isKept, idOf};
-ghost use Rattle.module_ids.specs.Noted.{firstMark, firstName, firstKeptAs, changed as changedRow, noteIn, keptAfter, noRow, Tells, Filled};
+ghost use Rattle.module_ids.specs.IdRows.{idRowAt, Small};
+ghost use Rattle.module_ids.specs.Noted.{firstMark, firstName, firstKeptAs, changed as changedRow, noteIn, StaysSmall, keptAfter, noRow, Tells, Fillable, Filled};
 use crate::IdRow;
 use crate::KeptAs;
 use crate::Mark;
@@ -140,11 +141,15 @@ fn changed(row: IdRow, n: usize, d: Definition) -> IdRow
     }
 }
 
-// Changes the table by one definition; the module has `n` kept segments before it.
-fn note(table: &mut [u64], n: usize, d: Definition)
-    ensures { λ _. ⌜ (now (table .exit) ≡ noteIn (now (table .entry)) n d) × (idOf d .0 < 65536) ⌝ }
+// Changes the table by one definition; the module has `n` kept segments before it. No id leads to a public definition.
+fn note(table: &mut [u32], n: usize, d: Definition)
+    requires { ⌜ StaysSmall n d ⌝ }
+    ensures { λ _. ⌜ (now (table .exit) ≡ noteIn (now (table .entry)) n d) × (idOf d .0 < 65536) × Small (changedRow (idRowAt (now (table .entry)) (idOf d)) n d) ⌝ }
 {
     let id = id_of(d);
+    if let Definition::Public { id, offset, name } = d {
+        return;
+    }
     let row = id_row(table, id);
     put_id(table, id, changed(row, n, d));
 }
@@ -161,8 +166,8 @@ fn kept_after(n: usize, d: Definition) -> usize
 }
 
 // Fills a clear table from all definitions of a module, from a place on, and answers how many segments are kept.
-pub fn fill(library: &[u8], at: usize, table: &mut [u64]) -> usize
-    requires { ⌜ Tells [] (now table) ⌝ }
+pub fn fill(library: &[u8], at: usize, table: &mut [u32]) -> usize
+    requires { ⌜ Fillable (now library) (now table) ⌝ }
     ensures { λ r. ⌜ Filled (itemsAt (now (library .entry)) (definitionsAt (now (library .entry))) at) (now (table .exit)) r ⌝ }
 {
     let mut c = start(at);
@@ -182,7 +187,7 @@ pub fn fill(library: &[u8], at: usize, table: &mut [u64]) -> usize
 }
 
 // Clears the rows of all ids that the definitions from a place on have, which are mostly far fewer than the table has.
-pub fn clear(library: &[u8], at: usize, table: &mut [u64])
+pub fn clear(library: &[u8], at: usize, table: &mut [u32])
     requires { ⌜ Tells (itemsAt (now library) (definitionsAt (now library)) at) (now table) ⌝ }
     ensures { λ _. ⌜ Tells [] (now (table .exit)) ⌝ }
 {

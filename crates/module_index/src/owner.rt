@@ -11,7 +11,7 @@ use tables::links::number_at;
 pub fn head_of(heads: &[u32], id: ModuleId) -> u32
     ensures { λ r. ⌜ r ≡ getD (now (heads .entry)) (id .0) 0 ⌝ }
 {
-    number_at(heads, id.0 as usize) as u32
+    number_at(heads, id.0 as usize)
 }
 
 // Whether the segment at this place among the module's kept segments is the first kept segment of its id.

@@ -8,6 +8,7 @@ use native.Mathlib.Omega.{arith}
 use borrow.Author.Tests.{lt-ltb, le-ltb}
 use lib.Dec.{ltb}
 use lib.ListN.{length}
+use Rattle.lent.specs.declared.refusal.Refusal.{Refusal}
 use Rattle.lent.specs.declared.refusal.Refusal.the-variants.{ImageTooLong, TooFewRows}
 use Rattle.lent.specs.Choice.{if_then_else_, leading}
 use Rattle.lent.specs.Rows.{zeros}
@@ -15,10 +16,12 @@ use Rattle.tables.specs.declared.fill.Fill.{Fill}
 use Rattle.search_rules.specs.declared.Asked.{Asked}
 use Rattle.search_rules.specs.Search.{Placing, Noting, placed, noted}
 use Rattle.search.specs.declared.visit.Fills.{Fills}
+use Rattle.search.specs.declared.SearchCounts.{SearchCounts}
+use Rattle.search.specs.declared.Searched.{Searched}
 use Rattle.search.specs.declared.Searched.the-variants.{Done, Refused}
 use Rattle.search.specs.visit.Visits.{Stored, stored, segmentsIn}
-use Rattle.search.specs.Outcome.{SearchLists, SearchOutcome, tooFew, refusalOf, searchZeroed, searchFilled, searchOutcomeOf, searched}
-use Rattle.search.specs.Fills.{Fitted, FillsRows}
+use Rattle.search.specs.Outcome.{SearchLists, SearchOutcome, tooFew, refusalOf, searchZeroed, searchFilled, searchOutcomeOf, searched, SearchFound}
+use Rattle.search.specs.Fills.{Fitted, Filled}
 
 -- there are too many rows exactly if the code ran out of room
 fitted-over : {width count : ℕ} {numbers before after : List ℕ} (f : Fill) → Fitted width count numbers before after f → ltb (length before) (count * width) ≡ f .over
@@ -28,6 +31,15 @@ fitted-over {width} {count} {numbers} {before} f h = go (f .over) refl
     go true e = lt-ltb (length before) (count * width) (h .over e)
     go false e = let r = h .room e in le-ltb (length before) (count * width) (omega (arith, r))
 
+-- a search that is refused is not done
+isDone : Searched → Bool
+isDone (Done rows) = true
+isDone (Refused r) = false
+
+refused-never : {r : Refusal} {rows : SearchCounts} → Refused r ≡ Done rows → ⊥
+unfolding isDone
+refused-never e = false≢true (ap isDone e)
+
 module _ (cells : List ℕ) (a : Asked) (library : List ℕ) (n : ℕ) (l : SearchLists) where
   abbrev ps : List Placing
   ps = placed library cells a (segmentsIn (l .stored) n)
@@ -36,11 +48,12 @@ module _ (cells : List ℕ) (a : Asked) (library : List ℕ) (n : ℕ) (l : Sear
   ns = noted library cells a (segmentsIn (l .stored) n)
 
   -- an image that is too long is refused, and nothing is written
-  pub long-is : 65536 < length cells → record { answer = Refused ImageTooLong; left = l } ≡ searched cells a library n l
+  pub long-found : (positions goals : List ℕ) → 65536 < length cells → SearchFound cells a library n l (record { answer = Refused ImageTooLong; left = l }) positions goals
   unfolding searched refusalOf leading
-  long-is h = rw (lt-ltb 65536 (length cells) h)
+  long-found positions goals h = record { same = rw (lt-ltb 65536 (length cells) h); sought = λ rows e. absurd (refused-never e) }
 
-  module _ (short : length cells ≤ 65536) (placed′ noted′ : List ℕ) (f : Fills) (r : FillsRows cells a library (l .stored) n (l .placed) (l .noted) placed′ noted′ f)
+  module _ (short : length cells ≤ 65536) (placed′ positions′ noted′ goals′ : List ℕ) (f : Fills)
+      (r : Filled cells a library (segmentsIn (l .stored) n) (l .placed) (l .noted) placed′ positions′ noted′ goals′ f)
       (out : Bool) (o : out ≡ (f .placed .over || f .noted .over)) where
     few-is : tooFew l ps ns ≡ out
     few-is = rw (fitted-over (f .placed) (r .places), fitted-over (f .noted) (r .notes)) (sym o)
@@ -51,9 +64,12 @@ module _ (cells : List ℕ) (a : Asked) (library : List ℕ) (n : ℕ) (l : Sear
     refusal-is false e = rw (le-ltb 65536 (length cells) short, e)
 
     -- the rows are too many, and all that was lent is zero
-    pub lacks-is : out ≡ true → record { answer = Refused TooFewRows; left = searchZeroed l } ≡ searched cells a library n l
+    pub lacks-found : out ≡ true → {left : SearchLists} → left ≡ searchZeroed l → SearchFound cells a library n l (record { answer = Refused TooFewRows; left = left }) positions′ goals′
     unfolding searched
-    lacks-is e = sym (ap (λ x. searchOutcomeOf library x ps ns l) (refusal-is true (few-is ∙ e)))
+    lacks-found e {left} z = record {
+      same = ap (λ x. record { answer = Refused TooFewRows; left = x }) z ∙ sym (ap (λ x. searchOutcomeOf library x ps ns l) (refusal-is true (few-is ∙ e)));
+      sought = λ rows q. absurd (refused-never q);
+    }
 
     -- all rows are written
     neither : out ≡ false → (f .placed .over ≡ false) × (f .noted .over ≡ false)
@@ -63,17 +79,20 @@ module _ (cells : List ℕ) (a : Asked) (library : List ℕ) (n : ℕ) (l : Sear
         go false q z = (refl, z)
         go true q z = absurd (false≢true (sym z))
 
-    same : {t : Stored} {p p′ q q′ : List ℕ} {i i′ j j′ : ℕ} → i ≡ i′ → j ≡ j′ → p ≡ p′ → q ≡ q′
+    equal : {t : Stored} {p p′ q q′ : List ℕ} {i i′ j j′ : ℕ} → i ≡ i′ → j ≡ j′ → p ≡ p′ → q ≡ q′
         → _≡_ {A = SearchOutcome} (record { answer = Done (record { placed = i; noted = j }); left = record { stored = t; placed = p; noted = q } }) (record { answer = Done (record { placed = i′; noted = j′ }); left = record { stored = t; placed = p′; noted = q′ } })
-    same a b c d = rw (a, b, c, d) refl
+    equal a b c d = rw (a, b, c, d) refl
 
-    pub done-is : out ≡ false
-        → record { answer = Done (record { placed = f .placed .rows; noted = f .noted .rows }); left = record { stored = l .stored; placed = placed′; noted = noted′ } } ≡ searched cells a library n l
+    pub done-found : out ≡ false
+        → SearchFound cells a library n l (record { answer = Done (record { placed = f .placed .rows; noted = f .noted .rows }); left = record { stored = l .stored; placed = placed′; noted = noted′ } }) positions′ goals′
     unfolding searched searchFilled
-    done-is e =
+    done-found e =
         let p = r .places .fits (neither e .0) in
         let q = r .notes .fits (neither e .1) in
-        same (p .1) (q .1) (p .0) (q .0) ∙ sym (ap (λ x. searchOutcomeOf library x ps ns l) (refusal-is false (few-is ∙ e)))
+        record {
+          same = equal (p .1) (q .1) (p .0) (q .0) ∙ sym (ap (λ x. searchOutcomeOf library x ps ns l) (refusal-is false (few-is ∙ e)));
+          sought = λ rows d. r .sought (neither e .0) (neither e .1);
+        }
 
 -- lists that are cleared one by one
 pub zeroed-is : (l : SearchLists) {segments references symbols bytes masks placed′ noted′ : List ℕ} → segments ≡ zeros (length (l .stored .segments)) → references ≡ zeros (length (l .stored .references)) → symbols ≡ zeros (length (l .stored .symbols))

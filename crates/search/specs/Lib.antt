@@ -3,7 +3,6 @@ pub mod Fills
 pub mod FillLaws
 pub mod Outcome
 pub mod EndLaws
-pub mod LookupLaws
 pub mod OneOutcome
 pub mod byte_index
 pub mod matches

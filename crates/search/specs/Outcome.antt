@@ -1,5 +1,6 @@
 -- What the search comes to: the answer, and what is left in the lists that were lent to it.
 use Prim.Native.Nat.{ℕ}
+use mathlib.Core.Path.{_≡_}
 use mathlib.Core.Bool.{Bool, _||_}
 use mathlib.Core.List.{List, [], _∷_}
 use mathlib.Core.Option.{Option, none, some}
@@ -10,12 +11,15 @@ use Rattle.lent.specs.declared.refusal.Refusal.the-variants.{ImageTooLong, TooF
 use Rattle.lent.specs.Choice.{if_then_else_, when, leading}
 use Rattle.lent.specs.Refusals.{refusalNumber}
 use Rattle.lent.specs.Rows.{zeros, padded, tooMany}
+use Rattle.tables.specs.by_name.Heads.{Blank}
 use Rattle.search_rules.specs.declared.Asked.{Asked}
 use Rattle.search_rules.specs.Search.{Placing, Noting, placed, noted}
 use Rattle.search_rules.specs.SearchRows.{placedWidth, notedWidth, placedNumbers, notedNumbers}
+use Rattle.search.specs.declared.SearchCounts.{SearchCounts}
 use Rattle.search.specs.declared.Searched.{Searched}
 use Rattle.search.specs.declared.Searched.the-variants.{Done, Refused}
 use Rattle.search.specs.visit.Visits.{Stored, segmentsIn}
+use Rattle.search.specs.Fills.{Sought}
 
 -- the lent lists: the five in which the segments are stored, and the two for the rows of the search
 pub record SearchLists : Type 0 where
@@ -70,3 +74,14 @@ searched cells a library n l =
     let p = placed library cells a gs in
     let q = noted library cells a gs in
     searchOutcomeOf library (refusalOf cells l p q) p q l
+
+-- a search that came to this outcome, and the heads that it left: where it is done they lead to its rows
+pub record SearchFound (cells : List ℕ) (a : Asked) (library : List ℕ) (n : ℕ) (l : SearchLists) (o : SearchOutcome) (positions goals : List ℕ) : Type 0 where
+  pub same : o ≡ searched cells a library n l
+  pub sought : (rows : SearchCounts) → o .answer ≡ Done rows
+      → let gs = segmentsIn (l .stored) n in Sought library (placed library cells a gs) (noted library cells a gs) (o .left .placed) positions (o .left .noted) goals
+
+-- with heads that are blank before
+abbrev pub Searches : List ℕ → Asked → List ℕ → ℕ → SearchLists → List ℕ → List ℕ → SearchOutcome → List ℕ → List ℕ → Type 0
+Searches cells a library n l positions goals o positions′ goals′ =
+    Blank (length (l .placed)) positions → Blank (length (l .noted)) goals → SearchFound cells a library n l o positions′ goals′

@@ -2,7 +2,7 @@
 ghost use mathlib.Core.Path.{_≡_};
 ghost use Rattle.image.specs.View.{view};
 ghost use Rattle.search.specs.visit.Visits.{stored};
-ghost use Rattle.search.specs.Outcome.{searchZeroed, searched};
+ghost use Rattle.search.specs.Outcome.{searchZeroed, Searches};
 use crate::SearchCounts;
 use crate::Searched;
 use crate::fill::fill_rows;
@@ -38,7 +38,8 @@ pub fn clear_all(
 
 // Searches the image, of which the stretch `s` is withheld, for the first n segments in the five lists of the
 // collection, and writes rows of placed symbols and of noted names. Names are parts of `library`. An image that is too
-// long is refused, and nothing is written; if there are too few rows all seven lists are left zero.
+// long is refused, and nothing is written; if there are too few rows all seven lists are left zero. The contract speaks
+// of heads, `positions` and `goals`, that are blank before, and lead to the rows afterwards.
 pub fn search(
     image: &[u8],
     s: Stretch,
@@ -52,9 +53,12 @@ pub fn search(
     masks: &mut [u8],
     placed: &mut [u64],
     noted: &mut [u64],
+    positions: &mut [u32],
+    goals: &mut [u32],
 ) -> Searched
-    ensures { λ r. ⌜ record { answer = r; left = record { stored = stored (now (segments .exit)) (now (references .exit)) (now (symbols .exit)) (now (bytes .exit)) (now (masks .exit)); placed = now (placed .exit); noted = now (noted .exit) } }
-        ≡ searched (view (now (image .entry)) s) asked (now (library .entry)) n (record { stored = stored (now (segments .entry)) (now (references .entry)) (now (symbols .entry)) (now (bytes .entry)) (now (masks .entry)); placed = now (placed .entry); noted = now (noted .entry) }) ⌝ }
+    ensures { λ r. ⌜ Searches (view (now (image .entry)) s) asked (now (library .entry)) n
+        (record { stored = stored (now (segments .entry)) (now (references .entry)) (now (symbols .entry)) (now (bytes .entry)) (now (masks .entry)); placed = now (placed .entry); noted = now (noted .entry) }) (now (positions .entry)) (now (goals .entry))
+        (record { answer = r; left = record { stored = stored (now (segments .exit)) (now (references .exit)) (now (symbols .exit)) (now (bytes .exit)) (now (masks .exit)); placed = now (placed .exit); noted = now (noted .exit) } }) (now (positions .exit)) (now (goals .exit)) ⌝ }
 {
     if LONGEST_IMAGE < image.len() {
         return Searched::Refused(Refusal::ImageTooLong);
@@ -71,7 +75,9 @@ pub fn search(
         bytes,
         masks,
         placed,
+        positions,
         noted,
+        goals,
     );
     if lacks_room(f) {
         clear_all(segments, references, symbols, bytes, masks, placed, noted);

@@ -13,9 +13,12 @@ use image::Stretch;
 use lent::rows::clear;
 use search_rules::Asked;
 use tables::fill::Fill;
-use tables::zeros::bucket_heads;
 use tables::zeros::byte_heads;
+use tables::zeros::few_links;
 use tables::zeros::place_links;
+
+// An image of at most so many bytes is short.
+const SHORT_IMAGE: usize = 4096;
 
 // Whether there was no room for a row of either kind.
 pub fn lacks_room(f: Fills) -> bool
@@ -26,9 +29,9 @@ pub fn lacks_room(f: Fills) -> bool
     placed.over || noted.over
 }
 
-// Fills the rows of placed symbols and of noted names from all matches of the first n segments: makes the byte index of
-// the image and the heads of both kinds of rows, and then goes over the segments. The image with the stretch `s`, what
-// is asked, the library and the five lists of the collection are only read.
+// Fills the rows of placed symbols and of noted names from all matches of the first n segments. The heads of both kinds
+// of rows, `positions` and `goals`, are to be blank. The image with the stretch `s`, what is asked, the library and the
+// five lists of the collection are only read. A short image takes a small table of links.
 pub fn fill_rows(
     image: &[u8],
     s: Stretch,
@@ -41,19 +44,80 @@ pub fn fill_rows(
     bytes: &[u8],
     masks: &[u8],
     placed: &mut [u64],
+    positions: &mut [u32],
     noted: &mut [u64],
+    goals: &mut [u32],
 ) -> Fills
     requires { ⌜ length (now image) ≤ 65536 ⌝ }
     ensures { λ r. ⌜ FillsRows (view (now (image .entry)) s) asked (now (library .entry)) (stored (now (segments .entry)) (now (references .entry)) (now (symbols .entry)) (now (bytes .entry)) (now (masks .entry))) n
-        (now (placed .entry)) (now (noted .entry)) (now (placed .exit)) (now (noted .exit)) r ⌝ }
+        (now (placed .entry)) (now (positions .entry)) (now (noted .entry)) (now (goals .entry)) (now (placed .exit)) (now (positions .exit)) (now (noted .exit)) (now (goals .exit)) r ⌝ }
+{
+    if image.len() <= SHORT_IMAGE {
+        let mut next = few_links();
+        return fill_along(
+            image,
+            s,
+            asked,
+            library,
+            segments,
+            n,
+            references,
+            symbols,
+            bytes,
+            masks,
+            &mut next,
+            placed,
+            positions,
+            noted,
+            goals,
+        );
+    }
+    let mut next = place_links();
+    fill_along(
+        image,
+        s,
+        asked,
+        library,
+        segments,
+        n,
+        references,
+        symbols,
+        bytes,
+        masks,
+        &mut next,
+        placed,
+        positions,
+        noted,
+        goals,
+    )
+}
+
+// The same with a table of links, `next`: makes the byte index of the image there, and goes over the segments.
+fn fill_along(
+    image: &[u8],
+    s: Stretch,
+    asked: Asked,
+    library: &[u8],
+    segments: &[u64],
+    n: usize,
+    references: &[u64],
+    symbols: &[u64],
+    bytes: &[u8],
+    masks: &[u8],
+    next: &mut [u32],
+    placed: &mut [u64],
+    positions: &mut [u32],
+    noted: &mut [u64],
+    goals: &mut [u32],
+) -> Fills
+    requires { ⌜ (length (now image) ≤ 65536) × (length (now image) ≤ length (now next)) ⌝ }
+    ensures { λ r. ⌜ FillsRows (view (now (image .entry)) s) asked (now (library .entry)) (stored (now (segments .entry)) (now (references .entry)) (now (symbols .entry)) (now (bytes .entry)) (now (masks .entry))) n
+        (now (placed .entry)) (now (positions .entry)) (now (noted .entry)) (now (goals .entry)) (now (placed .exit)) (now (positions .exit)) (now (noted .exit)) (now (goals .exit)) r ⌝ }
 {
     clear(placed);
     clear(noted);
     let mut first = byte_heads();
-    let mut next = place_links();
-    let mut positions = bucket_heads();
-    let mut goals = bucket_heads();
-    index(image, &mut first, &mut next);
+    index(image, &mut first, next);
     search_all(
         image,
         s,
@@ -66,11 +130,11 @@ pub fn fill_rows(
         bytes,
         masks,
         &first,
-        &next,
+        next,
         placed,
-        &mut positions,
+        positions,
         noted,
-        &mut goals,
+        goals,
         Fills {
             placed: Fill {
                 rows: 0,

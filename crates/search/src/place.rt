@@ -44,7 +44,7 @@ pub fn place_symbol(
     valid: bool,
     y: Symbol,
     placed: &mut [u64],
-    heads: &mut [u64],
+    heads: &mut [u32],
     f: Fill,
 ) -> Fill
     ensures { λ r. ⌜ PlacesOne (now (library .entry)) end number base valid y (now (placed .entry)) (now (heads .entry)) f (now (placed .exit)) (now (heads .exit)) r ⌝ }
@@ -97,7 +97,7 @@ pub fn place_symbols(
     symbols: &[u64],
     part: Part,
     placed: &mut [u64],
-    heads: &mut [u64],
+    heads: &mut [u32],
     before: Fill,
 ) -> Fill
     ensures { λ r. ⌜ PlacesAll (now (library .entry)) end number base valid (now (symbols .entry)) part (now (placed .entry)) (now (heads .entry)) before (now (placed .exit)) (now (heads .exit)) r ⌝ }

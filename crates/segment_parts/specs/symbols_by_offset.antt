@@ -1,6 +1,4 @@
 -- The public definitions of id 0 by their offsets.
-pub mod Offsets
-pub mod OffsetLaws
 pub mod Flags
 pub mod LinkLaws
 pub mod FlagLaws

@@ -2,6 +2,7 @@
 ghost use mathlib.Core.Path.{_≡_};
 ghost use Prim.Native.Nat.{_<_, _≤_};
 ghost use lib.ListN.{length};
+ghost use Rattle.tables.specs.links.Things.{placesOf, nextOf};
 ghost use Rattle.segments.specs.Masks.{masksOf};
 ghost use Rattle.library.specs.items.Left.{fixupsLeft};
 ghost use Rattle.segment_parts.specs.merge.MergedAt.{mergedAt};
@@ -13,7 +14,8 @@ use library::items::Cursor;
 use library::items::NextContent;
 use library::items::contents::next_content;
 use omf51::Content;
-use tables::links::number_at;
+use tables::links::next_at;
+use tables::links::place_at;
 
 // Where a content is merged: the start and size of its segment's pattern, and the offset in it.
 pub struct Spot {
@@ -58,14 +60,13 @@ pub fn merge_content(
     merge_masks(library, fixups, len, spot, masks, apart);
 }
 
-// Merges all contents that are met from a link on into the pattern of one segment, each at its own offset. `next` and
-// `places` are the links between the module's contents and their places in the library; the pattern is the `size` bytes
-// from `start` on in `bytes` and `masks`; `apart` is room for the masks of one content.
+// Merges all contents that are met from a link on into the pattern of one segment, each at its own offset. `contents`
+// has the module's contents; the pattern is the `size` bytes from `start` on in `bytes` and `masks`; `apart` is room for
+// the masks of one content.
 pub fn merge_along(
     library: &[u8],
     link: u32,
-    next: &[u32],
-    places: &[u32],
+    contents: &[u64],
     start: usize,
     size: usize,
     bytes: &mut [u8],
@@ -73,12 +74,12 @@ pub fn merge_along(
     apart: &mut [u8],
 )
     requires { ⌜ 65536 ≤ length (now apart) ⌝ }
-    ensures { λ _. ⌜ MergesAlong (now (library .entry)) link (now (next .entry)) (now (places .entry)) start size (now (bytes .entry)) (now (masks .entry)) (now (apart .entry)) (now (bytes .exit)) (now (masks .exit)) (now (apart .exit)) ⌝ }
+    ensures { λ _. ⌜ MergesAlong (now (library .entry)) link (nextOf (now (contents .entry))) (placesOf (now (contents .entry))) start size (now (bytes .entry)) (now (masks .entry)) (now (apart .entry)) (now (bytes .exit)) (now (masks .exit)) (now (apart .exit)) ⌝ }
 {
     let mut last = 0;
     let mut here = link as usize;
     while last < here {
-        let place = number_at(places, here - 1);
+        let place = place_at(contents, here - 1);
         let NextContent::Item {
             content,
             fixups,
@@ -94,6 +95,6 @@ pub fn merge_along(
         };
         merge_content(library, content, fixups, spot, bytes, masks, apart);
         last = here;
-        here = number_at(next, here - 1);
+        here = next_at(contents, here - 1);
     }
 }

@@ -3,6 +3,7 @@ ghost use mathlib.Core.Path.{_≡_};
 ghost use lib.ListN.{length};
 ghost use Rattle.segments.specs.SegmentLayouts.{referenceLayout};
 ghost use Rattle.tables.specs.fill.FilledRows.{Adds};
+ghost use Rattle.tables.specs.links.Things.{placesOf, nextOf};
 ghost use Rattle.library.specs.items.Left.{fixupsLeft};
 ghost use Rattle.module_ids.specs.reference.LeftReference.{leftBy};
 ghost use Rattle.segment_parts.specs.AddedReferences.{Placeable, Refers, RefersAlong};
@@ -16,7 +17,8 @@ use module_ids::reference::reference_of;
 use module_ids::row::id_row;
 use segments::append::append_reference;
 use tables::fill::Fill;
-use tables::links::number_at;
+use tables::links::next_at;
+use tables::links::place_at;
 
 // Puts the reference that a fixup leaves, if it leaves one.
 fn append_left(leaves: Leaves, m: &mut [u64], f: Fill) -> Fill
@@ -32,7 +34,7 @@ fn append_left(leaves: Leaves, m: &mut [u64], f: Fill) -> Fill
 // what the module's ids lead to; `number` is that of the module's first segment; `base` is added to the fixups' locations.
 pub fn refer(
     library: &[u8],
-    table: &[u64],
+    table: &[u32],
     number: usize,
     base: usize,
     from: Cursor,
@@ -60,25 +62,24 @@ pub fn refer(
 }
 
 // Puts the references of all contents that are met from a link on, each with its content's offset added to its
-// location. `next` and `places` are the links between the module's contents and their places in the library.
+// location. `contents` has the module's contents.
 pub fn refer_along(
     library: &[u8],
-    table: &[u64],
+    table: &[u32],
     number: usize,
     link: u32,
-    next: &[u32],
-    places: &[u32],
+    contents: &[u64],
     m: &mut [u64],
     before: Fill,
 ) -> Fill
     requires { ⌜ Placeable (now table) number 0 ⌝ }
-    ensures { λ r. ⌜ RefersAlong (now (library .entry)) (now (table .entry)) number link (now (next .entry)) (now (places .entry)) (now (m .entry)) before (now (m .exit)) r ⌝ }
+    ensures { λ r. ⌜ RefersAlong (now (library .entry)) (now (table .entry)) number link (nextOf (now (contents .entry))) (placesOf (now (contents .entry))) (now (m .entry)) before (now (m .exit)) r ⌝ }
 {
     let mut last = 0;
     let mut here = link as usize;
     let mut f = before;
     while last < here {
-        let place = number_at(places, here - 1);
+        let place = place_at(contents, here - 1);
         let NextContent::Item {
             content,
             fixups,
@@ -89,7 +90,7 @@ pub fn refer_along(
         };
         f = refer(library, table, number, content.offset, fixups, m, f);
         last = here;
-        here = number_at(next, here - 1);
+        here = next_at(contents, here - 1);
     }
     f
 }

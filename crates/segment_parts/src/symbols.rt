@@ -1,6 +1,7 @@
 // The symbols of a segment, from the public definitions of its id.
 ghost use mathlib.Core.Path.{_≡_};
 ghost use Prim.Native.Nat.{_-_, _<_, _^_};
+ghost use Rattle.tables.specs.links.Things.{placesOf, nextOf};
 ghost use Rattle.segment_parts.specs.AddedSymbols.{carriesAt, baseOf, NamesOne, NamesAlong};
 use crate::carried::Carried;
 use lent::part::Part;
@@ -9,7 +10,8 @@ use omf51::read_record::byte_at;
 use segments::Symbol;
 use segments::append::append_symbol;
 use tables::fill::Fill;
-use tables::links::number_at;
+use tables::links::next_at;
+use tables::links::place_at;
 
 // Whether a segment carries a public definition of its id with this offset.
 fn carries(c: Carried, offset: usize) -> bool
@@ -71,27 +73,25 @@ pub fn append_public(library: &[u8], place: usize, c: Carried, m: &mut [u64], f:
     f
 }
 
-// Puts the symbols of all public definitions that are met from a link on. `next` and `places` are the links between the
-// module's public definitions and their places in the library.
+// Puts the symbols of all public definitions that are met from a link on. `publics` has the module's public definitions.
 pub fn name_along(
     library: &[u8],
     link: u32,
-    next: &[u32],
-    places: &[u32],
+    publics: &[u64],
     c: Carried,
     m: &mut [u64],
     before: Fill,
 ) -> Fill
-    ensures { λ r. ⌜ NamesAlong (now (library .entry)) link (now (next .entry)) (now (places .entry)) c (now (m .entry)) before (now (m .exit)) r ⌝ }
+    ensures { λ r. ⌜ NamesAlong (now (library .entry)) link (nextOf (now (publics .entry))) (placesOf (now (publics .entry))) c (now (m .entry)) before (now (m .exit)) r ⌝ }
 {
     let mut last = 0;
     let mut here = link as usize;
     let mut f = before;
     while last < here {
-        let place = number_at(places, here - 1);
+        let place = place_at(publics, here - 1);
         f = append_public(library, place, c, m, f);
         last = here;
-        here = number_at(next, here - 1);
+        here = next_at(publics, here - 1);
     }
     f
 }

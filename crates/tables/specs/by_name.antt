@@ -4,6 +4,8 @@ pub mod NewestLaws
 pub mod Sheet
 pub mod SheetLaws
 pub mod NamedLaws
+pub mod Heads
+pub mod HeadLaws
 pub mod Tables
 pub mod Tags
 pub mod FollowLaws
@@ -14,6 +16,5 @@ pub mod TableLaws
 pub mod GrowLaws
 pub mod TakeLaws
 pub mod OneLaws
-pub mod HeadLaws
 pub mod ChainLaws
 pub mod OneOutcome

@@ -2,13 +2,14 @@
 // last number is the link to an earlier row in the same bucket of key and name. A link is one more than a row's number, or 0.
 ghost use mathlib.Core.Path.{_≡_};
 ghost use mathlib.Core.Bool.{_&&_};
-ghost use Prim.Native.Nat.{_+_};
+ghost use Prim.Native.Nat.{_+_, _<_};
 ghost use lib.Dec.{eqb};
-ghost use lib.ListN.{getD, set};
 ghost use Rattle.lent.specs.Parts.{bytesOf, same as sameBytes};
-ghost use Rattle.tables.specs.by_name.Sheet.{nameBucket};
-ghost use Rattle.tables.specs.by_name.Tables.{followed, headsWith};
-ghost use Rattle.tables.specs.by_name.Tags.{Whole, tagAt, otherLength, headedBy};
+ghost use Rattle.tables.specs.by_name.Sheet.{spread as spreadBytes, ends, nameBucket};
+ghost use Rattle.tables.specs.by_name.Heads.{headAt, lowHead, headSet, headsWith};
+ghost use Rattle.tables.specs.by_name.Tables.{followed};
+ghost use Rattle.tables.specs.by_name.Tags.{Whole, tagAt, otherLength};
+use crate::links::number_at;
 use lent::names;
 use lent::part::Part;
 use lent::rows::cell;
@@ -18,6 +19,12 @@ pub const KEYS: usize = 65536;
 
 // The same number as 64 bits, for sums of keys and name bytes.
 pub const BUCKETS: u64 = 65536;
+
+// How many heads there are of both kinds. A table may have as many numbers again behind them, for links of more than 31 bits.
+const HEADS: usize = 131072;
+
+// A link below this stands in its head by itself.
+pub const NEAR: usize = 2147483648;
 
 // What a search looks at in a row: its key, its name, and its link to an earlier row of its bucket.
 struct Tag {
@@ -121,61 +128,88 @@ pub fn find(library: &[u8], m: &[u64], width: usize, link: usize, key: u64, name
     0
 }
 
-// The bucket of a key and a name together: a number made of the key's low 16 bits and the name's bytes.
+// A number of 32 bits after bytes were mixed in.
+fn spread(from: u64, bytes: &[u8]) -> u64
+    requires { ⌜ from < 4294967296 ⌝ }
+    ensures { λ r. ⌜ r ≡ spreadBytes from (now (bytes .entry)) ⌝ }
+{
+    let mut h = from;
+    let mut i = 0;
+    while i < bytes.len() {
+        h = (h + bytes[i] as u64) * 2654435761 % 4294967296;
+        i += 1;
+    }
+    h
+}
+
+// The same of a name: of a long one only the bytes at its ends are mixed in, so that its length does not count.
+fn spread_ends(from: u64, bytes: &[u8]) -> u64
+    requires { ⌜ from < 4294967296 ⌝ }
+    ensures { λ r. ⌜ r ≡ spreadBytes from (ends (now (bytes .entry))) ⌝ }
+{
+    let len = bytes.len();
+    if len <= 16 {
+        return spread(from, bytes);
+    }
+    let back = len - 8;
+    let front = spread(from, &bytes[0..8]);
+    spread(front, &bytes[back..len])
+}
+
+// The bucket of a key and a name together: a number made of the key's low 16 bits, and of the name's length and ends.
 pub fn bucket(library: &[u8], key: u64, name: Part) -> usize
     ensures { λ r. ⌜ r ≡ nameBucket key (bytesOf (now (library .entry)) name) ⌝ }
 {
     let bytes = names::name(library, name);
-    let mut h = key % BUCKETS;
-    let mut i = 0;
-    while i < bytes.len() {
-        h = (h * 31 + bytes[i] as u64) % BUCKETS;
-        i += 1;
-    }
-    h as usize
+    let mixed = spread_ends(bytes.len() as u64 % BUCKETS, bytes);
+    ((key % BUCKETS + mixed / BUCKETS) % BUCKETS) as usize
 }
 
-// The link in the head of bucket i, 0 past the end of the heads.
-pub fn head_at(heads: &[u64], i: usize) -> usize
-    ensures { λ r. ⌜ r ≡ getD (now (heads .entry)) i 0 ⌝ }
+// The link in head i, 0 past the end of the heads.
+pub fn head_at(heads: &[u32], i: usize) -> usize
+    ensures { λ r. ⌜ r ≡ headAt (now (heads .entry)) i ⌝ }
 {
-    if i < heads.len() {
-        return heads[i] as usize;
+    if heads.len() <= i {
+        return 0;
     }
-    0
+    let low = heads[i] as usize;
+    if low < NEAR {
+        return low;
+    }
+    low % NEAR + NEAR * number_at(heads, HEADS + i) as usize
 }
 
-// Makes the head of bucket i a link; past the end of the heads nothing changes.
-fn set_head(heads: &mut [u64], i: usize, number: usize)
-    ensures { λ _. ⌜ now (heads .exit) ≡ set (now (heads .entry)) i number ⌝ }
+// What stands in the head of a link itself.
+fn low_head(link: usize) -> u32
+    ensures { λ r. ⌜ r ≡ lowHead link ⌝ }
 {
-    if i < heads.len() {
-        heads[i] = number as u64;
+    if link < NEAR {
+        return link as u32;
+    }
+    (link % NEAR + NEAR) as u32
+}
+
+// Makes head i a link; past the end of the heads nothing changes.
+fn set_head(heads: &mut [u32], i: usize, link: usize)
+    ensures { λ _. ⌜ now (heads .exit) ≡ headSet (now (heads .entry)) i link ⌝ }
+{
+    let end = heads.len();
+    if end <= i {
+        return;
+    }
+    heads[i] = low_head(link);
+    let behind = HEADS + i;
+    if behind < end {
+        heads[behind] = (link / NEAR % 4294967296) as u32;
     }
 }
 
 // Makes the heads of two buckets links to one row: that of the row's key, and that of its key and name together.
-pub fn set_heads(heads: &mut [u64], key: u64, bucket: usize, number: usize)
+pub fn set_heads(heads: &mut [u32], key: u64, bucket: usize, number: usize)
     ensures { λ _. ⌜ now (heads .exit) ≡ headsWith (now (heads .entry)) key bucket number ⌝ }
 {
     set_head(heads, (key % KEYS as u64) as usize, number);
     if bucket < heads.len() {
         set_head(heads, KEYS + bucket, number);
-    }
-}
-
-// Sets the heads for the first n rows in memory, oldest first, on top of what the heads are: for a stage that looks up
-// rows that another stage wrote.
-pub fn head_rows(library: &[u8], m: &[u64], width: usize, n: usize, heads: &mut [u64])
-    ensures { λ _. ⌜ now (heads .exit) ≡ headedBy (now (library .entry)) width (now (m .entry)) (now (heads .entry)) n ⌝ }
-{
-    let rows = whole_rows(m, width);
-    let mut i = 0;
-    while i < n {
-        let tag = tag_at(m, width, rows, i);
-        let key = tag.key;
-        let shared = bucket(library, key, tag.name);
-        set_heads(heads, key, shared, i + 1);
-        i += 1;
     }
 }

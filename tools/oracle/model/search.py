@@ -112,11 +112,12 @@ class Search:
 
 
 def bucket(key, name):
-    """The bucket that a key and a name's bytes share with some others."""
-    h = key % NAMES
-    for byte in name:
-        h = (h * 31 + byte) % NAMES
-    return h
+    """The bucket that a key and a name's bytes share with some others: the key's low 16 bits, moved on by a number made of the name's
+    length and of the bytes at its ends, eight at each; all bytes of a name of up to 16."""
+    h = len(name) % NAMES
+    for byte in name if len(name) <= 16 else name[:8] + name[-8:]:
+        h = (h + byte) * 2654435761 % 2**32
+    return (key + h // NAMES) % NAMES
 
 
 def with_links(made):

@@ -16,10 +16,10 @@ use Rattle.omf51.specs.declared.Definition.{Definition}
 use Rattle.omf51.specs.Module.{Module}
 use Rattle.segments.specs.Ids.{isKept, segmentOf, kept, keptPlace, idOf}
 use Rattle.segments.specs.Collect.{Collected, sectionsOf, keptSegment}
+use Rattle.tables.specs.links.Things.{placesOf, nextOf}
 use Rattle.tables.specs.links.Follow.{Follows}
 use Rattle.tables.specs.links.FollowLaws.{follows-none}
 use Rattle.module_index.specs.gather.Places.{SectionIs}
-use Rattle.module_ids.specs.declared.IdRow.{IdRow}
 use Rattle.module_ids.specs.IdRows.{keptAs, idRow, idRowAt}
 use Rattle.module_index.specs.Indexed.{Indexed}
 use Rattle.collect.specs.declared.stored.CollectCounts.{CollectCounts}
@@ -28,9 +28,11 @@ use Rattle.collect.specs.declared.stored.Stored.the-variants.{Rows, NoRo
 use Rattle.collect.specs.stored.Stores.{CollectLists, Room, Extends}
 use Rattle.collect.specs.stored.Progress.{Progress}
 use Rattle.collect.specs.stored.ProgressLaws.{progress-count, progress-begun, progress-on, progress-lacks}
-use Rattle.collect.specs.stored.Segments.{sectionsFor}
-use Rattle.module_index.specs.owner.Owned.{isFirst, linkAt}
-use Rattle.collect.specs.kept.Kept.{keptSegments}
+use Rattle.collect.specs.stored.Segments.{publicsOf, sectionsFor, StoresKept}
+use Rattle.collect.specs.stored.SegmentLaws.{kept-by}
+use Rattle.module_index.specs.owner.Owned.{isFirst}
+use Rattle.collect.specs.declared.kept.one.KeptFrom.{KeptFrom}
+use Rattle.collect.specs.kept.Kept.{keptFrom, keptSegments}
 
 none-past : {A : Type 0} (xs : List A) (k : ℕ) → getElem? xs k ≡ none → length xs ≤ k
 none-past [] k e = omega arith
@@ -45,19 +47,26 @@ first-here xs k place h = go (getElem? xs k) refl
     go none e = sym (ne-eqb k place (λ q. omega (arith, none-past xs k e)))
     go (some d) e = refl
 
-module _ (library : List ℕ) (m : Module) (d : Definition) (table heads next places publicHeads onward entries : List ℕ) (x : Indexed library m table heads next places publicHeads onward entries) where
-  first-by-row : {row : IdRow} (place : ℕ) → place < length (kept m) → (row ≡ idRowAt table (idOf d)) → idOf d .0 < 65536 → isFirst (row .kept) place ≡ eqb (keptPlace m (idOf d)) place
+module _ (library : List ℕ) (m : Module) (d : Definition) {table first contents heads definitions : List ℕ} (x : Indexed library m table first contents heads definitions) (place : ℕ) (h : place < length (kept m)) (small : idOf d .0 < 65536) where
+  first-by-row : isFirst (idRowAt table (idOf d) .kept) place ≡ eqb (keptPlace m (idOf d)) place
   unfolding idRow kept
-  first-by-row place h e small =
-      ap (λ r. isFirst (r .kept) place) (e ∙ x .tells .rows (idOf d) small) ∙ first-here (keep isKept (m .definitions)) (placeOf (segmentOf (idOf d)) (keep isKept (m .definitions))) place h
+  first-by-row =
+      ap (λ r. isFirst (r .kept) place) (x .tells .rows (idOf d) small) ∙ first-here (keep isKept (m .definitions)) (placeOf (segmentOf (idOf d)) (keep isKept (m .definitions))) place h
 
-  pub sections-follow : {row : IdRow} (place : ℕ) → place < length (kept m) → (row ≡ idRowAt table (idOf d)) → idOf d .0 < 65536
-      → Follows (SectionIs library places) next 0 (linkAt heads (idOf d) row place) (sectionsFor m (idOf d) place)
-  sections-follow {row} place h e small = rw (first-by-row place h e small) (go (eqb (keptPlace m (idOf d)) place))
+  sections-follow : Follows (SectionIs library (placesOf contents)) (nextOf contents) 0 (keptFrom d place table first heads .content) (sectionsFor m (idOf d) place)
+  sections-follow = rw first-by-row (go (eqb (keptPlace m (idOf d)) place))
     where
-      go : (t : Bool) → Follows (SectionIs library places) next 0 (if t then getD heads (idOf d .0) 0 else 0) (if t then sectionsOf m (idOf d) else [])
+      go : (t : Bool) → Follows (SectionIs library (placesOf contents)) (nextOf contents) 0 (if t then getD first (idOf d .0) 0 else 0) (if t then sectionsOf m (idOf d) else [])
       go true = x .sections (idOf d .0) small
-      go false = follows-none (SectionIs library places) next 0
+      go false = follows-none (SectionIs library (placesOf contents)) (nextOf contents) 0
+
+  -- what is stored from the links of a definition is its segment
+  pub definition-stored : (number : ℕ) {from : KeptFrom} {l after : CollectLists} {c : CollectCounts} {apart apart′ : List ℕ} {w : Stored} → from ≡ keptFrom d place table first heads
+      → StoresKept library table number from contents definitions c l apart after apart′ w → Extends (one (keptSegment library m number (place, d))) l c after w
+  definition-stored number {l = l} {after} {c} {apart} {apart′} {w} e s =
+      let same : StoresKept library table number (keptFrom d place table first heads) contents definitions c l apart after apart′ w =
+      subst (λ f. StoresKept library table number f contents definitions c l apart after apart′ w) e s in
+      rw (kept-by library m number place d) (same .extends (m .definitions) (sectionsFor m (idOf d) place) (publicsOf m (idOf d)) (x .tells) sections-follow (x .publics (idOf d .0) small))
 
 -- the rest of a module's kept segments, from a definition on
 abbrev pub keptRest : List ℕ → Module → ℕ → ℕ → List Definition → List Collected

@@ -1,25 +1,27 @@
 -- The segments of a module are those of its two parts, and the second has the public definitions of id 0 by offset. Assumes nothing.
-use Prim.Native.Nat.{ℕ, _*_, _≤_}
+use Prim.Native.Nat.{ℕ}
 use mathlib.Core.Path.{_≡_, refl, sym, subst, _∙_, ap}
 use mathlib.Core.List.{List, _++_, append-assoc, append-nil, map}
 use native.Mathlib.Omega.{arith}
-use lib.ListN.{length, length-take, getD}
-use Rattle.module_index.specs.Indexed.{Meets}
-use Rattle.module_index.specs.gather.Places.{sectionKey}
+use lib.ListN.{getD}
+use Rattle.tables.specs.links.Things.{keysOf, placesOf, nextOf}
+use Rattle.module_index.specs.gather.Places.{SectionIs, PublicIs, noDefinition}
 use Rattle.tables.specs.links.FollowLaws.{follows-end}
 use Rattle.image.specs.declared.fixup.Rules.{Rules}
-use Rattle.omf51.specs.declared.Definition.{Definition}
-use Rattle.omf51.specs.Module.{Module, Section}
+use Rattle.omf51.specs.Module.{Module, definitionsAt}
+use Rattle.library.specs.Gathered.{itemsAt}
 use Rattle.segments.specs.Collect.{Collected, moduleSegments, sectionsOf, absoluteId, absoluteSegment}
-use Rattle.segment_parts.specs.symbols_by_offset.Offsets.{OffsetsIndexed}
-use Rattle.segment_parts.specs.symbols_by_offset.Inside.{Offered}
+use Rattle.module_index.specs.gather.Publics.{offsetKey, zeroPublics}
+use Rattle.module_index.specs.IndexedTables.{IndexedInto}
+use Rattle.segment_parts.specs.symbols_by_offset.Inside.{Standing}
 use Rattle.collect.specs.declared.stored.CollectCounts.{CollectCounts}
 use Rattle.collect.specs.declared.stored.Stored.{Stored}
 use Rattle.collect.specs.declared.stored.Stored.the-variants.{Rows, NoRoom}
 use Rattle.collect.specs.stored.Stores.{CollectLists, Room, After, Extends, Stores}
 use Rattle.collect.specs.stored.ProgressLaws.{room-front}
 use Rattle.collect.specs.kept.Kept.{keptSegments}
-use Rattle.collect.specs.absolute.Absolute.{absoluteSegments}
+use Rattle.collect.specs.absolute.Absolute.{absoluteSegments, ByOffset}
+use Rattle.collect.specs.one_module.Parts.{Known}
 
 module _ (rules : Rules) (library : List ℕ) (m : Module) (number : ℕ) where
   two-parts : moduleSegments rules library number m ≡ keptSegments library m number ++ absoluteSegments rules library m number
@@ -42,20 +44,19 @@ module _ (rules : Rules) (library : List ℕ) (m : Module) (number : ℕ) where
       (rw e at (a gs s)) (room-front (gs ++ keptSegments library m number) (absoluteSegments rules library m number) middle
       (subst (λ xs. Room xs middle) (rw two-parts refl ∙ sym (append-assoc gs (keptSegments library m number) (absoluteSegments rules library m number))) room))
 
--- public definitions that are indexed by their offsets can be looked up by them
-pub indexed-offered : {library : List ℕ} {xs ds : List Definition} (keys₀ flags : List ℕ) {places₀ first₀ next₀ keys places first next : List ℕ} {n : ℕ} → OffsetsIndexed library xs keys₀ places₀ first₀ next₀ keys places first next n
-    → length keys₀ ≤ 256 * length flags → xs ≡ ds → Offered library keys n places first next flags ds
-indexed-offered {library} keys₀ flags {keys = keys} {places = places} {first = first} {next = next} {n = n} i w e =
-    subst (Offered library keys n places first next flags) e
-    (record {
-      standing = record { number = i .indexed .number; keyed = i .indexed .keyed; stand = i .stand };
-      linked = i .indexed .linked;
-      wide = omega (arith, length-take n keys, i .indexed .within, i .indexed .keys-long, w);
-    })
+-- public definitions that are indexed by their offsets are met by them, and absolute contents from the head of id 0 on
+pub by-offset : {library : List ℕ} {m : Module} {from : ℕ} {table first contents definitions₀ heads₀ definitions heads : List ℕ} {link n : ℕ} → link ≡ getD first 0 0 → Known library m from table first contents
+    → IndexedInto (PublicIs library) offsetKey (zeroPublics (itemsAt library (definitionsAt library) from)) definitions₀ heads₀ definitions heads n → ByOffset library m link table contents definitions n heads
+by-offset {library} {m} {contents = contents} {definitions = definitions} {n = n} e k i = record {
+  tells = k .tells;
+  sections = rw e (k .sections 0 (omega arith));
+  standing = subst (Standing library (keysOf definitions) n (placesOf definitions)) (ap zeroPublics (sym (k .defined))) (record { number = i .number; keyed = i .keyed; stand = λ j h. i .stand j h noDefinition });
+  linked = i .linked;
+}
 
 -- a module without absolute contents has nothing in its second part
-pub none-absolute : (rules : Rules) (library : List ℕ) (m : Module) (number : ℕ) (is : ℕ → Section → Type 0) (first next : List ℕ) → getD first 0 0 ≡ 0 → Meets is sectionKey (m .sections) first next
+pub none-absolute : (rules : Rules) {library : List ℕ} {m : Module} (number : ℕ) {from : ℕ} {table first contents : List ℕ} → getD first 0 0 ≡ 0 → Known library m from table first contents
     → (l : CollectLists) (c : CollectCounts) → Extends (absoluteSegments rules library m number) l c l (Rows c)
-none-absolute rules library m number is first next e s l c gs stores =
-    let none = follows-end is next 0 (getD first 0 0) (sectionsOf m absoluteId) (omega (arith, e)) (s 0 (omega arith)) in
+none-absolute rules {library} {m} number {first = first} {contents = contents} e k l c gs stores =
+    let none = follows-end (SectionIs library (placesOf contents)) (nextOf contents) 0 (getD first 0 0) (sectionsOf m absoluteId) (omega (arith, e)) (k .sections 0 (omega arith)) in
     subst (λ xs. Stores xs l c) (sym (append-nil gs) ∙ ap (λ ss. gs ++ map (absoluteSegment rules library m number) ss) (sym none)) stores

@@ -19,6 +19,8 @@ use Rattle.omf51.specs.Module.{Section, Module}
 use Rattle.segments.specs.Masks.{masksOf, filled}
 use Rattle.segments.specs.Ids.{keptPlace}
 use Rattle.segments.specs.Collect.{Collected, dataOf, dataMasks, sectionsOf}
+use Rattle.library.specs.items.Left.{fixupsLeft}
+use Rattle.tables.specs.links.Things.{keysOf, placesOf, nextOf}
 use Rattle.tables.specs.links.Follow.{Follows}
 use Rattle.module_index.specs.gather.Places.{SectionIs, PublicIs, publicKey, isPublicDefinition}
 use Rattle.module_ids.specs.Noted.{Tells}
@@ -27,6 +29,8 @@ use Rattle.segment_parts.specs.AddedReferences.{leavesIn, sectionLeaves}
 use Rattle.segment_parts.specs.AddedSymbols.{symbolBy}
 use Rattle.segment_parts.specs.symbols_by_offset.Flags.{Clear}
 use Rattle.segment_parts.specs.symbols_by_offset.Inside.{Offered}
+use Rattle.collect.specs.declared.kept.one.KeptFrom.{KeptFrom}
+use Rattle.collect.specs.declared.absolute.one.AbsoluteFrom.{AbsoluteFrom}
 use Rattle.collect.specs.declared.stored.CollectCounts.{CollectCounts}
 use Rattle.collect.specs.declared.stored.Stored.{Stored}
 use Rattle.collect.specs.stored.Stores.{CollectLists, Extends, SameLengths}
@@ -71,18 +75,19 @@ pub record WholeContent (library : List ℕ) (content : Content) : Type 0 where
   pub short : content .part .len < 65536
   pub low : content .offset < 65536
 
-pub record StoresKept (library table : List ℕ) (number link : ℕ) (next places : List ℕ) (publicLink : ℕ) (publicNext publicPlaces : List ℕ) (size : ℕ) (c : CollectCounts) (l : CollectLists) (apart : List ℕ) (after : CollectLists) (apart′ : List ℕ) (w : Stored) : Type 0 where
+pub record StoresKept (library table : List ℕ) (number : ℕ) (from : KeptFrom) (contents definitions : List ℕ) (c : CollectCounts) (l : CollectLists) (apart : List ℕ) (after : CollectLists) (apart′ : List ℕ) (w : Stored) : Type 0 where
   pub long : SameLengths l after
   pub apart-long : length apart′ ≡ length apart
-  pub extends : (definitions : List Definition) (sections : List Section) (publics : List Definition) → Tells definitions table
-      → Follows (SectionIs library places) next 0 link sections → Follows (PublicIs library publicPlaces) publicNext 0 publicLink publics
-      → Extends (one (keptOf library definitions number size sections publics)) l c after w
+  pub extends : (ds : List Definition) (sections : List Section) (publics : List Definition) → Tells ds table
+      → Follows (SectionIs library (placesOf contents)) (nextOf contents) 0 (from .content) sections → Follows (PublicIs library (placesOf definitions)) (nextOf definitions) 0 (from .public) publics
+      → Extends (one (keptOf library ds number (from .size) sections publics)) l c after w
 
-pub record StoresAbsolute (library table : List ℕ) (number : ℕ) (own : Bool) (content : Content) (fixups : List Fixup) (keys : List ℕ) (n : ℕ)
-    (entries heads onward : List ℕ) (c : CollectCounts) (l : CollectLists) (apart flags : List ℕ) (after : CollectLists) (apart′ flags′ : List ℕ) (w : Stored) : Type 0 where
+pub record StoresAbsolute (library table : List ℕ) (number : ℕ) (from : AbsoluteFrom) (definitions heads : List ℕ) (c : CollectCounts) (l : CollectLists)
+    (apart flags : List ℕ) (after : CollectLists) (apart′ flags′ : List ℕ) (w : Stored) : Type 0 where
   pub long : SameLengths l after
   pub apart-long : length apart′ ≡ length apart
   pub flags-long : length flags′ ≡ length flags
   pub clear : Clear flags′
-  pub extends : (definitions : List Definition) (publics : List Definition) → Tells definitions table → Offered library keys n entries heads onward flags publics
-      → Extends (one (absoluteOf library definitions number own content fixups publics)) l c after w
+  pub extends : (ds : List Definition) (publics : List Definition) → Tells ds table
+      → Offered library (keysOf definitions) (from .n) (placesOf definitions) heads (nextOf definitions) flags publics
+      → Extends (one (absoluteOf library ds number (from .own) (from .content) (fixupsLeft library (from .fixups)) publics)) l c after w

@@ -1,7 +1,6 @@
 // One absolute content: a segment of its own, which may stand at its address only.
 ghost use Prim.Native.Nat.{_≤_};
 ghost use lib.ListN.{length};
-ghost use Rattle.library.specs.items.Left.{fixupsLeft};
 ghost use Rattle.segment_parts.specs.AddedReferences.{Placeable};
 ghost use Rattle.segment_parts.specs.symbols_by_offset.Flags.{Clear};
 ghost use Rattle.collect.specs.stored.Segments.{lists, WholeContent, StoresAbsolute};
@@ -18,21 +17,25 @@ use segment_parts::patterns::merge_content;
 use segment_parts::references::refer;
 use segment_parts::symbols_by_offset::names::name_inside;
 
-// Stores one absolute content, with its fixups, behind what `c` counts. The public definitions of id 0 with an offset
-// inside it are its symbols, found by `keys` (of which n count), `entries`, `heads` and `onward`. `table` tells what
-// the ids lead to, `number` is that of the module's first segment; `own` is explained at `is_own`.
+// From what an absolute content is stored: the content and its fixups, whether its symbols keep their own addresses (see
+// `is_own`), and how many public definitions of id 0 there are.
+pub struct AbsoluteFrom {
+    pub content: Content,
+    pub fixups: Cursor,
+    pub own: bool,
+    pub n: usize,
+}
+
+// Stores one absolute content behind what `c` counts. The public definitions of id 0 with an offset inside it are its
+// symbols, found by `publics` and `heads`. `table` tells what the ids lead to, `number` is that of the module's first
+// segment.
 pub fn store_absolute(
     library: &[u8],
-    table: &[u64],
+    table: &[u32],
     number: usize,
-    own: bool,
-    content: Content,
-    fixups: Cursor,
-    keys: &[u16],
-    n: usize,
-    entries: &[u32],
+    from: AbsoluteFrom,
+    publics: &[u64],
     heads: &[u32],
-    onward: &[u32],
     c: CollectCounts,
     segments: &mut [u64],
     references: &mut [u64],
@@ -42,11 +45,13 @@ pub fn store_absolute(
     apart: &mut [u8],
     flags: &mut [u8],
 ) -> Stored
-    requires { ⌜ Placeable (now table) number 0 × ((65536 ≤ length (now apart)) × (WholeContent (now library) content × Clear (now flags))) ⌝ }
-    ensures { λ r. ⌜ StoresAbsolute (now (library .entry)) (now (table .entry)) number own content (fixupsLeft (now (library .entry)) fixups) (now (keys .entry)) n (now (entries .entry)) (now (heads .entry)) (now (onward .entry)) c
+    requires { ⌜ Placeable (now table) number 0 × ((65536 ≤ length (now apart)) × (WholeContent (now library) (from .content) × Clear (now flags))) ⌝ }
+    ensures { λ r. ⌜ StoresAbsolute (now (library .entry)) (now (table .entry)) number from (now (publics .entry)) (now (heads .entry)) c
         (lists (now (segments .entry)) (now (references .entry)) (now (symbols .entry)) (now (bytes .entry)) (now (masks .entry))) (now (apart .entry)) (now (flags .entry))
         (lists (now (segments .exit)) (now (references .exit)) (now (symbols .exit)) (now (bytes .exit)) (now (masks .exit))) (now (apart .exit)) (now (flags .exit)) r ⌝ }
 {
+    let content = from.content;
+    let fixups = from.fixups;
     let size = content.part.len;
     let at = content.offset;
     if !fits(c.pattern, size, bytes.len()) {
@@ -74,12 +79,10 @@ pub fn store_absolute(
         library,
         at,
         size,
-        own,
-        keys,
-        n,
-        entries,
+        from.own,
+        publics,
+        from.n,
         heads,
-        onward,
         flags,
         symbols,
         filled_to(c.symbols),

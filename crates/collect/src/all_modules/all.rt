@@ -8,6 +8,7 @@ ghost use Rattle.collect.specs.stored.Segments.{lists};
 ghost use Rattle.collect.specs.all_modules.Modules.{Workable};
 ghost use Rattle.collect.specs.all_modules.All.{nothing, StoresAll};
 use crate::all_modules::module::store_module;
+use crate::one_module::ModuleTask;
 use crate::stored::CollectCounts;
 use crate::stored::Stored;
 use crate::stored::rules::is_own;
@@ -28,21 +29,17 @@ fn none_yet() -> CollectCounts
 }
 
 // Stores the segments of all modules from `from` on in the five lists of the collection. The tables of a module are
-// lent blank, once for all modules, since they are large: by id `table`; of contents `ids`, `places`, `first`, `next`;
-// of public definitions `keys`, `entries`, `heads`, `onward`. `apart` is room for the masks of one content.
+// lent blank, once for all modules, since they are large: by id `table`; of contents `contents` and their heads `first`;
+// of public definitions `publics` and their heads `heads`. `apart` is room for the masks of one content.
 pub fn store_all(
     library: &[u8],
     rules: Rules,
     from: usize,
-    table: &mut [u64],
-    ids: &mut [u16],
-    places: &mut [u32],
+    table: &mut [u32],
+    contents: &mut [u64],
     first: &mut [u32],
-    next: &mut [u32],
-    keys: &mut [u16],
-    entries: &mut [u32],
+    publics: &mut [u64],
     heads: &mut [u32],
-    onward: &mut [u32],
     segments: &mut [u64],
     references: &mut [u64],
     symbols: &mut [u64],
@@ -50,7 +47,7 @@ pub fn store_all(
     masks: &mut [u8],
     apart: &mut [u8],
 ) -> Stored
-    requires { ⌜ Workable (now library) 0 (now table) (now ids) (now places) (now first) (now next) (now keys) (now entries) (now heads) (now onward) (now apart) × Stores [] (lists (now segments) (now references) (now symbols) (now bytes) (now masks)) nothing ⌝ }
+    requires { ⌜ Workable (now library) 0 (now table) (now contents) (now first) (now publics) (now heads) (now apart) × Stores [] (lists (now segments) (now references) (now symbols) (now bytes) (now masks)) nothing ⌝ }
     ensures { λ r. ⌜ StoresAll (now (library .entry)) rules (itemsAt (now (library .entry)) (moduleAt (now (library .entry))) from) (now (table .exit))
         (lists (now (segments .entry)) (now (references .entry)) (now (symbols .entry)) (now (bytes .entry)) (now (masks .entry)))
         (lists (now (segments .exit)) (now (references .exit)) (now (symbols .exit)) (now (bytes .exit)) (now (masks .exit))) r ⌝ }
@@ -64,18 +61,13 @@ pub fn store_all(
         };
         let stored = store_module(
             library,
-            own,
-            module,
+            ModuleTask { at: module, own },
             c,
             table,
-            ids,
-            places,
+            contents,
             first,
-            next,
-            keys,
-            entries,
+            publics,
             heads,
-            onward,
             segments,
             references,
             symbols,

@@ -14,20 +14,23 @@ use segment_parts::patterns::merge_along;
 use segment_parts::references::refer_along;
 use segment_parts::symbols::name_along;
 
-// Stores one kept segment of `size` bytes in the five lists of the collection, behind what `c` counts. The contents
-// from `link` on (along `next`, at `places`) make its pattern and references, the public definitions from `publics` on
-// (along `onward`, at `entries`) its symbols. `table` tells of ids, `number` is that of the module's first segment.
+// From what a kept segment is stored: the links to its first content and to its first public definition, and its size.
+pub struct KeptFrom {
+    pub content: u32,
+    pub public: u32,
+    pub size: usize,
+}
+
+// Stores one kept segment in the five lists of the collection, behind what `c` counts. The contents from its link on (in
+// `contents`) make its pattern and references, the public definitions from its other link on (in `publics`) its symbols.
+// `table` tells of ids, `number` is that of the module's first segment.
 pub fn store_kept(
     library: &[u8],
-    table: &[u64],
+    table: &[u32],
     number: usize,
-    link: u32,
-    next: &[u32],
-    places: &[u32],
-    publics: u32,
-    onward: &[u32],
-    entries: &[u32],
-    size: usize,
+    from: KeptFrom,
+    contents: &[u64],
+    publics: &[u64],
     c: CollectCounts,
     segments: &mut [u64],
     references: &mut [u64],
@@ -37,10 +40,11 @@ pub fn store_kept(
     apart: &mut [u8],
 ) -> Stored
     requires { ⌜ Placeable (now table) number 0 × (65536 ≤ length (now apart)) ⌝ }
-    ensures { λ r. ⌜ StoresKept (now (library .entry)) (now (table .entry)) number link (now (next .entry)) (now (places .entry)) publics (now (onward .entry)) (now (entries .entry)) size c
+    ensures { λ r. ⌜ StoresKept (now (library .entry)) (now (table .entry)) number from (now (contents .entry)) (now (publics .entry)) c
         (lists (now (segments .entry)) (now (references .entry)) (now (symbols .entry)) (now (bytes .entry)) (now (masks .entry))) (now (apart .entry))
         (lists (now (segments .exit)) (now (references .exit)) (now (symbols .exit)) (now (bytes .exit)) (now (masks .exit))) (now (apart .exit)) r ⌝ }
 {
+    let size = from.size;
     if !fits(c.pattern, size, bytes.len()) {
         return Stored::NoRoom;
     }
@@ -49,9 +53,8 @@ pub fn store_kept(
     }
     merge_along(
         library,
-        link,
-        next,
-        places,
+        from.content,
+        contents,
         c.pattern,
         size,
         bytes,
@@ -62,17 +65,15 @@ pub fn store_kept(
         library,
         table,
         number,
-        link,
-        next,
-        places,
+        from.content,
+        contents,
         references,
         filled_to(c.references),
     );
     let y = name_along(
         library,
+        from.public,
         publics,
-        onward,
-        entries,
         Carried::All,
         symbols,
         filled_to(c.symbols),

@@ -116,6 +116,10 @@ stepped what library c o = go (nextEntry what library c) (steps-forward (suc (le
     }
     go Done p = tt
 
+-- an entry does not stand before the cursor from which it was sought
+pub entry-later : (what : Entries) (library : List ℕ) (c : Cursor) → Ordered c → {here : Cursor} {end : ℕ} → nextEntry what library c ≡ Entry here end → c .at ≤ here .at
+entry-later what library c o e = subst (Steps library (entrySize what) (c .at)) e (steps-forward (suc (length library)) what library c o) .0
+
 pub definition-sized : (library : List ℕ) (c : Cursor) → Ordered c → {definition : Definition} {rest : Cursor}
     → nextDefinition library c ≡ NextDefinition.Item definition rest → Sized library 5 c rest
 definition-sized library c o {definition} {rest} = go (nextEntry Definitions library c) (stepped Definitions library c o)

@@ -3,7 +3,6 @@ use Prim.Native.Nat.{ℕ, _+_}
 use mathlib.Core.Bool.{Bool, true, not, _||_}
 use mathlib.Core.List.{List, []}
 use lib.Dec.{eqb, ltb}
-use lib.ListN.{getD}
 use Rattle.lent.specs.declared.part.Part.{Part}
 use Rattle.lent.specs.Choice.{if_then_else_}
 use Rattle.lent.specs.Lists.{all}
@@ -17,6 +16,7 @@ use Rattle.segments.specs.declared.Goal.the-variants as Goal
 use Rattle.segments.specs.declared.Reference.{Reference}
 use Rattle.segments.specs.SegmentLayouts.{referenceLayout, segmentRowAt}
 use Rattle.tables.specs.by_name.Sheet.{keyBuckets, nameBucket}
+use Rattle.tables.specs.by_name.Heads.{headAt}
 use Rattle.tables.specs.by_name.Tables.{followed}
 use Rattle.segments.specs.recalled.Recall.{rowsOf}
 use Rattle.search_rules.specs.declared.Placed.{Placed}
@@ -24,7 +24,7 @@ use Rattle.search_rules.specs.declared.Placed.{Placed}
 -- a row of this key and name is found from their bucket's head
 abbrev pub isFound : List ℕ → ℕ → List ℕ → List ℕ → ℕ → Part → Bool
 isFound library width m heads key name =
-    not (eqb (followed library width m key name (getD heads (keyBuckets + nameBucket key (bytesOf library name)) 0)) 0)
+    not (eqb (followed library width m key name (headAt heads (keyBuckets + nameBucket key (bytesOf library name)))) 0)
 
 -- what a public reference asks: that its name is at the target; without a target it asks nothing, nor does one to a segment
 abbrev pub asksOf : (ℕ → Part → Bool) → Goal → Target → Bool

@@ -17,7 +17,7 @@ use Rattle.segments.specs.declared.Goal.{Goal}
 use Rattle.segments.specs.declared.Goal.the-variants as Goal
 use Rattle.segments.specs.declared.Reference.{Reference}
 use Rattle.segments.specs.Collect.{Collected}
-use Rattle.tables.specs.by_name.HeadLaws.{found-any}
+use Rattle.tables.specs.by_name.TableLaws.{found-any}
 use Rattle.segments.specs.recalled.Recall.{recalledBy, recalledAt, recalled}
 use Rattle.search_rules.specs.declared.Asked.{Asked}
 use Rattle.search_rules.specs.Search.{Placing, Noting, noteAt, notes, isValid, targetOf, isPlaced, isNoted}
@@ -25,7 +25,7 @@ use Rattle.search_rules.specs.SearchRows.{placedSheet, notedSheet}
 use Rattle.search_rules.specs.FindableLaws.{placed-reads, noted-reads}
 use Rattle.listing_rules.specs.Listing.{noSegment, borneOut, grade}
 use Rattle.listing.specs.grade.Grades.{isFound, asksOf, bearsOut, referencesOf, gradeBy, isBorne, rowGrade}
-use Rattle.listing.specs.grade.Sought.{Sought}
+use Rattle.search.specs.Fills.{Sought}
 
 -- number i of a list that is made from numbers
 from-length : (at k : ℕ) → length (from at k) ≡ k

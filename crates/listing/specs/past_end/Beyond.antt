@@ -4,12 +4,13 @@ use mathlib.Core.Path.{_≡_}
 use mathlib.Core.Bool.{Bool, true, false, _&&_, _||_}
 use mathlib.Core.List.{List, [], _++_, map}
 use lib.Dec.{eqb}
-use lib.ListN.{length, getD, take, drop}
+use lib.ListN.{length, take, drop}
 use Rattle.lent.specs.Choice.{if_then_else_}
 use Rattle.lent.specs.Lists.{keep, joined, from}
 use Rattle.lent.specs.Rows.{cellOf, putRow}
 use Rattle.tables.specs.declared.fill.Fill.{Fill}
 use Rattle.tables.specs.by_name.Sheet.{keyBuckets}
+use Rattle.tables.specs.by_name.Heads.{headAt}
 use Rattle.tables.specs.by_name.Tables.{table, Tabled}
 use Rattle.search_rules.specs.declared.Noted.{Noted}
 use Rattle.search_rules.specs.Search.{Noting}
@@ -70,7 +71,7 @@ pub record NotedBy (noted goals : List ℕ) (ns : List Noting) : Type 0 where
 pub record HeadedBy (noted : List ℕ) (t head : ℕ) (ns : List Noting) : Type 0 where
   pub goals : List ℕ
   pub rows : NotedBy noted goals ns
-  pub head-is : head ≡ getD goals (t % keyBuckets) 0
+  pub head-is : head ≡ headAt goals (t % keyBuckets)
 
 -- what is counted along a bucket
 abbrev pub Counts : List ℕ → ℕ → ℕ → Bool → ℕ → Type 0

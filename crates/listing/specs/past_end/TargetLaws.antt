@@ -4,10 +4,11 @@ use mathlib.Core.Path.{_≡_, refl, sym, ap, subst, _∙_}
 use mathlib.Core.Bool.{Bool, true, false, false≢true}
 use mathlib.Core.List.{List, [], _∷_, _++_, append-nil, map}
 use native.Mathlib.Omega.{arith}
-use lib.ListN.{length, getD, drop, length-append}
+use lib.ListN.{length, drop, length-append}
 use Rattle.lent.specs.Choice.{if_then_else_}
 use Rattle.lent.specs.Lists.{keep, joined, from}
 use Rattle.tables.specs.declared.fill.Fill.{Fill}
+use Rattle.tables.specs.by_name.Heads.{headAt}
 use Rattle.tables.specs.by_name.Sheet.{keyBuckets}
 use Rattle.search_rules.specs.Search.{Noting}
 use Rattle.listing_rules.specs.declared.Skip.{Skip}
@@ -87,7 +88,7 @@ module _ (noted goals : List ℕ) (t : ℕ) (skip : Skip) (m : List ℕ) (f : Fi
       go true = refl
       go false = ap (map notedLine) e
 
-  module _ (head : ℕ) (is : head ≡ getD goals (t % keyBuckets) 0) where
+  module _ (head : ℕ) (is : head ≡ headAt goals (t % keyBuckets)) where
     pub target-empty : head ≡ 0 → ListsTarget noted goals t skip m f m f
     target-empty e ns h =
         let c : HeadedBy noted t head ns = record { goals = goals; rows = h; head-is = is } in

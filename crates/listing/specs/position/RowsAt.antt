@@ -18,7 +18,7 @@ use Rattle.search_rules.specs.SearchRows.{notedSheet}
 use Rattle.listing_rules.specs.declared.Line.{Line}
 use Rattle.listing_rules.specs.Listing.{notedLine, placedLine, stays}
 use Rattle.listing_rules.specs.FrontLines.{Fronts}
-use Rattle.listing.specs.grade.Sought.{Sought}
+use Rattle.search.specs.Fills.{Sought}
 use Rattle.listing.specs.declared.position.Best.{Best}
 use Rattle.listing.specs.position.Bests.{Bests}
 

@@ -10,6 +10,7 @@ use Rattle.lent.specs.Lists.{one, keep, fold}
 use Rattle.lent.specs.Rows.{rowAt}
 use Rattle.tables.specs.by_name.Newest.{newest}
 use Rattle.tables.specs.by_name.Sheet.{Sheet, keyBuckets, keyBucket, inName, bucketOf}
+use Rattle.tables.specs.by_name.Heads.{headAt}
 use Rattle.tables.specs.by_name.Tables.{Table, Tabled}
 use Rattle.tables.specs.by_name.Readable.{Reads}
 use Rattle.tables.specs.by_name.TableLaws.{table-done}
@@ -47,7 +48,7 @@ module _ {A R : Type 0} (s : Sheet A R) (library : List ℕ) (reads : Reads s) (
   Walked-to = Walked s library xs bucket q line lines before
 
   -- FROM THE HEAD
-  pub walked-first : (here : ℕ) (m : List ℕ) (b : Best) → bucket < keyBuckets → here ≡ getD (t .heads) bucket 0 → Bests lines before m b → Walked-to here m b
+  pub walked-first : (here : ℕ) (m : List ℕ) (b : Best) → bucket < keyBuckets → here ≡ headAt (t .heads) bucket → Bests lines before m b → Walked-to here m b
   walked-first here m b small e h = record {
     stands = head-stands s library xs bucket (t .heads) (tabled .headed room) small here e;
     bests = subst (λ ys. Bests lines (map line ys ++ before) m b) (sym (head-last s library xs bucket (t .heads) (tabled .headed room) small here e q within)) h;

@@ -7,7 +7,7 @@ use tables::by_name::head_at;
 use tables::fill::Fill;
 
 // Lists the names of the target t; a target whose bucket is empty is passed over at once.
-fn list_target(noted: &[u64], goals: &[u64], t: u64, skip: Skip, lines: &mut [u64], f: Fill) -> Fill
+fn list_target(noted: &[u64], goals: &[u32], t: u64, skip: Skip, lines: &mut [u64], f: Fill) -> Fill
     ensures { λ r. ⌜ ListsTarget (now (noted .entry)) (now (goals .entry)) t skip (now (lines .entry)) f (now (lines .exit)) r ⌝ }
 {
     if f.over {
@@ -23,7 +23,7 @@ fn list_target(noted: &[u64], goals: &[u64], t: u64, skip: Skip, lines: &mut [u6
 // Lists the names of all targets from `first` to `last`.
 pub fn list_span(
     noted: &[u64],
-    goals: &[u64],
+    goals: &[u32],
     first: u64,
     last: u64,
     skip: Skip,

@@ -1,5 +1,4 @@
 // The lines of one position of the image.
-ghost use mathlib.Core.Path.{_≡_};
 ghost use Prim.Native.Nat.{_/_, _≤_};
 ghost use lib.ListN.{length};
 ghost use Rattle.image.specs.View.{view};
@@ -52,9 +51,9 @@ pub fn list_position(
     n: usize,
     references: &[u64],
     placed: &[u64],
-    positions: &[u64],
+    positions: &[u32],
     noted: &[u64],
-    goals: &[u64],
+    goals: &[u32],
     at: usize,
     m: &mut [u64],
     f: Fill,

@@ -37,7 +37,7 @@ fn take_noted(m: &mut [u64], from: usize, b: Best, at: usize, row: Noted) -> Bes
 
 // Goes over all names noted at the position `at`, and puts the lines of the valid ones behind the `from` lines in `m`.
 // `goals` has the heads of the buckets of noted names.
-pub fn walk_noted(noted: &[u64], goals: &[u64], at: usize, m: &mut [u64], from: usize) -> Best
+pub fn walk_noted(noted: &[u64], goals: &[u32], at: usize, m: &mut [u64], from: usize) -> Best
     requires { ⌜ from ≤ length (now m) / 4 ⌝ }
     ensures { λ r. ⌜ WalksNoted (now (noted .entry)) (now (goals .entry)) at from (now (m .entry)) (now (m .exit)) r ⌝ }
 {

@@ -9,39 +9,42 @@ use lib.Dec.{eqb}
 use lib.ListN.{length, getD, take, set, length-append, length-take, length-map, List·getD-append}
 use lib.Seq.{take-suc-set, getD-append-seam, getD-set-same, getD-set-other}
 use Rattle.lent.specs.Lists.{one, keep}
+use Rattle.tables.specs.links.Things.{thingOf, keysOf, placesOf}
+use Rattle.tables.specs.links.ThingLaws.{keys-long, places-long, put-keys, put-places}
 use Rattle.tables.specs.links.Index.{Linked}
 use Rattle.tables.specs.links.Follow.{Follows}
 use Rattle.tables.specs.links.FollowLaws.{links-follow}
 use Rattle.module_index.specs.gather.Places.{Gathered}
+use Rattle.module_index.specs.gather.Into.{Held}
 
 -- `At p x` says that x is read at the place p of the library
 module _ {A : Type 0} (key : A → ℕ) (At : ℕ → A → Type 0) (none : A) where
-  abbrev pub Held : List A → List ℕ → List ℕ → ℕ → Type 0
-  Held xs keys places n = Gathered key (λ j x. At (getD places j 0) x) none xs keys n
+  abbrev pub Stands : List ℕ → ℕ → A → Type 0
+  Stands places j x = At (getD places j 0) x
 
-  pub none-gathered : (keys places : List ℕ) → Held [] keys places 0
-  none-gathered keys places = record { number = refl; keyed = take-zero keys; stand = λ j h. absurd (omega arith) }
+  pub none-gathered : (things : List ℕ) → Held key Stands none [] things 0
+  none-gathered things = record { number = refl; keyed = take-zero (keysOf things); stand = λ j h. absurd (omega arith) }
     where
       take-zero : (xs : List ℕ) → take 0 xs ≡ []
       take-zero [] = refl
       take-zero (x ∷ xs) = refl
 
   -- one thing more, its key and place stored behind the others
-  pub gather-turn : (xs : List A) (keys places : List ℕ) (n : ℕ) (x : A) (p : ℕ) → n < length keys → n < length places → At p x
-      → Held xs keys places n → Held (xs ++ one x) (set keys n (key x)) (set places n p) (n + 1)
-  gather-turn xs keys places n x p a b h g = record {
+  pub gather-turn : (xs : List A) (things : List ℕ) (n : ℕ) (x : A) (p : ℕ) → n < length things → key x < 65536 → p < 1048576 → At p x
+      → Held key Stands none xs things n → Held key Stands none (xs ++ one x) (set things n (thingOf (key x) p)) (n + 1)
+  gather-turn xs things n x p a k b h g = rw (put-keys things n (key x) p k, put-places things n (key x) p k b) (record {
     number = omega (arith, g .number, length-append xs (one x));
-    keyed = rw add-one (take-suc-set keys n (key x) a ∙ ap (λ ys. ys ++ (key x ∷ [])) (g .keyed) ∙ sym (map-append key xs (one x)));
+    keyed = rw add-one (take-suc-set (keysOf things) n (key x) (omega (arith, keys-long things)) ∙ ap (λ ys. ys ++ (key x ∷ [])) (g .keyed) ∙ sym (map-append key xs (one x)));
     stand = λ j l. go j l (decLt j n);
-  }
+  })
     where
-      go : (j : ℕ) → j < n + 1 → Dec (j < n) → At (getD (set places n p) j 0) (getD (xs ++ one x) j none)
+      go : (j : ℕ) → j < n + 1 → Dec (j < n) → At (getD (set (placesOf things) n p) j 0) (getD (xs ++ one x) j none)
       go j l (yes d) =
           let z : (j ≡ n → ⊥) = λ e. omega arith in
-          rw (getD-set-other places n j p 0 z, List·getD-append xs (one x) none j (omega (arith, g .number))) (g .stand j d)
+          rw (getD-set-other (placesOf things) n j p 0 z, List·getD-append xs (one x) none j (omega (arith, g .number))) (g .stand j d)
       go j l (no d) =
           let same : j ≡ n = omega arith in
-          rw same (rw (getD-set-same places n p 0 b) (subst (λ i. At p (getD (xs ++ one x) i none)) (sym (g .number)) (rw (getD-append-seam xs x [] none) h)))
+          rw same (rw (getD-set-same (placesOf things) n p 0 (omega (arith, places-long things))) (subst (λ i. At p (getD (xs ++ one x) i none)) (sym (g .number)) (rw (getD-append-seam xs x [] none) h)))
 
 -- all are done once nothing is left
 pub all-done : {A : Type 0} {all done left : List A} → done ++ left ≡ all → left ≡ [] → done ≡ all

@@ -4,9 +4,10 @@ use Prim.Native.Nat.{ℕ}
 use mathlib.Core.Path.{_≡_, sym, _∙_}
 use mathlib.Core.List.{List}
 use lib.ListN.{take}
+use Rattle.tables.specs.links.Things.{keysOf}
 use Rattle.module_index.specs.gather.Into.{GatheredInto}
 
 -- `gather_sections` and `gather_publics`
-pub gather-one : {A : Type 0} {key : A → ℕ} {is : List ℕ → ℕ → A → Type 0} {none : A} {xs : List A} {keys₀ places₀ keys places keys′ places′ : List ℕ} {a b : ℕ}
-    → GatheredInto key is none xs keys₀ places₀ keys places a → GatheredInto key is none xs keys₀ places₀ keys′ places′ b → (a ≡ b) × (take a keys ≡ take b keys′)
+pub gather-one : {A : Type 0} {key : A → ℕ} {is : List ℕ → ℕ → A → Type 0} {none : A} {xs : List A} {things₀ things things′ : List ℕ} {a b : ℕ}
+    → GatheredInto key is none xs things₀ things a → GatheredInto key is none xs things₀ things′ b → (a ≡ b) × (take a (keysOf things) ≡ take b (keysOf things′))
 gather-one p q = (p .gathered .number ∙ sym (q .gathered .number), p .gathered .keyed ∙ sym (q .gathered .keyed))

@@ -5,11 +5,12 @@ ghost use Rattle.module_index.specs.gather.Places.{sectionKey, SectionIs
 ghost use Rattle.module_index.specs.gather.Into.{Roomy, GatheredInto};
 use library::items::NextContent;
 use library::items::contents::next_content;
+use tables::links::thing;
 
 // Stores the id and the place of each content from a place on, and answers how many there are.
-pub fn gather_sections(library: &[u8], from: usize, keys: &mut [u16], places: &mut [u32]) -> usize
-    requires { ⌜ Roomy 7 (now library) (now keys) (now places) ⌝ }
-    ensures { λ r. ⌜ GatheredInto sectionKey (SectionIs (now (library .entry))) noSection (itemsAt (now (library .entry)) (sectionsAt (now (library .entry))) from) (now (keys .entry)) (now (places .entry)) (now (keys .exit)) (now (places .exit)) r ⌝ }
+pub fn gather_sections(library: &[u8], from: usize, things: &mut [u64]) -> usize
+    requires { ⌜ Roomy 7 (now library) (now things) ⌝ }
+    ensures { λ r. ⌜ GatheredInto sectionKey (SectionIs (now (library .entry))) noSection (itemsAt (now (library .entry)) (sectionsAt (now (library .entry))) from) (now (things .entry)) (now (things .exit)) r ⌝ }
 {
     let mut at = from;
     let mut n = 0;
@@ -20,8 +21,7 @@ pub fn gather_sections(library: &[u8], from: usize, keys: &mut [u16], places: &m
                 fixups,
                 rest,
             } => {
-                keys[n] = content.id.0;
-                places[n] = at as u32;
+                things[n] = thing(content.id.0, at);
                 n += 1;
                 at = rest;
             }

@@ -12,6 +12,7 @@ use Rattle.tables.specs.declared.fill.Fill.{Fill}
 use Rattle.tables.specs.by_name.Newest.{newest}
 use Rattle.tables.specs.by_name.NewestLaws.{newest-room, newest-hit, newest-none}
 use Rattle.tables.specs.by_name.Sheet.{keyBuckets, isNamed, bucketOf}
+use Rattle.tables.specs.by_name.Heads.{headAt}
 use Rattle.tables.specs.by_name.Tables.{followed, table, Single, Tabled, Takes}
 use Rattle.tables.specs.by_name.SingleLaws.{single-more, single-map, named-changed}
 use Rattle.tables.specs.by_name.TableLaws.{table-found}
@@ -66,7 +67,7 @@ module _ (library : List ℕ) (new : Noting) where
 
   -- one that is makes it valid: the row that is found is changed, and no other
   module _ (m heads : List ℕ) (f : Fill) (room : f .over ≡ false) (found : ℕ)
-      (is : found ≡ followed library 6 m (new .target) (new .name) (getD heads (keyBuckets + bucketOf notedSheet library new) 0)) (z : found ≡ 0 → ⊥) (v : new .valid ≡ true) where
+      (is : found ≡ followed library 6 m (new .target) (new .name) (headAt heads (keyBuckets + bucketOf notedSheet library new))) (z : found ≡ 0 → ⊥) (v : new .valid ≡ true) where
     also-kept : (r : Noting) → isNamed notedSheet library (new .target) (new .name) r ≡ false → alsoNoted library new r ≡ r
     also-kept r e = ap (λ t. record { target = r .target; name = r .name; valid = t }) (stays (r .valid) (notesIt library (new .target) (new .name) r) e)
       where

@@ -59,7 +59,7 @@ pub fn note_name(
     name: Part,
     valid: bool,
     noted: &mut [u64],
-    heads: &mut [u64],
+    heads: &mut [u32],
     f: Fill,
 ) -> Fill
     ensures { λ r. ⌜ NotesOne (now (library .entry)) target name valid (now (noted .entry)) (now (heads .entry)) f (now (noted .exit)) (now (heads .exit)) r ⌝ }

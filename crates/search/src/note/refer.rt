@@ -33,7 +33,7 @@ fn refer_one(
     masks: &[u8],
     r: Reference,
     noted: &mut [u64],
-    heads: &mut [u64],
+    heads: &mut [u32],
     f: Fill,
 ) -> Referred
     ensures { λ q. ⌜ Refers (view (now (image .entry)) s) rules position valid (now (library .entry)) (now (segments .entry)) n (now (bytes .entry)) (now (masks .entry)) (one r)
@@ -75,7 +75,7 @@ pub fn refer_all(
     bytes: &[u8],
     masks: &[u8],
     noted: &mut [u64],
-    heads: &mut [u64],
+    heads: &mut [u32],
     before: Fill,
 ) -> Referred
     ensures { λ q. ⌜ RefersAll (view (now (image .entry)) s) rules position valid (now (library .entry)) (now (segments .entry)) n (now (references .entry)) part (now (bytes .entry)) (now (masks .entry))

@@ -24,9 +24,9 @@ pub fn search_all(
     first: &[u32],
     next: &[u32],
     placed: &mut [u64],
-    positions: &mut [u64],
+    positions: &mut [u32],
     noted: &mut [u64],
-    goals: &mut [u64],
+    goals: &mut [u32],
     before: Fills,
 ) -> Fills
     requires { ⌜ Indexed (now image) (now first) (now next) ⌝ }

@@ -45,9 +45,9 @@ pub fn visit_match(
     valid: bool,
     at: usize,
     placed: &mut [u64],
-    positions: &mut [u64],
+    positions: &mut [u32],
     noted: &mut [u64],
-    goals: &mut [u64],
+    goals: &mut [u32],
     f: Fills,
 ) -> Fills
     ensures { λ r. ⌜ VisitsMatch (view (now (image .entry)) s) asked (now (library .entry)) (stored (now (segments .entry)) (now (references .entry)) (now (symbols .entry)) (now (bytes .entry)) (now (masks .entry))) n number row valid at

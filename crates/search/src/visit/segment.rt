@@ -31,9 +31,9 @@ pub fn search_segment(
     next: &[u32],
     i: usize,
     placed: &mut [u64],
-    positions: &mut [u64],
+    positions: &mut [u32],
     noted: &mut [u64],
-    goals: &mut [u64],
+    goals: &mut [u32],
     before: Fills,
 ) -> Fills
     requires { ⌜ Indexed (now image) (now first) (now next) ⌝ }

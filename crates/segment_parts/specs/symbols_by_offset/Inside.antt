@@ -14,7 +14,7 @@ use Rattle.module_index.specs.gather.Places.{PublicIs, noDefinition}
 use Rattle.segment_parts.specs.declared.carried.Carried.the-variants.{Inside}
 use Rattle.segment_parts.specs.AddedSymbols.{symbolBy}
 use Rattle.segment_parts.specs.declared.symbols_by_offset.flags.Blocks.{Blocks}
-use Rattle.segment_parts.specs.symbols_by_offset.Offsets.{offsetKey}
+use Rattle.module_index.specs.gather.Publics.{offsetKey}
 use Rattle.segment_parts.specs.symbols_by_offset.Flags.{Clear, Wide, Covers}
 
 -- the first n keys are their offsets, and each stands at its place

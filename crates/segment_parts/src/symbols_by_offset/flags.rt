@@ -3,7 +3,9 @@
 ghost use mathlib.Core.Path.{_≡_};
 ghost use Prim.Native.Nat.{_<_, _≤_, _^_};
 ghost use lib.ListN.{getD, set};
+ghost use Rattle.tables.specs.links.Things.{nextOf};
 ghost use Rattle.segment_parts.specs.symbols_by_offset.Flags.{FlagsBlock, FlagsAlong, FlagsInside, Clears};
+use tables::links::next_at;
 use tables::links::number_at;
 
 // Bounds of the flagged blocks: all of them lie from `low` on and below `high`.
@@ -65,8 +67,8 @@ fn flag_block(flags: &mut [u8], s: Blocks, b: usize) -> Blocks
 }
 
 // Flags the blocks of all public definitions that are met from a link on.
-fn flag_along(link: u32, next: &[u32], before: Blocks, flags: &mut [u8]) -> Blocks
-    ensures { λ r. ⌜ FlagsAlong link (now (next .entry)) (now (flags .entry)) before (now (flags .exit)) r ⌝ }
+fn flag_along(link: u32, publics: &[u64], before: Blocks, flags: &mut [u8]) -> Blocks
+    ensures { λ r. ⌜ FlagsAlong link (nextOf (now (publics .entry))) (now (flags .entry)) before (now (flags .exit)) r ⌝ }
 {
     let mut last = 0;
     let mut here = link as usize;
@@ -74,25 +76,21 @@ fn flag_along(link: u32, next: &[u32], before: Blocks, flags: &mut [u8]) -> Bloc
     while last < here {
         s = flag_block(flags, s, (here - 1) / 256);
         last = here;
-        here = number_at(next, here - 1);
+        here = next_at(publics, here - 1);
     }
     s
 }
 
-// The link to the first public definition with offset v, 0 past the end of the heads.
-fn head_at(first: &[u32], v: usize) -> u32
-    ensures { λ r. ⌜ r ≡ getD (now (first .entry)) v 0 ⌝ }
-{
-    if v < first.len() {
-        return first[v];
-    }
-    0
-}
-
 // Flags the blocks of all public definitions with an offset inside the `len` numbers from `at` on.
-pub fn flag_inside(at: usize, len: usize, first: &[u32], next: &[u32], flags: &mut [u8]) -> Blocks
+pub fn flag_inside(
+    at: usize,
+    len: usize,
+    first: &[u32],
+    publics: &[u64],
+    flags: &mut [u8],
+) -> Blocks
     requires { ⌜ (at < 65536) × (len < 65536) ⌝ }
-    ensures { λ r. ⌜ FlagsInside at len (now (first .entry)) (now (next .entry)) (now (flags .entry)) (now (flags .exit)) r ⌝ }
+    ensures { λ r. ⌜ FlagsInside at len (now (first .entry)) (nextOf (now (publics .entry))) (now (flags .entry)) (now (flags .exit)) r ⌝ }
 {
     let mut s = Blocks {
         low: 4294967296,
@@ -100,7 +98,7 @@ pub fn flag_inside(at: usize, len: usize, first: &[u32], next: &[u32], flags: &m
     };
     let mut i = 0;
     while i < len {
-        s = flag_along(head_at(first, at + i), next, s, flags);
+        s = flag_along(number_at(first, at + i), publics, s, flags);
         i += 1;
     }
     s

@@ -15,6 +15,7 @@ use Rattle.lent.specs.Rows.{rowAt}
 use Rattle.tables.specs.by_name.Newest.{newestFrom, newest}
 use Rattle.tables.specs.by_name.NewestLaws.{one-by-one, newest-room, newest-hit, newest-this, newest-before, newest-skip}
 use Rattle.tables.specs.by_name.Sheet.{Sheet, keyBuckets, keyBucket, inKey, inName, bucketOf}
+use Rattle.tables.specs.by_name.Heads.{headAt}
 use Rattle.tables.specs.by_name.Tables.{Table, Headed, Tabled}
 use Rattle.tables.specs.by_name.Readable.{Reads}
 use Rattle.tables.specs.by_name.TableLaws.{table-row}
@@ -82,7 +83,7 @@ module _ {A R : Type 0} (s : Sheet A R) (library : List ℕ) (xs : List A) (b : 
       }
 
   -- THE HEAD stands there, and nothing of the bucket behind it
-  module _ (heads : List ℕ) (headed : Headed s library xs heads) (small : b < keyBuckets) (here : ℕ) (is : here ≡ getD heads b 0) where
+  module _ (heads : List ℕ) (headed : Headed s library xs heads) (small : b < keyBuckets) (here : ℕ) (is : here ≡ headAt heads b) where
     head-newest : here ≡ newest (inKey s library b) xs
     head-newest = is ∙ headed .by-key b small
 

@@ -3,12 +3,12 @@ use Prim.Native.Nat.{ℕ, suc, _+_, _-_, _*_, _<_, _≤_}
 use mathlib.Core.Path.{_≡_, refl, sym, ap, subst, _∙_}
 use mathlib.Core.Bool.{Bool, true, false, false≢true}
 use mathlib.Core.List.{List, [], _∷_, _++_, append-assoc}
-use native.Mathlib.Nat.{suc-mul, mul-le-mul-right}
+use native.Mathlib.Nat.{suc-mul, mul-le-mul-right, mul-le-mul-left, lt-of-le-of-lt}
 use native.Mathlib.Omega.{arith}
 use borrow.Author.Tests.{eqb-true, eqb-false}
 use lib.Dec.{eqb}
 use lib.ListN.{length, getD, take, drop, set, length-append, length-set}
-use lib.Seq.{set-at, sets, set-split, split-at, length-take-le, getD-set-same, getD-set-other}
+use lib.Seq.{set-at, sets, set-split, split-at, length-take-le}
 use Rattle.lent.specs.Lists.{one, any, joined}
 use Rattle.lent.specs.ListLaws.{rows-length, joined-append}
 use Rattle.lent.specs.Parts.{bytesOf}
@@ -16,13 +16,15 @@ use Rattle.lent.specs.Rows.{zeros, padded, putRow, Layout, rowAt}
 use Rattle.lent.specs.RowLaws.{Wide, padded-length, put-there, put-length}
 use Rattle.tables.specs.declared.fill.Fill.{Fill}
 use Rattle.tables.specs.fill.FilledRows.{Filling, Holds, oneMore, putMore}
-use Rattle.tables.specs.fill.FilledRowLaws.{filled-more}
+use Rattle.tables.specs.fill.FilledRowLaws.{filled-more, put-more-length}
 use Rattle.tables.specs.by_name.Newest.{newest}
 use Rattle.tables.specs.by_name.NewestLaws.{newest-this, newest-before, newest-set}
 use Rattle.tables.specs.by_name.Sheet.{Sheet, keyBuckets, nameBuckets, keyBucket, nameBucket, isNamed, inKey, bucketOf, inName, rowAfter, linked}
 use Rattle.tables.specs.by_name.SheetLaws.{linked-length, linked-more, linked-set}
 use Rattle.tables.specs.by_name.NamedLaws.{bucket-small}
-use Rattle.tables.specs.by_name.Tables.{Table, headsWith, Headed, rowBy, Tabled}
+use Rattle.tables.specs.by_name.Heads.{headCount, headAt, headSet, headsWith, headLimit}
+use Rattle.tables.specs.by_name.HeadLaws.{head-length, head-same, head-other}
+use Rattle.tables.specs.by_name.Tables.{Table, Headed, rowBy, Tabled}
 use Rattle.tables.specs.by_name.SingleLaws.{single-more, single-set}
 use Rattle.tables.specs.by_name.Readable.{Reads}
 use Rattle.tables.specs.by_name.TableLaws.{table-row}
@@ -76,9 +78,9 @@ module _ {R : Type 0} (l : Layout R) (wide : Wide l) where
 
 module _ {A R : Type 0} (s : Sheet A R) (library : List ℕ) where
   -- the heads of a thing's buckets lead to it, and no others change
-  pub headed-more : (xs : List A) (x : A) (heads : List ℕ) (n : ℕ) → n ≡ length xs + 1 → keyBuckets + nameBuckets ≤ length heads → Headed s library xs heads
+  headed-more : (xs : List A) (x : A) (heads : List ℕ) (n : ℕ) → n ≡ length xs + 1 → headCount ≤ length heads → n < headLimit (length heads) → Headed s library xs heads
       → Headed s library (xs ++ one x) (headsWith heads (s .key x) (bucketOf s library x) n)
-  headed-more xs x heads n e room h = record { by-key = by-key; by-name = by-name }
+  headed-more xs x heads n e room fits h = record { by-key = by-key; by-name = by-name }
     where
       k : ℕ
       k = keyBucket (s .key x)
@@ -87,36 +89,39 @@ module _ {A R : Type 0} (s : Sheet A R) (library : List ℕ) where
       small = bucket-small (s .key x) (bytesOf library (s .name x))
 
       mid : List ℕ
-      mid = set heads k n
+      mid = headSet heads k n
 
-      by-key : (b : ℕ) → b < keyBuckets → getD (set mid (keyBuckets + bucketOf s library x) n) b 0 ≡ newest (inKey s library b) (xs ++ one x)
-      by-key b l = getD-set-other mid (keyBuckets + bucketOf s library x) b n 0 (λ q. omega arith) ∙ go (eqb k b) refl
+      long : length mid ≡ length heads
+      long = head-length heads k n
+
+      by-key : (b : ℕ) → b < keyBuckets → headAt (headSet mid (keyBuckets + bucketOf s library x) n) b ≡ newest (inKey s library b) (xs ++ one x)
+      by-key b l = head-other mid (keyBuckets + bucketOf s library x) n (omega (arith, small)) b (omega arith) (λ q. omega (arith, q, l)) ∙ go (eqb k b) refl
         where
-          go : (t : Bool) → eqb k b ≡ t → getD mid b 0 ≡ newest (inKey s library b) (xs ++ one x)
+          go : (t : Bool) → eqb k b ≡ t → headAt mid b ≡ newest (inKey s library b) (xs ++ one x)
           go true q =
-              ap (λ i. getD mid i 0) (sym (eqb-true k b q))
-              ∙ getD-set-same heads k n 0 (omega arith)
+              ap (headAt mid) (sym (eqb-true k b q))
+              ∙ head-same heads k n (omega arith) room fits
               ∙ e
               ∙ sym (newest-this (inKey s library b) xs x q)
           go false q =
-              getD-set-other heads k b n 0 (λ z. eqb-false k b q (sym z))
+              head-other heads k n (omega arith) b (omega arith) (eqb-false k b q)
               ∙ h .by-key b l
               ∙ sym (newest-before (inKey s library b) xs x q)
 
-      by-name : (b : ℕ) → b < nameBuckets → getD (set mid (keyBuckets + bucketOf s library x) n) (keyBuckets + b) 0 ≡ newest (inName s library b) (xs ++ one x)
+      by-name : (b : ℕ) → b < nameBuckets → headAt (headSet mid (keyBuckets + bucketOf s library x) n) (keyBuckets + b) ≡ newest (inName s library b) (xs ++ one x)
       by-name b l = go (eqb (bucketOf s library x) b) refl
         where
           go : (t : Bool) → eqb (bucketOf s library x) b ≡ t
-              → getD (set mid (keyBuckets + bucketOf s library x) n) (keyBuckets + b) 0 ≡ newest (inName s library b) (xs ++ one x)
+              → headAt (headSet mid (keyBuckets + bucketOf s library x) n) (keyBuckets + b) ≡ newest (inName s library b) (xs ++ one x)
           go true q =
-              ap (λ i. getD (set mid (keyBuckets + bucketOf s library x) n) (keyBuckets + i) 0) (sym (eqb-true (bucketOf s library x) b q))
-              ∙ getD-set-same mid (keyBuckets + bucketOf s library x) n 0 (omega (arith, length-set heads k n, small, room))
+              ap (λ i. headAt (headSet mid (keyBuckets + bucketOf s library x) n) (keyBuckets + i)) (sym (eqb-true (bucketOf s library x) b q))
+              ∙ head-same mid (keyBuckets + bucketOf s library x) n (omega (arith, small)) (omega (arith, long, room)) (rw long fits)
               ∙ e
               ∙ sym (newest-this (inName s library b) xs x q)
           go false q =
               let ne = eqb-false (bucketOf s library x) b q in
-              getD-set-other mid (keyBuckets + bucketOf s library x) (keyBuckets + b) n 0 (λ z. ne (omega arith))
-              ∙ getD-set-other heads k (keyBuckets + b) n 0 (λ z. omega arith)
+              head-other mid (keyBuckets + bucketOf s library x) n (omega (arith, small)) (keyBuckets + b) (omega (arith, l)) (λ z. ne (omega (arith, z)))
+              ∙ head-other heads k n (omega arith) (keyBuckets + b) (omega (arith, l)) (λ z. omega (arith, z))
               ∙ h .by-name b l
               ∙ sym (newest-before (inName s library b) xs x q)
 
@@ -130,7 +135,7 @@ module _ {A R : Type 0} (s : Sheet A R) (library : List ℕ) (reads : Reads s) w
     right : rowBy s library (t .heads) x ≡ rowAfter s library xs x
     right =
         let h = tabled .headed room in
-        ap (λ link. s .row x link (getD (t .heads) (keyBuckets + bucketOf s library x) 0)) (h .by-key (keyBucket (s .key x)) (omega arith))
+        ap (λ link. s .row x link (headAt (t .heads) (keyBuckets + bucketOf s library x))) (h .by-key (keyBucket (s .key x)) (omega arith))
         ∙ ap (s .row x (newest (inKey s library (keyBucket (s .key x))) xs)) (h .by-name (bucketOf s library x) (bucket-small (s .key x) (bytesOf library (s .name x))))
 
     filled : Filling (s .layout) (linked s library (xs ++ one x)) (putMore (s .layout) (t .fill) (rowBy s library (t .heads) x) (t .memory)) grown
@@ -147,13 +152,28 @@ module _ {A R : Type 0} (s : Sheet A R) (library : List ℕ) (reads : Reads s) w
         })
     table-adds fits = record {
       filling = filled;
-      headed = λ e. headed-more s library xs x (t .heads) (grown .rows) number (tabled .room) (tabled .headed room);
-      room = omega (arith, tabled .room, length-set (set (t .heads) (keyBucket (s .key x)) (grown .rows)) (keyBuckets + bucketOf s library x) (grown .rows), length-set (t .heads) (keyBucket (s .key x)) (grown .rows));
+      headed = λ e. headed-more s library xs x (t .heads) (grown .rows) number (tabled .room) below (tabled .headed room);
+      room = omega (arith, tabled .room, long);
+      fits = rw (long, same) (tabled .fits);
       single = single-more s library xs x (tabled .single) fresh;
     }
       where
         number : grown .rows ≡ length xs + 1
         number = filled .fits fits .number ∙ linked-length s library (xs ++ one x) ∙ length-append xs (one x)
+
+        same : length (putMore (s .layout) (t .fill) (rowBy s library (t .heads) x) (t .memory)) ≡ length (t .memory)
+        same = put-more-length (s .layout) (t .fill) (rowBy s library (t .heads) x) (t .memory)
+
+        long : length (headsWith (t .heads) (s .key x) (bucketOf s library x) (grown .rows)) ≡ length (t .heads)
+        long =
+            head-length (headSet (t .heads) (keyBucket (s .key x)) (grown .rows)) (keyBuckets + bucketOf s library x) (grown .rows)
+            ∙ head-length (t .heads) (keyBucket (s .key x)) (grown .rows)
+
+        -- a row takes more than one number, so that the number of a row is below the memory's length
+        below : grown .rows < headLimit (length (t .heads))
+        below =
+            let rows = linked s library (xs ++ one x) in
+            lt-of-le-of-lt (omega (arith, filled .fits fits .number, filled .fits fits .room, same, mul-le-mul-left (length rows) (reads .some))) (tabled .fits)
 
     pub table-lacks : grown .over ≡ true
         → Tabled s library (xs ++ one x) (record {
@@ -165,6 +185,7 @@ module _ {A R : Type 0} (s : Sheet A R) (library : List ℕ) (reads : Reads s) w
       filling = filled;
       headed = λ e. absurd (false≢true (sym e ∙ over));
       room = tabled .room;
+      fits = rw (put-more-length (s .layout) (t .fill) (rowBy s library (t .heads) x) (t .memory)) (tabled .fits);
       single = single-more s library xs x (tabled .single) fresh;
     }
 
@@ -190,6 +211,7 @@ module _ {A R : Type 0} (s : Sheet A R) (library : List ℕ) (reads : Reads s) w
       by-name = λ b l. tabled .headed room .by-name b l ∙ sym (newest-set (inName s library b) d xs j y (rw (k, n)));
     };
     room = tabled .room;
+    fits = rw long (tabled .fits);
     single = single-set s library d xs j y k n (tabled .single);
   }
     where

@@ -1,103 +1,91 @@
--- WHOEVER LOOKS UP rows that were written before: heads made from the rows make them a table again. Assumes nothing.
-use Prim.Native.Nat.{ℕ, zero, suc, _+_, _*_, _≤_, _<_}
-use mathlib.Core.Path.{_≡_, refl, sym, ap, subst, _∙_}
-use mathlib.Core.Bool.{Bool, true, false, not, false≢true}
-use mathlib.Core.List.{List, [], _∷_, _++_}
-use native.Mathlib.Numerals.{add-one}
+-- A head that was set leads where it was set to, and no other changes. Assumes nothing.
+use Prim.Native.Nat.{ℕ, _+_, _*_, _/_, _%_, _<_, _≤_}
+use mathlib.Core.Path.{_≡_, refl, sym, ap, _∙_}
+use mathlib.Core.Bool.{Bool, true, false}
+use mathlib.Core.List.{List}
 use native.Mathlib.Omega.{arith}
-use borrow.Author.Tests.{eq-eqb, ne-eqb}
-use lib.Dec.{eqb}
-use lib.ListN.{length, getD, take, length-set}
-use lib.Seq.{length-take-le, take-length, take-suc}
-use Rattle.lent.specs.declared.part.Part.{Part}
-use Rattle.lent.specs.Lists.{one, any, joined}
-use Rattle.lent.specs.Parts.{bytesOf}
-use Rattle.lent.specs.Rows.{padded, cellOf}
-use Rattle.lent.specs.RowLaws.{cell-filled}
-use Rattle.tables.specs.by_name.Newest.{newestFrom, newest}
-use Rattle.tables.specs.by_name.NewestLaws.{newest-none, none-newest}
-use Rattle.tables.specs.by_name.Sheet.{Sheet, keyBuckets, nameBuckets, nameBucket, isNamed, bucketOf, rowAfter, linked}
-use Rattle.tables.specs.by_name.SheetLaws.{linked-length, linked-at}
-use Rattle.tables.specs.by_name.Tables.{followed, Table, table, headsWith, Headed, Single, Tabled}
-use Rattle.tables.specs.by_name.Tags.{tagAt, headedBy}
-use Rattle.tables.specs.by_name.Readable.{Reads}
-use Rattle.tables.specs.by_name.TableLaws.{table-found}
-use Rattle.tables.specs.by_name.GrowLaws.{headed-more}
+use borrow.Author.Tests.{ltb-true, ltb-false, lt-ltb, le-ltb}
+use lib.Dec.{ltb}
+use lib.ListN.{length, getD, set, length-set, List·getD-eq-default}
+use lib.Seq.{set-out, getD-set-same, getD-set-other}
+use Rattle.lent.specs.Choice.{if_then_else_}
+use Rattle.tables.specs.zeros.Zeros.{zeroList}
+use Rattle.tables.specs.zeros.ZeroLaws.{zero-length, zero-at}
+use Rattle.tables.specs.by_name.Heads.{headCount, near, headAt, lowHead, headSet, headLimit, Blank}
 
-pub headed-turn : (library : List ℕ) (width : ℕ) (m heads : List ℕ) (n : ℕ)
-    → headedBy library width m heads (n + 1) ≡ headsWith (headedBy library width m heads n) (tagAt width m n .key) (nameBucket (tagAt width m n .key) (bytesOf library (tagAt width m n .name))) (n + 1)
-unfolding headedBy
-headed-turn library width m heads n = ap (headedBy library width m heads) (add-one n)
+pub head-length : (heads : List ℕ) (i link : ℕ) → length (headSet heads i link) ≡ length heads
+unfolding headSet
+head-length heads i link = length-set (set heads i (lowHead link)) (headCount + i) (link / near % 4294967296) ∙ length-set heads i (lowHead link)
 
-pub headed-none : (library : List ℕ) (width : ℕ) (m heads : List ℕ) → headedBy library width m heads 0 ≡ heads
-unfolding headedBy
-headed-none library width m heads = refl
+-- setting a head past the end changes nothing
+pub head-out : (heads : List ℕ) (i link : ℕ) → length heads ≤ i → headSet heads i link ≡ heads
+unfolding headSet
+head-out heads i link h =
+    set-out (set heads i (lowHead link)) (headCount + i) (link / near % 4294967296) (omega (arith, h, length-set heads i (lowHead link))) ∙ set-out heads i (lowHead link) h
 
-module _ {A R : Type 0} (s : Sheet A R) (library : List ℕ) (reads : Reads s) (d : A) (xs : List A) (m heads : List ℕ)
-    (room : length xs * s .layout .width ≤ length m) (rows : m ≡ padded (length m) (joined (s .layout .cells) (linked s library xs)))
-    (wide : keyBuckets + nameBuckets ≤ length heads) (clear : (i : ℕ) → getD heads i 0 ≡ 0) where
-  abbrev heads-by : ℕ → List ℕ
-  heads-by n = headedBy library (s .layout .width) m heads n
+-- a head of 0 leads nowhere, and there is none past the end
+pub head-none : (heads : List ℕ) (i : ℕ) → getD heads i 0 ≡ 0 → headAt heads i ≡ 0
+unfolding headAt
+head-none heads i e = rw e
 
-  abbrev tag : ℕ → ℕ → ℕ
-  tag k i = cellOf (s .layout .width) m k i
+pub head-near : (heads : List ℕ) (i : ℕ) → getD heads i 0 < near → headAt heads i ≡ getD heads i 0
+unfolding headAt
+head-near heads i h = rw (lt-ltb (getD heads i 0) near h)
 
-  -- a row's numbers are those of its thing
-  number-is : (k i : ℕ) → k < length xs → tag k i ≡ getD (s .layout .cells (rowAfter s library (take k xs) (getD xs k d))) i 0
-  number-is k i h =
-      let r = s .row d 0 0 in
-      let n = linked-length s library xs in
-      ap (λ x. cellOf (s .layout .width) x k i) rows
-      ∙ cell-filled (s .layout) (reads .wide) (length m) (linked s library xs) r k i (rw n room) (omega (arith, h, n))
-      ∙ ap (λ row. getD (s .layout .cells row) i 0) (linked-at s library r d xs k h)
+pub head-far : (heads : List ℕ) (i : ℕ) → near ≤ getD heads i 0 → headAt heads i ≡ getD heads i 0 % near + near * getD heads (headCount + i) 0
+unfolding headAt
+head-far heads i h = rw (le-ltb (getD heads i 0) near h)
 
-  key-is : (k : ℕ) → k < length xs → tag k 0 ≡ s .key (getD xs k d)
-  key-is k h = number-is k 0 h ∙ reads .keyed (getD xs k d) _ _
+pub head-past : (heads : List ℕ) (i : ℕ) → length heads ≤ i → headAt heads i ≡ 0
+head-past heads i h = head-none heads i (List·getD-eq-default heads 0 h)
 
-  at-is : (k : ℕ) → k < length xs → tag k 1 ≡ s .name (getD xs k d) .at
-  at-is k h = number-is k 1 h ∙ reads .placed (getD xs k d) _ _
+module _ (heads : List ℕ) (i link : ℕ) (small : i < headCount) where
+  abbrev once : List ℕ
+  once = set heads i (lowHead link)
 
-  len-is : (k : ℕ) → k < length xs → tag k 2 ≡ s .name (getD xs k d) .len
-  len-is k h = number-is k 2 h ∙ reads .long (getD xs k d) _ _
+  -- ANOTHER HEAD
+  pub head-other : (j : ℕ) → j < headCount → (i ≡ j → ⊥) → headAt (headSet heads i link) j ≡ headAt heads j
+  unfolding headAt headSet
+  head-other j l ne =
+      rw (
+        getD-set-other once (headCount + i) j (link / near % 4294967296) 0 (λ q. omega (arith, q)),
+        getD-set-other once (headCount + i) (headCount + j) (link / near % 4294967296) 0 (λ q. ne (omega (arith, q))),
+        getD-set-other heads i j (lowHead link) 0 (λ q. ne (sym q)),
+        getD-set-other heads i (headCount + j) (lowHead link) 0 (λ q. omega (arith, q)),
+      )
 
-  heads-long : (n : ℕ) → length (heads-by n) ≡ length heads
-  unfolding headedBy
-  heads-long zero = refl
-  heads-long (suc n) = simp length-set (heads-long n)
+  -- THE HEAD ITSELF
+  module _ (room : headCount ≤ length heads) where
+    low-is : getD (headSet heads i link) i 0 ≡ lowHead link
+    unfolding headSet
+    low-is =
+        getD-set-other once (headCount + i) i (link / near % 4294967296) 0 (λ q. omega (arith, q))
+        ∙ getD-set-same heads i (lowHead link) 0 (omega (arith, room, small))
 
-  heads-to : (k : ℕ) → k ≤ length xs → Headed s library (take k xs) (heads-by k)
-  unfolding newestFrom headedBy
-  heads-to zero h = record { by-key = λ b l. clear b; by-name = λ b l. clear (keyBuckets + b) }
-  heads-to (suc k) h =
-      let x = getD xs k d in
-      rw (take-suc xs k d (omega arith), key-is k (omega arith), at-is k (omega arith), len-is k (omega arith))
-      (headed-more s library (take k xs) x (heads-by k) (k + 1) (sym (taken k (omega arith))) (omega (arith, wide, heads-long k)) (heads-to k (omega arith)))
-    where
-      taken : (k : ℕ) → k < length xs → length (take k xs) + 1 ≡ k + 1
-      taken k h = ap (λ n. n + 1) (length-take-le k xs (omega arith))
+    high-is : headCount + headCount ≤ length heads → getD (headSet heads i link) (headCount + i) 0 ≡ link / near % 4294967296
+    unfolding headSet
+    high-is wide = getD-set-same once (headCount + i) (link / near % 4294967296) 0 (omega (arith, wide, small, length-set heads i (lowHead link)))
 
-  pub rows-tabled : Single s library xs → Tabled s library xs (table m (heads-by (length xs)) (record { rows = length xs; over = false }))
-  rows-tabled single = record {
-    filling = record {
-      fits = λ e. record { number = sym (linked-length s library xs); room = rw (linked-length s library xs) room; memory = rows };
-      over = λ e. absurd (false≢true e);
-    };
-    headed = λ e. subst (λ ys. Headed s library ys (heads-by (length xs))) (take-length xs) (heads-to (length xs) (omega arith));
-    room = omega (arith, wide, heads-long (length xs));
-    single = single;
-  }
+    pub head-same : link < headLimit (length heads) → headAt (headSet heads i link) i ≡ link
+    head-same fits = go (ltb link near) refl
+      where
+        wide : (t : Bool) → ltb (length heads) (headCount + headCount) ≡ t → near ≤ link → link < (if t then near else near * near) → (headCount + headCount ≤ length heads) × (link < near * near)
+        wide true e far l = absurd (omega (arith, far, l))
+        wide false e far l = (ltb-false (length heads) (headCount + headCount) e, l)
 
--- THE ANSWER: something has this key and name exactly if the way from their bucket's head finds a row
-pub found-any : {A R : Type 0} (s : Sheet A R) (library : List ℕ) (reads : Reads s) (xs : List A) {t : Table} → Tabled s library xs t → t .fill .over ≡ false → (key : ℕ) (name : Part)
-    → any (isNamed s library key name) xs ≡ not (eqb (followed library (s .layout .width) (t .memory) key name (getD (t .heads) (keyBuckets + nameBucket key (bytesOf library name)) 0)) 0)
-found-any s library reads xs {t} tabled room key name = go (any (isNamed s library key name) xs) refl
-  where
-    link : ℕ
-    link = followed library (s .layout .width) (t .memory) key name (getD (t .heads) (keyBuckets + nameBucket key (bytesOf library name)) 0)
+        go : (t : Bool) → ltb link near ≡ t → headAt (headSet heads i link) i ≡ link
+        go true e =
+            let l = ltb-true link near e in
+            let is : getD (headSet heads i link) i 0 ≡ link = low-is ∙ ap (λ b. if b then link else link % near + near) e in
+            head-near (headSet heads i link) i (omega (arith, is, l)) ∙ is
+        go false e =
+            let far = ltb-false link near e in
+            let is : getD (headSet heads i link) i 0 ≡ link % near + near = low-is ∙ ap (λ b. if b then link else link % near + near) e in
+            let w = wide (ltb (length heads) (headCount + headCount)) refl far fits in
+            head-far (headSet heads i link) i (omega (arith, is)) ∙ omega (arith, is, high-is (w .0), w .1, far)
 
-    is : link ≡ newest (isNamed s library key name) xs
-    is = table-found s library reads xs {t = t} tabled room key name
-
-    go : (b : Bool) → any (isNamed s library key name) xs ≡ b → b ≡ not (eqb link 0)
-    go false e = ap not (sym (eq-eqb link 0 (is ∙ newest-none (isNamed s library key name) xs e)))
-    go true e = ap not (sym (ne-eqb link 0 (λ z. false≢true (sym (none-newest (isNamed s library key name) xs (sym is ∙ z)) ∙ e))))
+-- tables of zeros are blank heads
+pub zeros-blank : (n memory : ℕ) (heads : List ℕ) → heads ≡ zeroList n → headCount ≤ n → memory < headLimit n → Blank memory heads
+zeros-blank n memory heads z room fits =
+    let long : length heads ≡ n = ap length z ∙ zero-length n in
+    record { room = omega (arith, room, long); fits = rw long fits; clear = λ i. ap (λ xs. getD xs i 0) z ∙ zero-at n i }

@@ -1,19 +1,20 @@
 -- Keys and names: when two of them are the same, and which bucket they are in. Assumes nothing.
-use Prim.Native.Nat.{ℕ, _+_, _*_, _%_, _<_, _≤_}
+use Prim.Native.Nat.{ℕ, _+_, _-_, _*_, _%_, _<_, _≤_}
 use mathlib.Core.Path.{_≡_, refl, sym}
 use mathlib.Core.Bool.{true, false, false≢true}
 use mathlib.Core.List.{List, [], _∷_}
 use native.Mathlib.Omega.{arith}
-use borrow.Author.Tests.{eq-eqb, eqb-true}
+use borrow.Author.Tests.{eq-eqb, eqb-true, le-leb, lt-leb}
 use lib.Dec.{eqb}
-use lib.ListN.{length, getD, drop, drop-of-length-le}
+use lib.ListN.{length, getD, take, drop, drop-of-length-le}
 use Rattle.lent.specs.declared.part.Part.{Part}
 use Rattle.lent.specs.ChoiceLaws.{both, same-test}
 use Rattle.lent.specs.Lists.{fold}
 use Rattle.lent.specs.ListLaws.{fold-turn, fold-end}
 use Rattle.lent.specs.PartLaws.{drop-turn}
 use Rattle.lent.specs.Parts.{bytesOf, same}
-use Rattle.tables.specs.by_name.Sheet.{Sheet, nameBuckets, spread, nameBucket, isNamed, inName}
+use Rattle.tables.specs.by_name.Sheet.{Sheet, nameBuckets, spread, ends, nameBucket, isNamed, inName}
+use Rattle.tables.specs.by_name.TakeLaws.{fold-both}
 
 -- strings of bytes that are the same are equal
 pub same-equal : (a b : List ℕ) → same a b ≡ true → a ≡ b
@@ -31,26 +32,31 @@ same-self [] = refl
 same-self (x ∷ a) = rw (eq-eqb x x refl, same-self a)
 
 -- a bucket is one of those that there are
-spread-small : (bytes : List ℕ) (h : ℕ) → h < nameBuckets → spread h bytes < nameBuckets
-unfolding fold
-spread-small [] h l = l
-spread-small (x ∷ bytes) h l = spread-small bytes ((h * 31 + x) % nameBuckets) (omega arith)
-
 pub bucket-small : (key : ℕ) (bytes : List ℕ) → nameBucket key bytes < nameBuckets
 unfolding nameBucket
-bucket-small key bytes = spread-small bytes (key % nameBuckets) (omega arith)
+bucket-small key bytes = omega arith
 
--- a loop over a name's bytes by their places
+-- what was mixed has 32 bits
+pub spread-small : (bytes : List ℕ) (h : ℕ) → h < 4294967296 → spread h bytes < 4294967296
+unfolding fold
+spread-small [] h l = l
+spread-small (x ∷ bytes) h l = spread-small bytes ((h + x) * 2654435761 % 4294967296) (omega arith)
+
+-- a loop over bytes by their places
 module _ (bytes : List ℕ) where
-  pub spread-starts : (key : ℕ) → spread (key % nameBuckets) (drop 0 bytes) ≡ nameBucket key bytes
-  unfolding nameBucket
-  spread-starts key = refl
-
-  pub spread-turn : (h i : ℕ) → i < length bytes → spread h (drop i bytes) ≡ spread ((h * 31 + getD bytes i 0) % nameBuckets) (drop (i + 1) bytes)
-  spread-turn h i l = fold-turn (λ k byte. (k * 31 + byte) % nameBuckets) h (drop-turn bytes i 0 l)
+  pub spread-turn : (h i : ℕ) → i < length bytes → spread h (drop i bytes) ≡ spread ((h + getD bytes i 0) * 2654435761 % 4294967296) (drop (i + 1) bytes)
+  spread-turn h i l = fold-turn (λ k byte. (k + byte) * 2654435761 % 4294967296) h (drop-turn bytes i 0 l)
 
   pub spread-ends : (h i : ℕ) → length bytes ≤ i → spread h (drop i bytes) ≡ h
-  spread-ends h i l = fold-end (λ k byte. (k * 31 + byte) % nameBuckets) h (drop-of-length-le bytes l)
+  spread-ends h i l = fold-end (λ k byte. (k + byte) * 2654435761 % 4294967296) h (drop-of-length-le bytes l)
+
+  -- all of a short name is mixed in, and of a longer one its first bytes and then its last
+  pub ends-short : length bytes ≤ 16 → ends bytes ≡ bytes
+  ends-short l = rw (le-leb (length bytes) 16 l)
+
+  pub ends-long : (h : ℕ) → 16 < length bytes → spread (spread h (take 8 bytes)) (drop (length bytes - 8) bytes) ≡ spread h (ends bytes)
+  ends-long h l =
+      sym (rw (lt-leb (length bytes) 16 l) (fold-both (λ k byte. (k + byte) * 2654435761 % 4294967296) h (take 8 bytes) (drop (length bytes - 8) bytes)))
 
 module _ {A R : Type 0} (s : Sheet A R) (library : List ℕ) where
   -- a thing that has a key and a name has that key, and the bytes of that name

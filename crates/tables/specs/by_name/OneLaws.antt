@@ -4,13 +4,14 @@ use Prim.Native.Nat.{ℕ, _+_, _≤_}
 use mathlib.Core.Path.{_≡_, refl, sym, ap, subst, _∙_}
 use mathlib.Core.Bool.{Bool, true, false}
 use mathlib.Core.List.{List, _++_}
-use lib.ListN.{length, getD}
+use lib.ListN.{length}
 use Rattle.lent.specs.Lists.{one, any}
 use Rattle.tables.specs.declared.fill.Fill.{Fill}
 use Rattle.tables.specs.fill.FilledRows.{oneMore, putMore}
 use Rattle.tables.specs.by_name.NewestLaws.{newest-none, none-newest}
 use Rattle.tables.specs.by_name.Sheet.{Sheet, keyBuckets, keyBucket, isNamed, bucketOf}
-use Rattle.tables.specs.by_name.Tables.{followed, Table, table, headsWith, rowBy, Single, Tabled, Takes}
+use Rattle.tables.specs.by_name.Heads.{headAt, headsWith}
+use Rattle.tables.specs.by_name.Tables.{followed, Table, table, rowBy, Single, Tabled, Takes}
 use Rattle.tables.specs.by_name.Readable.{Reads}
 use Rattle.tables.specs.by_name.TableLaws.{table-over, table-found}
 use Rattle.tables.specs.by_name.GrowLaws.{table-adds, table-lacks}
@@ -29,11 +30,11 @@ module _ {A R : Type 0} (s : Sheet A R) (library : List ℕ) (reads : Reads s) (
 
   -- the code's numbers: the bucket of its key and name, the head there, and what was found from that on
   module _ (m heads : List ℕ) (f : Fill) (room : f .over ≡ false) (shared alike found : ℕ) (bucketed : shared ≡ bucketOf s library x)
-      (headed : alike ≡ getD heads (keyBuckets + shared) 0) (followed-by : found ≡ followed library (s .layout .width) m (s .key x) (s .name x) alike) where
-    to-head : alike ≡ getD heads (keyBuckets + bucketOf s library x) 0
-    to-head = headed ∙ ap (λ b. getD heads (keyBuckets + b) 0) bucketed
+      (headed : alike ≡ headAt heads (keyBuckets + shared)) (followed-by : found ≡ followed library (s .layout .width) m (s .key x) (s .name x) alike) where
+    to-head : alike ≡ headAt heads (keyBuckets + bucketOf s library x)
+    to-head = headed ∙ ap (λ b. headAt heads (keyBuckets + b)) bucketed
 
-    pub found-is : found ≡ followed library (s .layout .width) m (s .key x) (s .name x) (getD heads (keyBuckets + bucketOf s library x) 0)
+    pub found-is : found ≡ followed library (s .layout .width) m (s .key x) (s .name x) (headAt heads (keyBuckets + bucketOf s library x))
     found-is = followed-by ∙ ap (followed library (s .layout .width) m (s .key x) (s .name x)) to-head
 
     abbrev like : A → Bool
@@ -56,10 +57,10 @@ module _ {A R : Type 0} (s : Sheet A R) (library : List ℕ) (reads : Reads s) (
         (λ xs h. subst (λ ys. Tabled s library ys (table m heads f)) (sym (e xs (some z xs h))) h)
 
     -- it is new: there is room for its row, or there is none
-    module _ (z : found ≡ 0) (adds : (xs : List A) → any like xs ≡ false → step xs x ≡ xs ++ one x) (link : ℕ) (linked-to : link ≡ getD heads (keyBucket (s .key x)) 0)
+    module _ (z : found ≡ 0) (adds : (xs : List A) → any like xs ≡ false → step xs x ≡ xs ++ one x) (link : ℕ) (linked-to : link ≡ headAt heads (keyBucket (s .key x)))
         (m′ heads′ : List ℕ) (f′ : Fill) (put : m′ ≡ putMore (s .layout) f (s .row x link alike) m) (grown : f′ ≡ oneMore f (s .layout .width) (length m)) where
       put-row : m′ ≡ putMore (s .layout) f (rowBy s library heads x) m
-      put-row = put ∙ ap (λ r. putMore (s .layout) f r m) (ap (λ l. s .row x l alike) linked-to ∙ ap (s .row x (getD heads (keyBucket (s .key x)) 0)) to-head)
+      put-row = put ∙ ap (λ r. putMore (s .layout) f r m) (ap (λ l. s .row x l alike) linked-to ∙ ap (s .row x (headAt heads (keyBucket (s .key x)))) to-head)
 
       pub takes-new : f′ .over ≡ false → heads′ ≡ headsWith heads (s .key x) shared (f′ .rows) → Takes s library step (one x) (table m heads f) (table m′ heads′ f′)
       takes-new fits set-to =

@@ -2,13 +2,12 @@
 use Prim.Native.Nat.{ℕ}
 use mathlib.Core.Path.{_≡_}
 use mathlib.Core.List.{List}
-use lib.ListN.{getD}
 use Rattle.lent.specs.declared.part.Part.{Part}
 use Rattle.lent.specs.OneOutcome.{Determines, by-equation}
 use Rattle.lent.specs.Parts.{bytesOf}
 use Rattle.tables.specs.by_name.Sheet.{nameBucket}
-use Rattle.tables.specs.by_name.Tables.{followed, headsWith}
-use Rattle.tables.specs.by_name.Tags.{headedBy}
+use Rattle.tables.specs.by_name.Heads.{headAt, headsWith}
+use Rattle.tables.specs.by_name.Tables.{followed}
 
 pub find-one : (library : List ℕ) (width : ℕ) (m : List ℕ) (key : ℕ) (name : Part) (link : ℕ) → Determines (λ r. r ≡ followed library width m key name link)
 find-one library width m key name link = by-equation (followed library width m key name link)
@@ -16,11 +15,8 @@ find-one library width m key name link = by-equation (followed library width m k
 pub bucket-one : (library : List ℕ) (key : ℕ) (name : Part) → Determines (λ r. r ≡ nameBucket key (bytesOf library name))
 bucket-one library key name = by-equation (nameBucket key (bytesOf library name))
 
-pub head-at-one : (heads : List ℕ) (i : ℕ) → Determines (λ r. r ≡ getD heads i 0)
-head-at-one heads i = by-equation (getD heads i 0)
+pub head-at-one : (heads : List ℕ) (i : ℕ) → Determines (λ r. r ≡ headAt heads i)
+head-at-one heads i = by-equation (headAt heads i)
 
 pub set-heads-one : (heads : List ℕ) (key bucket number : ℕ) → Determines (λ after. after ≡ headsWith heads key bucket number)
 set-heads-one heads key bucket number = by-equation (headsWith heads key bucket number)
-
-pub head-rows-one : (library : List ℕ) (width : ℕ) (m heads : List ℕ) (n : ℕ) → Determines (λ exit. exit ≡ headedBy library width m heads n)
-head-rows-one library width m heads n = by-equation (headedBy library width m heads n)

@@ -1,11 +1,13 @@
 -- Tables of named things: each thing has a key and a name, and is kept as a row, in the order in which things
 -- came. A row has two links: to the newest earlier row in its key's bucket, and to the newest earlier row in
 -- the bucket of its key and name together.
-use Prim.Native.Nat.{ℕ, _+_, _*_, _%_}
+use Prim.Native.Nat.{ℕ, _+_, _-_, _*_, _/_, _%_}
 use mathlib.Core.Bool.{Bool, _&&_}
 use mathlib.Core.List.{List, [], _∷_, _++_}
-use lib.Dec.{eqb}
+use lib.Dec.{eqb, leb}
+use lib.ListN.{length, take, drop}
 use Rattle.lent.specs.declared.part.Part.{Part}
+use Rattle.lent.specs.Choice.{if_then_else_}
 use Rattle.lent.specs.Lists.{one, fold}
 use Rattle.lent.specs.Parts.{bytesOf, sameName}
 use Rattle.lent.specs.Rows.{Layout}
@@ -30,13 +32,17 @@ nameBuckets = 65536
 abbrev pub keyBucket : ℕ → ℕ
 keyBucket key = key % keyBuckets
 
--- a number h after the bytes of a name were mixed in, so that few names share a bucket
+-- a number h after bytes were mixed in, so that few names share a bucket: the factor is Knuth's for 32 bits
 abbrev pub spread : ℕ → List ℕ → ℕ
-spread h bytes = fold (λ k byte. (k * 31 + byte) % nameBuckets) h bytes
+spread h bytes = fold (λ k byte. (k + byte) * 2654435761 % 4294967296) h bytes
 
--- the bucket of a key and a name together
+-- the bytes of a name that tell its bucket: all of up to 16, and of more the first eight and the last eight
+abbrev pub ends : List ℕ → List ℕ
+ends bytes = if leb (length bytes) 16 then bytes else take 8 bytes ++ drop (length bytes - 8) bytes
+
+-- the bucket of a key and a name together: the keys of one name all have buckets of their own
 unfoldable pub nameBucket : ℕ → List ℕ → ℕ
-nameBucket key bytes = spread (key % nameBuckets) bytes
+nameBucket key bytes = (key % nameBuckets + spread (length bytes % nameBuckets) (ends bytes) / nameBuckets) % nameBuckets
 
 module _ {A R : Type 0} (s : Sheet A R) (library : List ℕ) where
   -- a thing has this key and name

@@ -1,34 +1,30 @@
 -- What a table of named things says: its rows, and which of them a link finds. Assumes nothing.
 use Prim.Native.Nat.{ℕ, zero, suc, _+_, _-_, _*_, _<_, _≤_}
 use mathlib.Core.Path.{_≡_, refl, sym, ap, fun-ext, _∙_}
-use mathlib.Core.Bool.{Bool, true, false, false≢true}
+use mathlib.Core.Bool.{Bool, true, false, not, false≢true}
 use mathlib.Core.List.{List, [], _∷_, _++_}
 use native.Mathlib.Nat.{mul-le-mul-right}
 use native.Mathlib.Omega.{arith}
-use borrow.Author.Tests.{eqb-true, eqb-false}
+use borrow.Author.Tests.{eqb-true, eqb-false, eq-eqb, ne-eqb}
 use lib.Dec.{eqb}
 use lib.ListN.{length, getD, take}
 use lib.Seq.{length-take-le, take-suc, take-take, take-all, getD-take}
 use Rattle.lent.specs.declared.part.Part.{Part}
-use Rattle.lent.specs.Lists.{joined, one}
+use Rattle.lent.specs.Lists.{joined, one, any}
 use Rattle.lent.specs.Parts.{bytesOf}
 use Rattle.lent.specs.Rows.{zeros, padded, cellOf, rowAt}
 use Rattle.lent.specs.RowLaws.{cell-filled}
 use Rattle.tables.specs.fill.FilledRowLaws.{none-filled}
 use Rattle.tables.specs.by_name.Newest.{newestFrom, newest}
-use Rattle.tables.specs.by_name.NewestLaws.{newest-room, newest-hit, newest-skip, newest-this, newest-before}
-use Rattle.tables.specs.by_name.Sheet.{Sheet, keyBuckets, nameBuckets, nameBucket, isNamed, inName, bucketOf, rowAfter, linkedFrom, linked}
+use Rattle.tables.specs.by_name.NewestLaws.{newest-room, newest-hit, newest-skip, newest-this, newest-before, newest-none, none-newest}
+use Rattle.tables.specs.by_name.Sheet.{Sheet, keyBuckets, nameBucket, isNamed, inName, bucketOf, rowAfter, linkedFrom, linked}
 use Rattle.tables.specs.by_name.SheetLaws.{linked-length, linked-at}
 use Rattle.tables.specs.by_name.NamedLaws.{bucket-small, named-bucket}
+use Rattle.tables.specs.by_name.Heads.{headAt, Blank}
+use Rattle.tables.specs.by_name.HeadLaws.{head-none}
 use Rattle.tables.specs.by_name.Tables.{rowIs, followedFor, followed, Table, Single, Tabled}
 use Rattle.tables.specs.by_name.FollowLaws.{follow-none, follow-hit, follow-on}
 use Rattle.tables.specs.by_name.Readable.{Reads}
-
--- heads that are zeros lead nowhere
-pub zeros-at : (n i : ℕ) → getD (zeros n) i 0 ≡ 0
-zeros-at zero i = refl
-zeros-at (suc n) zero = refl
-zeros-at (suc n) (suc i) = zeros-at n i
 
 module _ {A R : Type 0} (s : Sheet A R) (library : List ℕ) where
   -- ALL OF THEM: while there is room memory has the rows and then zeros; else there are too many
@@ -55,17 +51,19 @@ module _ {A R : Type 0} (s : Sheet A R) (library : List ℕ) where
     };
     headed = λ e. absurd (false≢true (sym e ∙ over));
     room = tabled .room;
+    fits = tabled .fits;
     single = single;
   }
 
   -- none yet: memory and heads are zeros
-  pub table-starts : (memory heads : List ℕ) → memory ≡ zeros (length memory) → keyBuckets + nameBuckets ≤ length heads → ((i : ℕ) → getD heads i 0 ≡ 0)
+  pub table-starts : (memory heads : List ℕ) → memory ≡ zeros (length memory) → Blank (length memory) heads
       → Tabled s library [] (record { memory = memory; heads = heads; fill = record { rows = 0; over = false } })
   unfolding newestFrom linkedFrom Single
-  table-starts memory heads z room none = record {
+  table-starts memory heads z blank = record {
     filling = none-filled (s .layout) memory z;
-    headed = λ e. record { by-key = λ b h. none b; by-name = λ b h. none (keyBuckets + b) };
-    room = room;
+    headed = λ e. record { by-key = λ b h. head-none heads b (blank .clear b); by-name = λ b h. head-none heads (keyBuckets + b) (blank .clear (keyBuckets + b)) };
+    room = blank .room;
+    fits = blank .fits;
     single = tt;
   }
 
@@ -172,21 +170,36 @@ module _ {A R : Type 0} (s : Sheet A R) (library : List ℕ) (reads : Reads s) w
               (rest next (link - 1) (omega (arith, link-room fuel link n within e z, within)) (leads fuel link n within e z)
               (omega (arith, less fuel link n within e z, enough)))
 
-      found : followed library (s .layout .width) (t .memory) key name (getD (t .heads) (keyBuckets + bucket) 0) ≡ newest (isNamed s library key name) xs
+      found : followed library (s .layout .width) (t .memory) key name (headAt (t .heads) (keyBuckets + bucket)) ≡ newest (isNamed s library key name) xs
       found =
           let head = tabled .headed room .by-name bucket (bucket-small key (bytesOf library name)) in
           let all = take-all (length xs) xs (omega arith) in
-          finds (getD (t .heads) (keyBuckets + bucket) 0) (getD (t .heads) (keyBuckets + bucket) 0) (length xs) (omega arith)
+          finds (headAt (t .heads) (keyBuckets + bucket)) (headAt (t .heads) (keyBuckets + bucket)) (length xs) (omega arith)
           (head ∙ ap (newest (inName s library bucket)) (sym all)) (omega arith)
           ∙ ap (newest (isNamed s library key name)) all
 
   -- THE WAY from the head of their bucket finds the newest with a key and a name
   pub table-found : (xs : List A) {t : Table} → Tabled s library xs t → t .fill .over ≡ false → (key : ℕ) (name : Part)
-      → followed library (s .layout .width) (t .memory) key name (getD (t .heads) (keyBuckets + nameBucket key (bytesOf library name)) 0)
+      → followed library (s .layout .width) (t .memory) key name (headAt (t .heads) (keyBuckets + nameBucket key (bytesOf library name)))
       ≡ newest (isNamed s library key name) xs
   unfolding newestFrom
   table-found [] {t} tabled room key name =
       let head = tabled .headed room .by-name (nameBucket key (bytesOf library name)) (bucket-small key (bytesOf library name)) in
-      follow-none library (s .layout .width) (t .memory) key name (getD (t .heads) (keyBuckets + nameBucket key (bytesOf library name)) 0)
-      (getD (t .heads) (keyBuckets + nameBucket key (bytesOf library name)) 0) head
+      follow-none library (s .layout .width) (t .memory) key name (headAt (t .heads) (keyBuckets + nameBucket key (bytesOf library name)))
+      (headAt (t .heads) (keyBuckets + nameBucket key (bytesOf library name))) head
   table-found (x ∷ xs) {t} tabled room key name = found x {xs = x ∷ xs} {t = t} tabled room key name
+
+-- THE ANSWER: something has this key and name exactly if the way from their bucket's head finds a row
+pub found-any : {A R : Type 0} (s : Sheet A R) (library : List ℕ) (reads : Reads s) (xs : List A) {t : Table} → Tabled s library xs t → t .fill .over ≡ false → (key : ℕ) (name : Part)
+    → any (isNamed s library key name) xs ≡ not (eqb (followed library (s .layout .width) (t .memory) key name (headAt (t .heads) (keyBuckets + nameBucket key (bytesOf library name)))) 0)
+found-any s library reads xs {t} tabled room key name = go (any (isNamed s library key name) xs) refl
+  where
+    link : ℕ
+    link = followed library (s .layout .width) (t .memory) key name (headAt (t .heads) (keyBuckets + nameBucket key (bytesOf library name)))
+
+    is : link ≡ newest (isNamed s library key name) xs
+    is = table-found s library reads xs {t = t} tabled room key name
+
+    go : (b : Bool) → any (isNamed s library key name) xs ≡ b → b ≡ not (eqb link 0)
+    go false e = ap not (sym (eq-eqb link 0 (is ∙ newest-none (isNamed s library key name) xs e)))
+    go true e = ap not (sym (ne-eqb link 0 (λ z. false≢true (sym (none-newest (isNamed s library key name) xs (sym is ∙ z)) ∙ e))))

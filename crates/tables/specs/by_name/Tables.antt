@@ -4,7 +4,7 @@ use mathlib.Core.Path.{_≡_}
 use mathlib.Core.Bool.{Bool, false, _&&_}
 use mathlib.Core.List.{List, [], _∷_}
 use lib.Dec.{eqb, ltb}
-use lib.ListN.{length, getD, set}
+use lib.ListN.{length}
 use Rattle.lent.specs.declared.part.Part.{Part}
 use Rattle.lent.specs.Choice.{if_then_else_}
 use Rattle.lent.specs.Lists.{any, fold}
@@ -14,6 +14,7 @@ use Rattle.tables.specs.declared.fill.Fill.{Fill}
 use Rattle.tables.specs.fill.FilledRows.{Filling}
 use Rattle.tables.specs.by_name.Newest.{newest}
 use Rattle.tables.specs.by_name.Sheet.{Sheet, keyBuckets, nameBuckets, keyBucket, isNamed, inKey, bucketOf, inName, linked}
+use Rattle.tables.specs.by_name.Heads.{headCount, headAt, headLimit}
 
 -- row j of the memory m has this key and name, as its first three numbers say
 abbrev pub rowIs : List ℕ → ℕ → List ℕ → ℕ → Part → ℕ → Bool
@@ -35,10 +36,6 @@ followedFor library width m key name (suc n) link =
 abbrev pub followed : List ℕ → ℕ → List ℕ → ℕ → Part → ℕ → ℕ
 followed library width m key name link = followedFor library width m key name link link
 
--- the heads after those of two buckets, one of each kind, were made links to a row
-abbrev pub headsWith : List ℕ → ℕ → ℕ → ℕ → List ℕ
-headsWith heads key bucket number = set (set heads (keyBucket key) number) (keyBuckets + bucket) number
-
 -- the memory lent for rows, the heads of the buckets (buckets of keys first), and how far the memory is filled
 pub record Table : Type 0 where
   pub memory : List ℕ
@@ -51,12 +48,12 @@ table memory heads fill = record { memory = memory; heads = heads; fill = fill }
 module _ {A R : Type 0} (s : Sheet A R) (library : List ℕ) where
   -- each head leads to the newest row of its bucket
   pub record Headed (xs : List A) (heads : List ℕ) : Type 0 where
-    pub by-key : (b : ℕ) → b < keyBuckets → getD heads b 0 ≡ newest (inKey s library b) xs
-    pub by-name : (b : ℕ) → b < nameBuckets → getD heads (keyBuckets + b) 0 ≡ newest (inName s library b) xs
+    pub by-key : (b : ℕ) → b < keyBuckets → headAt heads b ≡ newest (inKey s library b) xs
+    pub by-name : (b : ℕ) → b < nameBuckets → headAt heads (keyBuckets + b) ≡ newest (inName s library b) xs
 
   -- the row of one thing more, linked to where the heads lead
   abbrev pub rowBy : List ℕ → A → R
-  rowBy heads x = s .row x (getD heads (keyBucket (s .key x)) 0) (getD heads (keyBuckets + bucketOf s library x) 0)
+  rowBy heads x = s .row x (headAt heads (keyBucket (s .key x))) (headAt heads (keyBuckets + bucketOf s library x))
 
   -- no two have one key and one name
   unfoldable pub Single : List A → Type 0
@@ -67,7 +64,8 @@ module _ {A R : Type 0} (s : Sheet A R) (library : List ℕ) where
   pub record Tabled (xs : List A) (t : Table) : Type 0 where
     pub filling : Filling (s .layout) (linked s library xs) (t .memory) (t .fill)
     pub headed : t .fill .over ≡ false → Headed xs (t .heads)
-    pub room : keyBuckets + nameBuckets ≤ length (t .heads)
+    pub room : headCount ≤ length (t .heads)
+    pub fits : length (t .memory) < headLimit (length (t .heads))
     pub single : Single xs
 
   -- whatever things a table has, these are taken in one after another by a step

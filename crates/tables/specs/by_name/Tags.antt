@@ -1,14 +1,11 @@
--- What a search looks at in a row (its tag), and the heads that are made from rows.
-use Prim.Native.Nat.{ℕ, zero, suc, _+_, _-_, _/_, _≤_, _<_}
+-- What a search looks at in a row (its tag).
+use Prim.Native.Nat.{ℕ, _-_, _/_, _≤_, _<_}
 use mathlib.Core.Bool.{Bool, _&&_, not}
 use mathlib.Core.List.{List}
 use lib.Dec.{eqb}
 use lib.ListN.{length}
-use Rattle.lent.specs.Parts.{bytesOf}
 use Rattle.lent.specs.Rows.{cellOf}
 use Rattle.tables.specs.declared.by_name.Tag.{Tag}
-use Rattle.tables.specs.by_name.Sheet.{nameBucket}
-use Rattle.tables.specs.by_name.Tables.{headsWith}
 
 abbrev pub tagAt : ℕ → List ℕ → ℕ → Tag
 tagAt width m i = let n = cellOf width m i in record { key = n 0; name = record { at = n 1; len = n 2 }; next = n (width - 1) }
@@ -22,9 +19,3 @@ otherLength len wanted = not (eqb wanted 0) && not (eqb len wanted)
 pub record Whole (width : ℕ) (m : List ℕ) (rows : ℕ) : Type 0 where
   pub whole : rows ≤ length m / width
   pub wide : 0 < rows → 3 ≤ width
-
--- the heads after the first n rows in memory were gone over
-unfoldable pub headedBy : List ℕ → ℕ → List ℕ → List ℕ → ℕ → List ℕ
-headedBy library width m heads zero = heads
-headedBy library width m heads (suc n) =
-    let t = tagAt width m n in headsWith (headedBy library width m heads n) (t .key) (nameBucket (t .key) (bytesOf library (t .name))) (n + 1)

@@ -3,8 +3,9 @@ use Prim.Native.Nat.{ℕ, _+_, _<_, _≤_}
 use mathlib.Core.Path.{_≡_}
 use mathlib.Core.List.{List}
 use lib.Dec.{eqb}
-use lib.ListN.{length, getD}
+use lib.ListN.{length, getD, take}
 use Rattle.tables.specs.links.First.{firstIn, linkTo}
+use Rattle.tables.specs.links.Things.{keysOf, placesOf, nextOf}
 
 abbrev pub keyAt : List ℕ → ℕ → ℕ
 keyAt keys i = getD keys i 0
@@ -23,12 +24,18 @@ pub record LinkedIn (bound : ℕ) (keys : List ℕ) (i : ℕ) (first next : List
 abbrev pub Linked : List ℕ → ℕ → List ℕ → List ℕ → Type 0
 Linked keys i first next = LinkedIn 65536 keys i first next
 
--- tables that are long enough for these keys, and in which nothing is linked
-pub record Ready (keys first next : List ℕ) : Type 0 where
-  pub few : length keys < 4294967296
+-- the first n of these things can be linked: there are heads, and nothing is linked
+pub record Ready (things : List ℕ) (n : ℕ) (first : List ℕ) : Type 0 where
+  pub within : n ≤ length things
+  pub few : n < 268435456
   pub heads : 65536 ≤ length first
-  pub room : length keys ≤ length next
   pub clear : (key : ℕ) → key < 65536 → getD first key 0 ≡ 0
+
+-- of the first n things those from i on are linked, and all keys and places are as they were
+pub record LinkedThings (things₀ : List ℕ) (n i : ℕ) (things first : List ℕ) : Type 0 where
+  pub keys : keysOf things ≡ keysOf things₀
+  pub places : placesOf things ≡ placesOf things₀
+  pub linked : Linked (take n (keysOf things₀)) i first (nextOf things)
 
 -- the heads of the first n keys are 0, and all other heads are as they were
 pub record ClearedTo (keys : List ℕ) (n : ℕ) (before after : List ℕ) : Type 0 where

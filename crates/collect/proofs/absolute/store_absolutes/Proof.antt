@@ -1,14 +1,13 @@
 -- `store_absolutes` goes from link to link. Assumes nothing.
 use Prim.Native.Nat.{ℕ, _-_, _<_, _^_}
 use mathlib.Core.Path.{_≡_, refl, sym, ap, subst, _∙_}
-use mathlib.Core.Bool.{Bool}
 use mathlib.Core.List.{List, _++_}
 use native.Mathlib.Omega.{arith}
 use lib.ListN.{length}
 use Rattle.lent.specs.Lists.{one}
 use Rattle.image.specs.declared.fixup.Rules.{Rules}
 use Rattle.omf51.specs.Module.{Section, Module}
-use Rattle.segments.specs.Collect.{Collected, sectionsOf, absoluteId, absoluteSegment}
+use Rattle.segments.specs.Collect.{Collected, absoluteId, absoluteSegment}
 use Rattle.library.specs.items.Left.{fixupsLeft}
 use Rattle.library.specs.items.Contents.{nextContent}
 use Rattle.library.specs.items.ContentSizeLaws.{content-goes}
@@ -19,107 +18,109 @@ use Rattle.collect.specs.stored.Stores.{CollectLists, Stores, After, Sam
 use Rattle.collect.specs.stored.ProgressLaws.{same-lengths, lengths-on}
 use Rattle.collect.specs.stored.Segments.{lists, absoluteOf, publicsOf, ownBy}
 use Rattle.collect.specs.stored.SegmentLaws.{absolute-by}
-use Rattle.collect.specs.absolute.AbsoluteLaws.{Storing, absolutes-start, absolutes-on, absolutes-lack, absolutes-end}
+use Rattle.collect.specs.absolute.AbsoluteLaws.{Storing, flags-clear, flags-many, offered, absolutes-start, absolutes-on, absolutes-lack, absolutes-end}
 use Rattle.module_index.specs.gather.Places.{sectionIn, SectionIs}
-use Rattle.tables.specs.links.Follow.{Follows}
+use Rattle.tables.specs.links.Things.{placesOf, nextOf}
+use Rattle.tables.specs.links.ThingLaws.{next-small}
+use Rattle.collect.specs.declared.absolute.Absolutes.{Absolutes}
 use Rattle.segment_parts.specs.symbols_by_offset.Flags.{Clear}
 use Rattle.collect.specs.absolute.Absolute.{ByOffset}
 use borrow.Author.Needs.{needs}
 use Rattle.collect.proofs.absolute.store_absolutes.Statement.{statement}
 use Rattle.collect.proofs.absolute.store_absolutes.Tie as tie
 
-record Inv (library : List ℕ) (own : Bool) (number : ℕ) (table first next places keys : List ℕ) (n : ℕ)
-    (entries heads onward apart₀ flags₀ apart flags : List ℕ) (c₀ : CollectCounts) (l₀ l : CollectLists) (last here : ℕ) (c : CollectCounts) : Type 0 where
+record Inv (library : List ℕ) (a : Absolutes) (table contents definitions : List ℕ) (n : ℕ) (heads apart₀ apart flags : List ℕ) (c₀ : CollectCounts)
+    (l₀ l : CollectLists) (last here : ℕ) (c : CollectCounts) : Type 0 where
   long : SameLengths l₀ l
   apart-long : length apart ≡ length apart₀
-  flags-long : length flags ≡ length flags₀
+  flags-long : length flags ≡ 683
   clear : Clear flags
   small : here < 2 ^ 32
-  storing : (rules : Rules) (m : Module) (gs : List Collected) → own ≡ ownBy rules → ByOffset library m table first next places keys n entries heads onward flags₀ → Stores gs l₀ c₀
-      → Storing (SectionIs library places) next rules library m number gs last here l c
+  storing : (rules : Rules) (m : Module) (gs : List Collected) → a .own ≡ ownBy rules → ByOffset library m (a .link) table contents definitions n heads → Stores gs l₀ c₀
+      → Storing (SectionIs library (placesOf contents)) (nextOf contents) rules library m (a .number) gs last here l c
 
 abbrev Inv-loop : tie.InvT-loop
-Inv-loop library own number table first next places keys n entries heads onward segments₀ references₀ symbols₀ bytes₀ masks₀ apart₀ flags₀ last₀
-    here₀ c₀ segments references symbols bytes masks apart flags last here c =
-    Inv library own number table first next places keys n entries heads onward apart₀ flags₀ apart flags c₀
-    (lists segments₀ references₀ symbols₀ bytes₀ masks₀) (lists segments references symbols bytes masks) last here c
+Inv-loop library absolutes table contents definitions n heads segments₀ references₀ symbols₀ bytes₀ masks₀ apart₀ flags₀ last₀ here₀ c₀ segments
+    references symbols bytes masks apart flags last here c =
+    Inv library absolutes table contents definitions n heads apart₀ apart flags c₀ (lists segments₀ references₀ symbols₀ bytes₀ masks₀) (lists segments references symbols bytes masks) last here c
 
 abbrev μ-loop : tie.MeasureT-loop
-μ-loop library own number table first next places keys n entries heads onward segments₀ references₀ symbols₀ bytes₀ masks₀ apart₀ flags₀ last₀ here₀
-    c₀ segments references symbols bytes masks apart flags last here c = 2 ^ 32 - last
+μ-loop library absolutes table contents definitions n heads segments₀ references₀ symbols₀ bytes₀ masks₀ apart₀ flags₀ last₀ here₀ c₀ segments
+    references symbols bytes masks apart flags last here c = 2 ^ 32 - last
 
 -- The ladder: places of the code that the answers cite, each as it is seen from a later place.
-abbrev after-shared-slice-known4 : tie.After-slice-known7 Inv-loop μ-loop → tie.After-shared-slice-known4 Inv-loop μ-loop
-after-shared-slice-known4 c = c .before .before .before .before .before .before .before .before .before .before .before .before
+abbrev after-shared-slice-known : tie.After-struct-known Inv-loop μ-loop → tie.After-shared-slice-known Inv-loop μ-loop
+after-shared-slice-known c = c .before .before .before .before .before .before .before .before .before .before .before .before
 
 abbrev at-in-loop-from-enum-told : tie.After-enum-told Inv-loop μ-loop → tie.In-loop Inv-loop μ-loop
 at-in-loop-from-enum-told c = c .before .before .before .before
 
-abbrev after-content : tie.After-store-absolute-arg7 Inv-loop μ-loop → tie.After-content Inv-loop μ-loop
+abbrev after-content : tie.After-flags Inv-loop μ-loop → tie.After-content Inv-loop μ-loop
 after-content c = c .before .before .before .before .before .before .before .before
 
-abbrev at-in-loop-from-store-absolute-arg7 : tie.After-store-absolute-arg7 Inv-loop μ-loop → tie.In-loop Inv-loop μ-loop
-at-in-loop-from-store-absolute-arg7 c = after-content c .before .before .before .before
+abbrev at-in-loop-from-flags : tie.After-flags Inv-loop μ-loop → tie.In-loop Inv-loop μ-loop
+at-in-loop-from-flags c = after-content c .before .before .before .before
 
-abbrev at-entry : tie.After-store-absolute-arg7 Inv-loop μ-loop → tie.Start Inv-loop μ-loop
-at-entry c = after-shared-slice-known4 (at-in-loop-from-store-absolute-arg7 c .before .before .before) .before .before .before .before
+abbrev at-in-loop-from-store-absolute : tie.After-store-absolute Inv-loop μ-loop → tie.In-loop Inv-loop μ-loop
+at-in-loop-from-store-absolute c = at-in-loop-from-flags (c .before)
 
-abbrev at-loop : tie.After-store-absolute Inv-loop μ-loop → tie.At-loop Inv-loop μ-loop
-at-loop c = at-in-loop-from-store-absolute-arg7 (c .before) .before
+abbrev at-entry : tie.After-store-absolute Inv-loop μ-loop → tie.Start Inv-loop μ-loop
+at-entry c = after-shared-slice-known (at-in-loop-from-store-absolute c .before .before) .before
 
-abbrev after-store-absolute-from-slice-known14 : tie.After-slice-known14 Inv-loop μ-loop → tie.After-store-absolute Inv-loop μ-loop
-after-store-absolute-from-slice-known14 c = c .before .before .before .before .before .before .before .before .before .before .before .before .before .before
+abbrev after-store-absolute-from-flags2 : tie.After-flags2 Inv-loop μ-loop → tie.After-store-absolute Inv-loop μ-loop
+after-store-absolute-from-flags2 c = c .before .before .before .before .before .before .before .before .before .before .before .before .before
 
 abbrev after-store-absolute-from-enum-told2 : tie.After-enum-told2 Inv-loop μ-loop → tie.After-store-absolute Inv-loop μ-loop
-after-store-absolute-from-enum-told2 c = after-store-absolute-from-slice-known14 (c .before .before)
+after-store-absolute-from-enum-told2 c = after-store-absolute-from-flags2 (c .before .before)
 
 abbrev after-store-absolute-from-known-told2 : tie.After-known-told2 Inv-loop μ-loop → tie.After-store-absolute Inv-loop μ-loop
-after-store-absolute-from-known-told2 c = after-store-absolute-from-slice-known14 (c .before .before .before)
+after-store-absolute-from-known-told2 c = after-store-absolute-from-flags2 (c .before .before .before)
 
 -- once a content is stored: it is the one that stands there
 abbrev Kept : Type 0
 Kept = tie.After-store-absolute Inv-loop μ-loop
 
-stored-here : (c : Kept) (rules : Rules) (m : Module) (gs : List Collected) → at-entry (c .before) .args .own ≡ ownBy rules
-    → ByOffset (at-entry (c .before) .args .library .now) m (at-entry (c .before) .args .table .now) (at-entry (c .before) .args .first .now) (at-entry (c .before) .args .next .now)
-    (at-entry (c .before) .args .places .now) (at-entry (c .before) .args .keys .now) (at-entry (c .before) .args .n) (at-entry (c .before) .args .entries .now)
-    (at-entry (c .before) .args .heads .now) (at-entry (c .before) .args .onward .now) (at-entry (c .before) .args .flags .now)
-    → (s : Section) → SectionIs (at-entry (c .before) .args .library .now) (at-entry (c .before) .args .places .now) (at-loop c .loop .here - 1) s → Stores gs
-    (lists (at-loop c .loop .segments) (at-loop c .loop .references) (at-loop c .loop .symbols) (at-loop c .loop .bytes) (at-loop c .loop .masks)) (at-loop c .loop .c)
-    → After (gs ++ one (absoluteSegment rules (at-entry (c .before) .args .library .now) m (at-entry (c .before) .args .number) s))
-    (lists (c .store-absolute .last .1 .1 .1 .1 .1 .1 .1 .1 .1 .1 .1 .1 .0) (c .store-absolute .last .1 .1 .1 .1 .1 .1 .1 .1 .1 .1 .1 .1 .1 .0)
-    (c .store-absolute .last .1 .1 .1 .1 .1 .1 .1 .1 .1 .1 .1 .1 .1 .1 .0)
-    (c .store-absolute .last .1 .1 .1 .1 .1 .1 .1 .1 .1 .1 .1 .1 .1 .1 .1 .0) (c .store-absolute .last .1 .1 .1 .1 .1 .1 .1 .1 .1 .1 .1 .1 .1 .1 .1 .1 .0)) (c .store-absolute .result)
+stored-here : (c : Kept) (rules : Rules) (m : Module) (gs : List Collected) → at-entry c .args .absolutes .own ≡ ownBy rules
+    → ByOffset (at-entry c .args .library .now) m (at-entry c .args .absolutes .link) (at-entry c .args .table .now)
+    (at-entry c .args .contents .now) (at-entry c .args .publics .now) (at-entry c .args .n) (at-entry c .args .heads .now)
+    → (s : Section) → SectionIs (at-entry c .args .library .now) (placesOf (at-entry c .args .contents .now)) (at-in-loop-from-store-absolute c .before .loop .here - 1) s → Stores gs
+    (lists (at-in-loop-from-store-absolute c .before .loop .segments) (at-in-loop-from-store-absolute c .before .loop .references)
+    (at-in-loop-from-store-absolute c .before .loop .symbols) (at-in-loop-from-store-absolute c .before .loop .bytes)
+    (at-in-loop-from-store-absolute c .before .loop .masks)) (at-in-loop-from-store-absolute c .before .loop .c)
+    → After (gs ++ one (absoluteSegment rules (at-entry c .args .library .now) m (at-entry c .args .absolutes .number) s))
+    (lists (c .store-absolute .last .1 .1 .1 .1 .1 .1 .1 .0) (c .store-absolute .last .1 .1 .1 .1 .1 .1 .1 .1 .0)
+    (c .store-absolute .last .1 .1 .1 .1 .1 .1 .1 .1 .1 .0) (c .store-absolute .last .1 .1 .1 .1 .1 .1 .1 .1 .1 .1 .0)
+    (c .store-absolute .last .1 .1 .1 .1 .1 .1 .1 .1 .1 .1 .1 .0)) (c .store-absolute .result)
 stored-here c rules m gs o x s i stores =
     let content = after-content (c .before) in
-    let a = at-entry (c .before) .args in
+    let loop = at-in-loop-from-store-absolute c .before in
+    let a = at-entry c .args in
     let lib = a .library .now in
     let r = c .store-absolute in
-    let after = lists (r .last .1 .1 .1 .1 .1 .1 .1 .1 .1 .1 .1 .1 .0) (r .last .1 .1 .1 .1 .1 .1 .1 .1 .1 .1 .1 .1 .1 .0)
-    (r .last .1 .1 .1 .1 .1 .1 .1 .1 .1 .1 .1 .1 .1 .1 .0) (r .last .1 .1 .1 .1 .1 .1 .1 .1 .1 .1 .1 .1 .1 .1 .1 .0) (r .last .1 .1 .1 .1 .1 .1 .1 .1 .1 .1 .1 .1 .1 .1 .1 .1 .0) in
+    let after = lists (r .last .1 .1 .1 .1 .1 .1 .1 .0) (r .last .1 .1 .1 .1 .1 .1 .1 .1 .0) (r .last .1 .1 .1 .1 .1 .1 .1 .1 .1 .0)
+    (r .last .1 .1 .1 .1 .1 .1 .1 .1 .1 .1 .0) (r .last .1 .1 .1 .1 .1 .1 .1 .1 .1 .1 .1 .0) in
     let same = section-met lib (sym (content .before .before .next-content .ensures) ∙ content .content .given .1)
-    (ap (λ p. sectionIn lib (nextContent lib p)) (content .before .before .before .number-at2 .ensures) ∙ i) in
-    let p = x .publics in
+    (ap (λ p. sectionIn lib (nextContent lib p)) (content .before .before .before .place-at .ensures) ∙ i) in
     subst (λ g. After (gs ++ one g) after (r .result))
-    (ap (λ own. absoluteOf lib (m .definitions) (a .number) own (content .content .given .0 .0) (fixupsLeft lib (content .content .given .0 .1 .0))
-    (publicsOf m absoluteId)) o ∙ sym (absolute-by rules lib m (a .number) _) ∙ ap (absoluteSegment rules lib m (a .number)) same)
+    (ap (λ own. absoluteOf lib (m .definitions) (a .absolutes .number) own (content .content .given .0 .0) (fixupsLeft lib (content .content .given .0 .1 .0))
+    (publicsOf m absoluteId)) o ∙ sym (absolute-by rules lib m (a .absolutes .number) _) ∙ ap (absoluteSegment rules lib m (a .absolutes .number)) same)
     (r .ensures .extends (m .definitions) (publicsOf m absoluteId) (x .tells)
-    (record { standing = p .standing; linked = p .linked; wide = omega (arith, p .wide, at-loop c .loop .inv .flags-long) }) gs stores)
+    (offered (loop .loop .flags) (loop .loop .inv .flags-long) (at-entry c .pre .1 .1) x) gs stores)
 
 loop-holds : tie.Need-loop-holds Inv-loop μ-loop
 loop-holds c =
-    let entry = after-shared-slice-known4 (c .before) .before .before .before .before in
+    let entry = after-shared-slice-known c .before in
     let a = entry .args in
     let lib = a .library .now in
     let l = lists (a .segments .now) (a .references .now) (a .symbols .now) (a .bytes .now) (a .masks .now) in
     record {
       long = same-lengths l;
       apart-long = refl;
-      flags-long = refl;
-      clear = entry .pre .1 .1;
-      small = rw (c .number-at .ensures) (omega (arith, after-shared-slice-known4 (c .before) .before .shared-slice-known3 .given 0));
-      storing = λ rules m gs o x s. absolutes-start (SectionIs lib (a .places .now)) (a .next .now) rules lib m (a .number) gs
-          (subst (λ k. Follows (SectionIs lib (a .places .now)) (a .next .now) 0 k (sectionsOf m absoluteId)) (sym (c .number-at .ensures)) (x .sections 0 (omega arith))) s;
+      flags-long = flags-many (c .before .block-flags .ensures);
+      clear = flags-clear (c .before .block-flags .ensures);
+      small = omega (arith, entry .fits);
+      storing = λ rules m gs o x s. absolutes-start (SectionIs lib (placesOf (a .contents .now))) (nextOf (a .contents .now)) rules lib m (a .absolutes .number) gs
+          (x .sections) s;
     }
 
 same-length : tie.Need-same-length Inv-loop μ-loop
@@ -140,34 +141,32 @@ same-length-5 c = at-in-loop-from-enum-told c .before .loop .inv .long .masks
 same-length-6 : tie.Need-same-length-6 Inv-loop μ-loop
 same-length-6 c = at-in-loop-from-enum-told c .before .loop .inv .apart-long
 
-same-length-7 : tie.Need-same-length-7 Inv-loop μ-loop
-same-length-7 c = at-in-loop-from-enum-told c .before .loop .inv .flags-long
-
 returns : tie.Need-returns Inv-loop μ-loop
 returns c =
-    let a = after-shared-slice-known4 (at-in-loop-from-enum-told c .before .before .before) .before .before .before .before .args in
+    let a = after-shared-slice-known (at-in-loop-from-enum-told c .before .before) .before .args in
     let lib = a .library .now in
     let l = at-in-loop-from-enum-told c .before .loop in
     record {
       long = l .inv .long;
       apart-long = l .inv .apart-long;
-      flags-long = l .inv .flags-long;
-      clear = l .inv .clear;
       extends = λ rules m o x gs s.
           let w = l .inv .storing rules m gs o x s in
           none-met lib (sym (c .before .before .next-content .ensures) ∙ c .enum-told .given .1)
-          (ap (λ p. sectionIn lib (nextContent lib p)) (c .before .before .before .number-at2 .ensures) ∙ follows-step
-          (SectionIs lib (a .places .now)) (a .next .now) (l .last) (l .here) (w .left) (omega arith) (w .follows) .stands);
+          (ap (λ p. sectionIn lib (nextContent lib p)) (c .before .before .before .place-at .ensures) ∙ follows-step
+          (SectionIs lib (placesOf (a .contents .now))) (nextOf (a .contents .now)) (l .last) (l .here) (w .left) (omega arith) (w .follows) .stands);
     }
+
+slice-aggregate-store-absolute : tie.Need-slice-aggregate-store-absolute Inv-loop μ-loop
+slice-aggregate-store-absolute c = sym (at-in-loop-from-flags c .before .loop .inv .flags-long)
 
 store-absolute-requires : tie.Need-store-absolute-requires Inv-loop μ-loop
 store-absolute-requires c κs =
     let content = after-content c in
-    let shared-slice-known = after-shared-slice-known4 (at-in-loop-from-store-absolute-arg7 c .before .before .before) .before .before .before in
+    let shared-slice-known = after-shared-slice-known (at-in-loop-from-flags c .before .before) in
     let entry = shared-slice-known .before in
     let a = entry .args in
-    let l = at-in-loop-from-store-absolute-arg7 c .before .loop in
-    let g = content-goes (a .library .now) (content .before .before .before .number-at2 .result) (sym (content .before .before .next-content .ensures) ∙ content .content .given .1) in (
+    let l = at-in-loop-from-flags c .before .loop in
+    let g = content-goes (a .library .now) (content .before .before .before .place-at .result) (sym (content .before .before .next-content .ensures) ∙ content .content .given .1) in (
       entry .pre .0,
       (
         omega (arith, l .inv .apart-long, entry .pre .1 .0),
@@ -182,109 +181,105 @@ store-absolute-requires c κs =
       ),
     )
 
+same-length-7 : tie.Need-same-length-7 Inv-loop μ-loop
+same-length-7 c = after-store-absolute-from-enum-told2 c .store-absolute .ensures .long .segments ∙
+    at-in-loop-from-store-absolute (after-store-absolute-from-enum-told2 c) .before .loop .inv .long .segments
+
 same-length-8 : tie.Need-same-length-8 Inv-loop μ-loop
-same-length-8 c = after-store-absolute-from-enum-told2 c .store-absolute .ensures .long .segments ∙ at-loop (after-store-absolute-from-enum-told2 c) .loop .inv .long .segments
+same-length-8 c = after-store-absolute-from-enum-told2 c .store-absolute .ensures .long .references ∙
+    at-in-loop-from-store-absolute (after-store-absolute-from-enum-told2 c) .before .loop .inv .long .references
 
 same-length-9 : tie.Need-same-length-9 Inv-loop μ-loop
-same-length-9 c = after-store-absolute-from-enum-told2 c .store-absolute .ensures .long .references ∙ at-loop (after-store-absolute-from-enum-told2 c) .loop .inv .long .references
+same-length-9 c = after-store-absolute-from-enum-told2 c .store-absolute .ensures .long .symbols ∙
+    at-in-loop-from-store-absolute (after-store-absolute-from-enum-told2 c) .before .loop .inv .long .symbols
 
 same-length-10 : tie.Need-same-length-10 Inv-loop μ-loop
-same-length-10 c = after-store-absolute-from-enum-told2 c .store-absolute .ensures .long .symbols ∙ at-loop (after-store-absolute-from-enum-told2 c) .loop .inv .long .symbols
+same-length-10 c = after-store-absolute-from-enum-told2 c .store-absolute .ensures .long .bytes ∙
+    at-in-loop-from-store-absolute (after-store-absolute-from-enum-told2 c) .before .loop .inv .long .bytes
 
 same-length-11 : tie.Need-same-length-11 Inv-loop μ-loop
-same-length-11 c = after-store-absolute-from-enum-told2 c .store-absolute .ensures .long .bytes ∙ at-loop (after-store-absolute-from-enum-told2 c) .loop .inv .long .bytes
+same-length-11 c = after-store-absolute-from-enum-told2 c .store-absolute .ensures .long .masks ∙
+    at-in-loop-from-store-absolute (after-store-absolute-from-enum-told2 c) .before .loop .inv .long .masks
 
 same-length-12 : tie.Need-same-length-12 Inv-loop μ-loop
-same-length-12 c = after-store-absolute-from-enum-told2 c .store-absolute .ensures .long .masks ∙ at-loop (after-store-absolute-from-enum-told2 c) .loop .inv .long .masks
-
-same-length-13 : tie.Need-same-length-13 Inv-loop μ-loop
-same-length-13 c = after-store-absolute-from-enum-told2 c .store-absolute .ensures .apart-long ∙ at-loop (after-store-absolute-from-enum-told2 c) .loop .inv .apart-long
-
-same-length-14 : tie.Need-same-length-14 Inv-loop μ-loop
-same-length-14 c = after-store-absolute-from-enum-told2 c .store-absolute .ensures .flags-long ∙ at-loop (after-store-absolute-from-enum-told2 c) .loop .inv .flags-long
+same-length-12 c = after-store-absolute-from-enum-told2 c .store-absolute .ensures .apart-long ∙ at-in-loop-from-store-absolute (after-store-absolute-from-enum-told2 c) .before .loop .inv .apart-long
 
 returns-2 : tie.Need-returns-2 Inv-loop μ-loop
 returns-2 c =
     let store-absolute = after-store-absolute-from-enum-told2 c in
-    let a = at-entry (store-absolute .before) .args in
+    let in-loop = at-in-loop-from-store-absolute store-absolute in
+    let a = at-entry store-absolute .args in
     let lib = a .library .now in
-    let l = at-loop store-absolute .loop in
+    let l = in-loop .before .loop in
     let s = store-absolute .store-absolute in
     let now-lists = lists (l .segments) (l .references) (l .symbols) (l .bytes) (l .masks) in
-    let after = lists (s .last .1 .1 .1 .1 .1 .1 .1 .1 .1 .1 .1 .1 .0) (s .last .1 .1 .1 .1 .1 .1 .1 .1 .1 .1 .1 .1 .1 .0)
-    (s .last .1 .1 .1 .1 .1 .1 .1 .1 .1 .1 .1 .1 .1 .1 .0) (s .last .1 .1 .1 .1 .1 .1 .1 .1 .1 .1 .1 .1 .1 .1 .1 .0) (s .last .1 .1 .1 .1 .1 .1 .1 .1 .1 .1 .1 .1 .1 .1 .1 .1 .0) in
+    let after = lists (s .last .1 .1 .1 .1 .1 .1 .1 .0) (s .last .1 .1 .1 .1 .1 .1 .1 .1 .0) (s .last .1 .1 .1 .1 .1 .1 .1 .1 .1 .0)
+    (s .last .1 .1 .1 .1 .1 .1 .1 .1 .1 .1 .0) (s .last .1 .1 .1 .1 .1 .1 .1 .1 .1 .1 .1 .0) in
     record {
       long = lengths-on (l .inv .long) (s .ensures .long);
       apart-long = s .ensures .apart-long ∙ l .inv .apart-long;
-      flags-long = s .ensures .flags-long ∙ l .inv .flags-long;
-      clear = s .ensures .clear;
-      extends = λ rules m o x gs stores. absolutes-lack (SectionIs lib (a .places .now)) (a .next .now) rules lib m (a .number) gs (l .last)
-          (l .here) now-lists after (l .c) (s .result) (omega (arith, at-in-loop-from-store-absolute-arg7 (store-absolute .before) .loop-test .taken)) (l .inv .storing rules m gs o x stores)
+      extends = λ rules m o x gs stores. absolutes-lack (SectionIs lib (placesOf (a .contents .now))) (nextOf (a .contents .now)) rules lib m (a .absolutes .number) gs (l .last)
+          (l .here) now-lists after (l .c) (s .result) (omega (arith, in-loop .loop-test .taken)) (l .inv .storing rules m gs o x stores)
           (λ section i hs t. stored-here store-absolute rules m hs o x section i t) (c .enum-told2 .given .1);
     }
 
-sub-number-at-2 : tie.Need-sub-number-at-2 Inv-loop μ-loop
-sub-number-at-2 c = omega (arith, at-in-loop-from-store-absolute-arg7 (after-store-absolute-from-known-told2 c .before) .loop-test .taken)
+sub-next-at : tie.Need-sub-next-at Inv-loop μ-loop
+sub-next-at c = omega (arith, at-in-loop-from-store-absolute (after-store-absolute-from-known-told2 c) .loop-test .taken)
 
 loop-less : tie.Need-loop-less Inv-loop μ-loop
 loop-less c =
-    let store-absolute = after-store-absolute-from-known-told2 (c .before) in
-    omega (arith, at-loop store-absolute .loop .inv .small, at-in-loop-from-store-absolute-arg7 (store-absolute .before) .loop-test .taken)
+    let in-loop = at-in-loop-from-store-absolute (after-store-absolute-from-known-told2 (c .before)) in
+    omega (arith, in-loop .before .loop .inv .small, in-loop .loop-test .taken)
 
 loop-again : tie.Need-loop-again Inv-loop μ-loop
 loop-again c =
     let store-absolute = after-store-absolute-from-known-told2 (c .before) in
-    let loop = at-loop store-absolute in
-    let a = at-entry (store-absolute .before) .args in
+    let in-loop = at-in-loop-from-store-absolute store-absolute in
+    let a = at-entry store-absolute .args in
     let lib = a .library .now in
-    let l = loop .loop in
+    let l = in-loop .before .loop in
     let s = store-absolute .store-absolute in
     let now-lists = lists (l .segments) (l .references) (l .symbols) (l .bytes) (l .masks) in
-    let after = lists (s .last .1 .1 .1 .1 .1 .1 .1 .1 .1 .1 .1 .1 .0) (s .last .1 .1 .1 .1 .1 .1 .1 .1 .1 .1 .1 .1 .1 .0)
-    (s .last .1 .1 .1 .1 .1 .1 .1 .1 .1 .1 .1 .1 .1 .1 .0) (s .last .1 .1 .1 .1 .1 .1 .1 .1 .1 .1 .1 .1 .1 .1 .1 .0) (s .last .1 .1 .1 .1 .1 .1 .1 .1 .1 .1 .1 .1 .1 .1 .1 .1 .0) in
+    let after = lists (s .last .1 .1 .1 .1 .1 .1 .1 .0) (s .last .1 .1 .1 .1 .1 .1 .1 .1 .0) (s .last .1 .1 .1 .1 .1 .1 .1 .1 .1 .0)
+    (s .last .1 .1 .1 .1 .1 .1 .1 .1 .1 .1 .0) (s .last .1 .1 .1 .1 .1 .1 .1 .1 .1 .1 .1 .0) in
     record {
       long = lengths-on (l .inv .long) (s .ensures .long);
       apart-long = s .ensures .apart-long ∙ l .inv .apart-long;
       flags-long = s .ensures .flags-long ∙ l .inv .flags-long;
       clear = s .ensures .clear;
-      small = rw (c .number-at3 .ensures) (omega (arith, after-shared-slice-known4 (loop .before .before) .shared-slice-known4 .given (l .here - 1)));
-      storing = λ rules m gs o x stores. rw (c .number-at3 .ensures)
-          (absolutes-on (SectionIs lib (a .places .now)) (a .next .now) rules lib m (a .number) gs (l .last) (l .here) now-lists after (l .c)
-          (s .result) (omega (arith, at-in-loop-from-store-absolute-arg7 (store-absolute .before) .loop-test .taken)) (l .inv .storing rules m gs o x stores)
+      small = rw (c .next-at .ensures) (omega (arith, next-small (a .contents .now) (l .here - 1)));
+      storing = λ rules m gs o x stores. rw (c .next-at .ensures)
+          (absolutes-on (SectionIs lib (placesOf (a .contents .now))) (nextOf (a .contents .now)) rules lib m (a .absolutes .number) gs (l .last) (l .here) now-lists after (l .c)
+          (s .result) (omega (arith, in-loop .loop-test .taken)) (l .inv .storing rules m gs o x stores)
           (λ section i hs t. stored-here store-absolute rules m hs o x section i t) (c .before .before .stored .given .1));
     }
 
+same-length-13 : tie.Need-same-length-13 Inv-loop μ-loop
+same-length-13 c = c .before .loop .inv .long .segments
+
+same-length-14 : tie.Need-same-length-14 Inv-loop μ-loop
+same-length-14 c = c .before .loop .inv .long .references
+
 same-length-15 : tie.Need-same-length-15 Inv-loop μ-loop
-same-length-15 c = c .before .loop .inv .long .segments
+same-length-15 c = c .before .loop .inv .long .symbols
 
 same-length-16 : tie.Need-same-length-16 Inv-loop μ-loop
-same-length-16 c = c .before .loop .inv .long .references
+same-length-16 c = c .before .loop .inv .long .bytes
 
 same-length-17 : tie.Need-same-length-17 Inv-loop μ-loop
-same-length-17 c = c .before .loop .inv .long .symbols
+same-length-17 c = c .before .loop .inv .long .masks
 
 same-length-18 : tie.Need-same-length-18 Inv-loop μ-loop
-same-length-18 c = c .before .loop .inv .long .bytes
-
-same-length-19 : tie.Need-same-length-19 Inv-loop μ-loop
-same-length-19 c = c .before .loop .inv .long .masks
-
-same-length-20 : tie.Need-same-length-20 Inv-loop μ-loop
-same-length-20 c = c .before .loop .inv .apart-long
-
-same-length-21 : tie.Need-same-length-21 Inv-loop μ-loop
-same-length-21 c = c .before .loop .inv .flags-long
+same-length-18 c = c .before .loop .inv .apart-long
 
 returns-3 : tie.Need-returns-3 Inv-loop μ-loop
 returns-3 c =
-    let a = after-shared-slice-known4 (c .before .before .before) .before .before .before .before .args in
+    let a = after-shared-slice-known (c .before .before) .before .args in
     let l = c .before .loop in
     record {
       long = l .inv .long;
       apart-long = l .inv .apart-long;
-      flags-long = l .inv .flags-long;
-      clear = l .inv .clear;
-      extends = λ rules m o x gs s. absolutes-end (SectionIs (a .library .now) (a .places .now)) (a .next .now) rules (a .library .now) m (a .number)
+      extends = λ rules m o x gs s. absolutes-end (SectionIs (a .library .now) (placesOf (a .contents .now))) (nextOf (a .contents .now)) rules (a .library .now) m (a .absolutes .number)
           gs (l .last) (l .here) (omega arith) (l .inv .storing rules m gs o x s);
     }
 
@@ -295,6 +290,7 @@ store-absolutes-spec =
     Inv-loop
     μ-loop
     (λ c κs. search needs)
+    (λ c. search needs)
     loop-holds
     (λ c. search needs)
     (λ c κs. search needs)
@@ -307,28 +303,26 @@ store-absolutes-spec =
     same-length-4
     same-length-5
     same-length-6
-    same-length-7
     returns
+    slice-aggregate-store-absolute
     store-absolute-requires
     (λ c. search needs)
     (λ c. search needs)
+    same-length-7
     same-length-8
     same-length-9
     same-length-10
     same-length-11
     same-length-12
-    same-length-13
-    same-length-14
     returns-2
-    sub-number-at-2
+    sub-next-at
     (λ c κs. search needs)
     loop-less
     loop-again
+    same-length-13
+    same-length-14
     same-length-15
     same-length-16
     same-length-17
     same-length-18
-    same-length-19
-    same-length-20
-    same-length-21
     returns-3)

@@ -55,12 +55,12 @@ returns c =
     let after = lists (a .segments .now) (a .references .now) (a .symbols .now) (a .bytes .now) (a .masks .now) in
     let modules = itemsAt lib (moduleAt lib) (a .from) in
     record {
-      concludes = λ rules l n s. lacks-is rules lib modules l after (entry .pre .1) n
+      concludes = λ rules l n s. lacks-is rules lib modules l after (entry .pre .short) n
           (subst (After (collect rules lib modules) after) (clear-all .before .before .before .before .before .before .enum-told .given .1) s) (clear-all .clear-all .ensures);
     }
 
 scan-requires : tie.Need-scan-requires
-scan-requires c κs = at-entry c .pre .0
+scan-requires c κs = at-entry c .pre
 
 same-length-6 : tie.Need-same-length-6
 same-length-6 c = after-table c .table .given
@@ -90,7 +90,7 @@ returns-2 c =
     let after = lists (a .segments .now) (a .references .now) (a .symbols .now) (a .bytes .now) (a .masks .now) in
     let modules = itemsAt lib (moduleAt lib) (a .from) in
     record {
-      concludes = λ rules l n s. refused-is rules lib modules l after (entry .pre .1) n
+      concludes = λ rules l n s. refused-is rules lib modules l after (entry .pre .short) n
           (subst (After (collect rules lib modules) after) (table .before .before .before .before .stored .given .1) s)
           (told {o = collectRefusal modules} (sym (table .before .scan .ensures .says) ∙
           segments2 .before .before .before .before .before .before .before .before .verdict .given .1)) (segments2 .before .clear-all2 .ensures);
@@ -107,7 +107,7 @@ returns-3 c =
     let after = lists (a .segments .now) (a .references .now) (a .symbols .now) (a .bytes .now) (a .masks .now) in
     let modules = itemsAt lib (moduleAt lib) (a .from) in
     record {
-      concludes = λ rules l n s. done-is rules lib modules l after (entry .pre .1) n
+      concludes = λ rules l n s. done-is rules lib modules l after (entry .pre .short) n
           (subst (After (collect rules lib modules) after) (c .before .before .before .before .before .before .before .stored .given .1) s)
           (told {o = collectRefusal modules} (sym (c .before .before .before .before .scan .ensures .says) ∙ c .enum-told2 .given .1));
     }

@@ -51,7 +51,10 @@ store-requires c κs =
     (omega (arith, id-table .before .if1 .left), (table-tells (id-table .id-table .ensures), zeroed-stores l (after-segments c .before .clear-all .ensures)))
 
 conclude-requires : tie.Need-conclude-requires
-conclude-requires c κs = (after-segments2 c .before .before .store .ensures .tells, omega (arith, after-id-table (after-segments2 c .before .before .before) .before .if1 .left))
+conclude-requires c κs = record {
+  short = omega (arith, after-id-table (after-segments2 c .before .before .before) .before .if1 .left);
+  clear = after-segments2 c .before .before .store .ensures .tells;
+}
 
 same-length : tie.Need-same-length
 same-length c = after-references3 c .before .before .segments3 .given ∙ after-segments2 (after-conclude c .before) .segments2 .given ∙ after-segments (after-store c .before) .segments .given

@@ -1,23 +1,32 @@
 -- `store` takes small tables or large ones. Assumes nothing.
 use native.Mathlib.Omega.{arith}
+use Rattle.collect.specs.ZeroLaws.{zeros-size}
+use borrow.Author.Needs.{needs}
 use Rattle.collect.proofs.entry.store.Statement.{statement}
 use Rattle.collect.proofs.entry.store.Tie as tie
 
 -- The ladder: places of the code that the answers cite, each as it is seen from a later place.
+abbrev after-few-publics : tie.After-store-in-arg6 → tie.After-few-publics
+after-few-publics c = c .before .before .before .before .before .before .before .before
+
+abbrev after-many-publics : tie.After-store-in-arg12 → tie.After-many-publics
+after-many-publics c = c .before .before .before .before .before .before .before .before
+
 abbrev after-references : tie.After-slice-known12 → tie.After-references
 after-references c = c .before .before .before .before .before .before .before
 
 abbrev after-references2 : tie.After-slice-known18 → tie.After-references2
 after-references2 c = c .before .before .before .before .before .before .before
 
-store-short-requires : tie.Need-store-short-requires
-store-short-requires c κs = (
-  omega (arith, c .before .before .before .before .before .before .if1 .taken),
-  c .before .before .before .before .before .before .before .before .before .before .before .before .before .before .pre .1,
-)
+store-in-requires : tie.Need-store-in-requires
+store-in-requires c κs =
+    let few-publics = after-few-publics c in
+    let p = few-publics .before .before .before .before .before .before .before .before .before .before .pre in
+    let h = few-publics .before .before .if1 .taken in
+    (zeros-size 9363 10923 (few-publics .before .few-contents .ensures) (few-publics .few-publics .ensures) (p .0) (omega (arith, h)) (omega (arith, h)) (omega arith) (omega arith), p .1)
 
 same-length : tie.Need-same-length
-same-length c = after-references c .before .before .before .before .table .given
+same-length c = after-references c .before .before .before .before .before .before .table .given
 
 same-length-2 : tie.Need-same-length-2
 same-length-2 c = after-references c .before .before .segments .given
@@ -35,13 +44,17 @@ same-length-6 : tie.Need-same-length-6
 same-length-6 c = c .before .masks .given
 
 returns : tie.Need-returns
-returns c = after-references c .before .before .before .before .before .store-short .ensures
+returns c = after-references c .before .before .before .before .before .before .before .store-in .ensures
 
-store-long-requires : tie.Need-store-long-requires
-store-long-requires c κs = c .before .before .before .before .before .before .before .before .before .before .before .before .before .before .pre
+store-in-requires-2 : tie.Need-store-in-requires-2
+store-in-requires-2 c κs =
+    let many-publics = after-many-publics c in
+    let p = many-publics .before .before .before .before .before .before .before .before .before .before .pre in
+    let h = p .0 in
+    (zeros-size 149797 174763 (many-publics .before .many-contents .ensures) (many-publics .many-publics .ensures) h (omega (arith, h)) (omega (arith, h)) (omega arith) (omega arith), p .1)
 
 same-length-7 : tie.Need-same-length-7
-same-length-7 c = after-references2 c .before .before .before .before .table2 .given
+same-length-7 c = after-references2 c .before .before .before .before .before .before .table2 .given
 
 same-length-8 : tie.Need-same-length-8
 same-length-8 c = after-references2 c .before .before .segments2 .given
@@ -59,13 +72,17 @@ same-length-12 : tie.Need-same-length-12
 same-length-12 c = c .before .masks2 .given
 
 returns-2 : tie.Need-returns-2
-returns-2 c = after-references2 c .before .before .before .before .before .store-long .ensures
+returns-2 c = after-references2 c .before .before .before .before .before .before .before .store-in2 .ensures
 
 pub store-spec : {M : Type 1} → statement M
 store-spec =
     tie.close
     (tie.spec
-    store-short-requires
+    (λ c κs. search needs)
+    (λ c κs. search needs)
+    (λ c. search needs)
+    (λ c. search needs)
+    store-in-requires
     same-length
     same-length-2
     same-length-3
@@ -73,7 +90,11 @@ store-spec =
     same-length-5
     same-length-6
     returns
-    store-long-requires
+    (λ c κs. search needs)
+    (λ c κs. search needs)
+    (λ c. search needs)
+    (λ c. search needs)
+    store-in-requires-2
     same-length-7
     same-length-8
     same-length-9

@@ -1,75 +1,103 @@
 -- `store_keeps` goes from definition to definition. Assumes nothing.
-use Prim.Native.Nat.{ℕ, _-_}
+use Prim.Native.Nat.{ℕ, _-_, _<_}
 use mathlib.Core.Path.{_≡_, refl, sym, ap, subst, _∙_}
 use mathlib.Core.List.{List, _∷_}
 use native.Mathlib.Omega.{arith}
 use lib.ListN.{length}
 use denote.Ref.{now}
+use Rattle.lent.specs.declared.part.Part.{Part}
+use Rattle.lent.specs.Lists.{one}
 use Rattle.omf51.specs.Module.{Module, definitionsAt}
 use Rattle.library.specs.Gathered.{itemsAt}
 use Rattle.library.specs.declared.items.Cursor.{Cursor}
 use Rattle.library.specs.items.Left.{definitionsLeft}
 use Rattle.library.specs.items.Yields.{definitionsAfter, next-definition-yields, definitions-start}
-use Rattle.segments.specs.Collect.{Collected}
+use Rattle.segments.specs.Ids.{kept}
+use Rattle.segments.specs.Collect.{Collected, keptSegment}
 use Rattle.module_index.specs.Indexed.{Indexed}
 use Rattle.collect.specs.declared.stored.CollectCounts.{CollectCounts}
-use Rattle.collect.specs.stored.Stores.{CollectLists, Stores, SameLengths}
+use Rattle.collect.specs.stored.Stores.{CollectLists, Stores, Extends, SameLengths}
 use Rattle.collect.specs.stored.StoreLaws.{stored-count}
 use Rattle.collect.specs.stored.Progress.{Progress}
 use Rattle.collect.specs.stored.ProgressLaws.{progress-starts, progress-ends, same-lengths, lengths-on}
 use Rattle.collect.specs.stored.Segments.{lists}
-use Rattle.collect.specs.kept.Kept.{keptSegments}
-use Rattle.collect.specs.kept.KeptLaws.{keptRest, rest-passed, rest-none, keeps-on, keeps-lack, keeps-start}
+use Rattle.collect.specs.kept.Kept.{keptFrom, keptSegments}
+use Rattle.collect.specs.kept.KeptLaws.{definition-stored, keptRest, rest-passed, rest-none, keeps-on, keeps-lack, keeps-start}
 use borrow.Author.Needs.{needs}
 use Rattle.collect.proofs.kept.store_keeps.Statement.{statement}
 use Rattle.collect.proofs.kept.store_keeps.Tie as tie
 
-record Inv (library : List ℕ) (from : ℕ) (table first next places heads onward entries apart₀ apart : List ℕ) (c₀ : CollectCounts)
+record Inv (library : List ℕ) (from : ℕ) (table first contents heads definitions apart₀ apart : List ℕ) (c₀ : CollectCounts)
     (l₀ l : CollectLists) (at : Cursor) (c : CollectCounts) : Type 0 where
   long : SameLengths l₀ l
   apart-long : length apart ≡ length apart₀
-  progress : (m : Module) (gs : List Collected) → m .definitions ≡ itemsAt library (definitionsAt library) from → Indexed library m table first next places heads onward entries → Stores gs l₀ c₀
+  progress : (m : Module) (gs : List Collected) → m .definitions ≡ itemsAt library (definitionsAt library) from → Indexed library m table first contents heads definitions → Stores gs l₀ c₀
       → Progress gs (keptSegments library m (c₀ .segments)) (keptRest library m (c₀ .segments) (c .segments - c₀ .segments) (definitionsLeft library at)) l c
 
 abbrev Inv-loop : tie.InvT-loop
-Inv-loop library from table first next places heads onward entries segments₀ references₀ symbols₀ bytes₀ masks₀ apart₀ number at₀ c₀ segments references symbols bytes masks apart at c =
-    Inv library from table first next places heads onward entries apart₀ apart c₀ (lists segments₀ references₀ symbols₀ bytes₀ masks₀) (lists segments references symbols bytes masks) at c
+Inv-loop library from table first contents heads definitions segments₀ references₀ symbols₀ bytes₀ masks₀ apart₀ number at₀ c₀ segments references symbols bytes masks apart at c =
+    Inv library from table first contents heads definitions apart₀ apart c₀ (lists segments₀ references₀ symbols₀ bytes₀ masks₀) (lists segments references symbols bytes masks) at c
 
 abbrev μ-loop : tie.MeasureT-loop
-μ-loop library from table first next places heads onward entries segments₀ references₀ symbols₀ bytes₀ masks₀ apart₀ number at₀ c₀ segments
+μ-loop library from table first contents heads definitions segments₀ references₀ symbols₀ bytes₀ masks₀ apart₀ number at₀ c₀ segments
     references symbols bytes masks apart at c = length (definitionsLeft library at)
 
 -- The ladder: places of the code that the answers cite, each as it is seen from a later place.
-abbrev at-entry : tie.After-start Inv-loop μ-loop → tie.Start Inv-loop μ-loop
-at-entry c = c .before .before .before .before .before .before .before .before .before .before .before .before .before .before .before
+abbrev at-entry : tie.At-loop Inv-loop μ-loop → tie.Start Inv-loop μ-loop
+at-entry c = c .before .before .before .before .before .before .before .before .before .before .before .before .before .before
 
-abbrev at-loop : tie.After-known-told Inv-loop μ-loop → tie.At-loop Inv-loop μ-loop
-at-loop c = c .before .before .before .before
+abbrev at-loop-from-known-told : tie.After-known-told Inv-loop μ-loop → tie.At-loop Inv-loop μ-loop
+at-loop-from-known-told c = c .before .before .before .before
 
-abbrev after-store-definition : tie.After-slice-known12 Inv-loop μ-loop → tie.After-store-definition Inv-loop μ-loop
-after-store-definition c = c .before .before .before .before .before .before .before .before .before .before .before .before
+abbrev after-since : tie.After-store-kept-arg6 Inv-loop μ-loop → tie.After-since Inv-loop μ-loop
+after-since c = c .before .before .before .before .before .before .before
 
-abbrev at-then1 : tie.After-slice-known12 Inv-loop μ-loop → tie.Then1 Inv-loop μ-loop
-at-then1 c = after-store-definition c .before .before .before .before .before .before .before
+abbrev after-is-kept : tie.After-store-kept Inv-loop μ-loop → tie.After-is-kept Inv-loop μ-loop
+after-is-kept c = after-since (c .before) .before .before
 
-abbrev after-known-told : tie.After-enum-told Inv-loop μ-loop → tie.After-known-told Inv-loop μ-loop
-after-known-told c = at-then1 (c .before .before) .before .before
+abbrev at-loop-from-store-kept : tie.After-store-kept Inv-loop μ-loop → tie.At-loop Inv-loop μ-loop
+at-loop-from-store-kept c = at-loop-from-known-told (after-is-kept c .before)
 
-abbrev after-is-kept : tie.After-known-told2 Inv-loop μ-loop → tie.After-is-kept Inv-loop μ-loop
-after-is-kept c = at-then1 (c .before .before .before) .before
+abbrev after-store-kept-from-slice-known12 : tie.After-slice-known12 Inv-loop μ-loop → tie.After-store-kept Inv-loop μ-loop
+after-store-kept-from-slice-known12 c = c .before .before .before .before .before .before .before .before .before .before .before .before
+
+abbrev after-store-kept-from-enum-told : tie.After-enum-told Inv-loop μ-loop → tie.After-store-kept Inv-loop μ-loop
+after-store-kept-from-enum-told c = after-store-kept-from-slice-known12 (c .before .before)
 
 -- the next definition, once it is known
 abbrev Told : Type 0
 Told = tie.After-known-told Inv-loop μ-loop
 
-yields : (c : Told) → definitionsLeft (now (at-entry (at-loop c .before) .args .library)) (at-loop c .loop .at) ≡ c .before .definition .given .0 .0
-    ∷ definitionsLeft (now (at-entry (at-loop c .before) .args .library)) (c .before .definition .given .0 .1 .0)
-yields c = let lib = at-entry (at-loop c .before) .args .library .now in next-definition-yields lib (at-loop c .loop .at) ∙ ap (definitionsAfter lib)
+yields : (c : Told) → definitionsLeft (now (at-entry (at-loop-from-known-told c) .args .library)) (at-loop-from-known-told c .loop .at) ≡ c .before .definition .given .0 .0
+    ∷ definitionsLeft (now (at-entry (at-loop-from-known-told c) .args .library)) (c .before .definition .given .0 .1 .0)
+yields c = let lib = at-entry (at-loop-from-known-told c) .args .library .now in next-definition-yields lib (at-loop-from-known-told c .loop .at) ∙ ap (definitionsAfter lib)
     (sym (c .before .before .before .next-definition .ensures) ∙ c .before .definition .given .1)
+
+-- once a kept segment is stored: it is the one that the definition says
+abbrev Kept : Type 0
+Kept = tie.After-store-kept Inv-loop μ-loop
+
+extended : (c : Kept) (m : Module) → Indexed (at-entry (at-loop-from-store-kept c) .args .library .now) m
+    (at-entry (at-loop-from-store-kept c) .args .table .now) (at-entry (at-loop-from-store-kept c) .args .first .now)
+    (at-entry (at-loop-from-store-kept c) .args .contents .now) (at-entry (at-loop-from-store-kept c) .args .heads .now) (at-entry (at-loop-from-store-kept c) .args .publics .now)
+    → at-loop-from-store-kept c .loop .c .segments - at-entry (at-loop-from-store-kept c) .args .before .segments < length (kept m)
+    → Extends (one (keptSegment (at-entry (at-loop-from-store-kept c) .args .library .now) m
+    (at-entry (at-loop-from-store-kept c) .args .before .segments)
+    (at-loop-from-store-kept c .loop .c .segments - at-entry (at-loop-from-store-kept c) .args .before .segments, after-is-kept c .before .before .definition .given .0 .0)))
+    (lists (at-loop-from-store-kept c .loop .segments) (at-loop-from-store-kept c .loop .references) (at-loop-from-store-kept c .loop .symbols)
+    (at-loop-from-store-kept c .loop .bytes) (at-loop-from-store-kept c .loop .masks)) (at-loop-from-store-kept c .loop .c)
+    (lists (c .store-kept .last .1 .1 .1 .1 .1 .1 .1 .0) (c .store-kept .last .1 .1 .1 .1 .1 .1 .1 .1 .0)
+    (c .store-kept .last .1 .1 .1 .1 .1 .1 .1 .1 .1 .0) (c .store-kept .last .1 .1 .1 .1 .1 .1 .1 .1 .1 .1 .0) (c .store-kept .last .1 .1 .1 .1 .1 .1 .1 .1 .1 .1 .1 .0)) (c .store-kept .result)
+extended c m x h =
+    let a = at-entry (at-loop-from-store-kept c) .args in
+    let d = after-is-kept c .before .before .definition .given .0 .0 in
+    let from = c .before .before .before .before .before .before .before .kept-from in
+    definition-stored (a .library .now) m d x (at-loop-from-store-kept c .loop .c .segments - a .before .segments) h (from .ensures .1) (a .before .segments)
+    (from .ensures .0 ∙ ap (λ (p : Part). keptFrom d (p .len) (a .table .now) (a .first .now) (a .heads .now)) (after-since (c .before) .since .ensures)) (c .store-kept .ensures)
 
 loop-holds : tie.Need-loop-holds Inv-loop μ-loop
 loop-holds c =
-    let a = at-entry c .args in
+    let a = c .before .before .before .before .before .before .before .before .before .before .before .before .before .args in
     let lib = a .library .now in
     let l = lists (a .segments .now) (a .references .now) (a .symbols .now) (a .bytes .now) (a .masks .now) in
     let n = a .before .segments in
@@ -83,75 +111,78 @@ loop-holds c =
           (λ j. keptRest lib m n j (definitionsLeft lib (c .start .result))) z) (progress-starts gs (keptSegments lib m n) s);
     }
 
-store-definition-requires : tie.Need-store-definition-requires Inv-loop μ-loop
-store-definition-requires c κs =
-    let loop = at-loop (c .before .before .before .before .before .before .before .before) in
-    let entry = at-entry (loop .before) in
+store-kept-requires : tie.Need-store-kept-requires Inv-loop μ-loop
+store-kept-requires c κs =
+    let loop = at-loop-from-known-told (after-since c .before .before .before) in
+    let entry = at-entry loop in
     let l = loop .loop in
     (entry .pre .0, omega (arith, l .inv .apart-long, entry .pre .1))
 
 same-length : tie.Need-same-length Inv-loop μ-loop
-same-length c = let s = after-store-definition (c .before .before) .store-definition .ensures in s .long .segments ∙ at-loop (after-known-told c) .loop .inv .long .segments
+same-length c = let s = after-store-kept-from-enum-told c .store-kept .ensures in s .long .segments ∙ at-loop-from-store-kept (after-store-kept-from-enum-told c) .loop .inv .long .segments
 
 same-length-2 : tie.Need-same-length-2 Inv-loop μ-loop
-same-length-2 c = let s = after-store-definition (c .before .before) .store-definition .ensures in s .long .references ∙ at-loop (after-known-told c) .loop .inv .long .references
+same-length-2 c = let s = after-store-kept-from-enum-told c .store-kept .ensures in s .long .references ∙ at-loop-from-store-kept (after-store-kept-from-enum-told c) .loop .inv .long .references
 
 same-length-3 : tie.Need-same-length-3 Inv-loop μ-loop
-same-length-3 c = let s = after-store-definition (c .before .before) .store-definition .ensures in s .long .symbols ∙ at-loop (after-known-told c) .loop .inv .long .symbols
+same-length-3 c = let s = after-store-kept-from-enum-told c .store-kept .ensures in s .long .symbols ∙ at-loop-from-store-kept (after-store-kept-from-enum-told c) .loop .inv .long .symbols
 
 same-length-4 : tie.Need-same-length-4 Inv-loop μ-loop
-same-length-4 c = let s = after-store-definition (c .before .before) .store-definition .ensures in s .long .bytes ∙ at-loop (after-known-told c) .loop .inv .long .bytes
+same-length-4 c = let s = after-store-kept-from-enum-told c .store-kept .ensures in s .long .bytes ∙ at-loop-from-store-kept (after-store-kept-from-enum-told c) .loop .inv .long .bytes
 
 same-length-5 : tie.Need-same-length-5 Inv-loop μ-loop
-same-length-5 c = let s = after-store-definition (c .before .before) .store-definition .ensures in s .long .masks ∙ at-loop (after-known-told c) .loop .inv .long .masks
+same-length-5 c = let s = after-store-kept-from-enum-told c .store-kept .ensures in s .long .masks ∙ at-loop-from-store-kept (after-store-kept-from-enum-told c) .loop .inv .long .masks
 
 same-length-6 : tie.Need-same-length-6 Inv-loop μ-loop
-same-length-6 c = let s = after-store-definition (c .before .before) .store-definition .ensures in s .apart-long ∙ at-loop (after-known-told c) .loop .inv .apart-long
+same-length-6 c = let s = after-store-kept-from-enum-told c .store-kept .ensures in s .apart-long ∙ at-loop-from-store-kept (after-store-kept-from-enum-told c) .loop .inv .apart-long
 
 returns : tie.Need-returns Inv-loop μ-loop
 returns c =
-    let then1 = at-then1 (c .before .before) in
-    let loop = at-loop (after-known-told c) in
-    let entry = at-entry (loop .before) in
+    let store-kept = after-store-kept-from-enum-told c in
+    let is-kept = after-is-kept store-kept in
+    let loop = at-loop-from-store-kept store-kept in
+    let entry = at-entry loop in
     let number = entry .args .before .segments in
     let a = entry .args in
     let lib = a .library .now in
     let l = loop .loop in
-    let s = after-store-definition (c .before .before) .store-definition in
+    let s = store-kept .store-kept in
     let now-lists = lists (l .segments) (l .references) (l .symbols) (l .bytes) (l .masks) in
-    let after = lists (s .last .1 .1 .1 .1 .1 .1 .1 .1 .1 .1 .1 .0) (s .last .1 .1 .1 .1 .1 .1 .1 .1 .1 .1 .1 .1 .0)
-    (s .last .1 .1 .1 .1 .1 .1 .1 .1 .1 .1 .1 .1 .1 .0) (s .last .1 .1 .1 .1 .1 .1 .1 .1 .1 .1 .1 .1 .1 .1 .0) (s .last .1 .1 .1 .1 .1 .1 .1 .1 .1 .1 .1 .1 .1 .1 .1 .0) in
+    let after = lists (s .last .1 .1 .1 .1 .1 .1 .1 .0) (s .last .1 .1 .1 .1 .1 .1 .1 .1 .0) (s .last .1 .1 .1 .1 .1 .1 .1 .1 .1 .0)
+    (s .last .1 .1 .1 .1 .1 .1 .1 .1 .1 .1 .0) (s .last .1 .1 .1 .1 .1 .1 .1 .1 .1 .1 .1 .0) in
     record {
       long = lengths-on (l .inv .long) (s .ensures .long);
       apart-long = s .ensures .apart-long ∙ l .inv .apart-long;
       extends = λ m e x gs stores.
-          keeps-lack lib m number gs now-lists after (l .c) (s .result) (yields (after-known-told c))
-          (sym (then1 .before .is-kept .ensures) ∙ then1 .if1 .taken) (stored-count stores) (l .inv .progress m gs e x stores) (s .ensures .extends m x) (c .enum-told .given .1);
+          keeps-lack lib m number gs now-lists after (l .c) (s .result) (yields (is-kept .before))
+          (sym (is-kept .is-kept .ensures) ∙ after-since (store-kept .before) .before .if1 .taken) (stored-count stores)
+          (l .inv .progress m gs e x stores) (extended store-kept m x) (c .enum-told .given .1);
     }
 
 loop-less : tie.Need-loop-less Inv-loop μ-loop
-loop-less c = rw (yields (after-is-kept c .before)) (omega arith)
+loop-less c = rw (yields (after-is-kept (after-store-kept-from-slice-known12 (c .before .before .before)) .before)) (omega arith)
 
 loop-again : tie.Need-loop-again Inv-loop μ-loop
 loop-again c =
-    let is-kept = after-is-kept c in
-    let loop = at-loop (is-kept .before) in
-    let entry = at-entry (loop .before) in
+    let store-kept = after-store-kept-from-slice-known12 (c .before .before .before) in
+    let is-kept = after-is-kept store-kept in
+    let loop = at-loop-from-store-kept store-kept in
+    let entry = at-entry loop in
     let number = entry .args .before .segments in
     let a = entry .args in
     let lib = a .library .now in
     let l = loop .loop in
-    let s = after-store-definition (c .before .before .before) .store-definition in
+    let s = store-kept .store-kept in
     let now-lists = lists (l .segments) (l .references) (l .symbols) (l .bytes) (l .masks) in
-    let after = lists (s .last .1 .1 .1 .1 .1 .1 .1 .1 .1 .1 .1 .0) (s .last .1 .1 .1 .1 .1 .1 .1 .1 .1 .1 .1 .1 .0)
-    (s .last .1 .1 .1 .1 .1 .1 .1 .1 .1 .1 .1 .1 .1 .0) (s .last .1 .1 .1 .1 .1 .1 .1 .1 .1 .1 .1 .1 .1 .1 .0) (s .last .1 .1 .1 .1 .1 .1 .1 .1 .1 .1 .1 .1 .1 .1 .1 .0) in
+    let after = lists (s .last .1 .1 .1 .1 .1 .1 .1 .0) (s .last .1 .1 .1 .1 .1 .1 .1 .1 .0) (s .last .1 .1 .1 .1 .1 .1 .1 .1 .1 .0)
+    (s .last .1 .1 .1 .1 .1 .1 .1 .1 .1 .1 .0) (s .last .1 .1 .1 .1 .1 .1 .1 .1 .1 .1 .1 .0) in
     record {
       long = lengths-on (l .inv .long) (s .ensures .long);
       apart-long = s .ensures .apart-long ∙ l .inv .apart-long;
       progress = λ m gs e x stores.
           keeps-on lib m number gs now-lists after (l .c) (s .result) (yields (is-kept .before))
-          (sym (is-kept .is-kept .ensures) ∙ at-then1 (c .before .before .before) .if1 .taken) (stored-count stores)
-          (l .inv .progress m gs e x stores) (s .ensures .extends m x) (c .before .stored .given .1);
+          (sym (is-kept .is-kept .ensures) ∙ after-since (store-kept .before) .before .if1 .taken) (stored-count stores)
+          (l .inv .progress m gs e x stores) (extended store-kept m x) (c .before .stored .given .1);
     }
 
 loop-less-2 : tie.Need-loop-less-2 Inv-loop μ-loop
@@ -159,8 +190,8 @@ loop-less-2 c = rw (yields (c .before .before)) (omega arith)
 
 loop-again-2 : tie.Need-loop-again-2 Inv-loop μ-loop
 loop-again-2 c =
-    let loop = at-loop (c .before .before) in
-    let entry = at-entry (loop .before) in
+    let loop = at-loop-from-known-told (c .before .before) in
+    let entry = at-entry loop in
     let number = entry .args .before .segments in
     let lib = entry .args .library .now in
     let l = loop .loop in
@@ -192,7 +223,7 @@ same-length-12 c = c .before .before .before .loop .inv .apart-long
 
 returns-2 : tie.Need-returns-2 Inv-loop μ-loop
 returns-2 c =
-    let entry = at-entry (c .before .before .before .before) in
+    let entry = at-entry (c .before .before .before) in
     let number = entry .args .before .segments in
     let lib = entry .args .library .now in
     let l = c .before .before .before .loop in
@@ -215,7 +246,9 @@ store-keeps-spec =
     (λ c κs. search needs)
     (λ c. search needs)
     (λ c κs. search needs)
-    store-definition-requires
+    (λ c κs. search needs)
+    (λ c κs. search needs)
+    store-kept-requires
     (λ c. search needs)
     (λ c. search needs)
     same-length

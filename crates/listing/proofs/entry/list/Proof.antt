@@ -12,7 +12,7 @@ use Rattle.listing.specs.declared.FindAnswer.the-variants.{Refused}
 use Rattle.listing.specs.OutcomeLaws.{lines-found, emptied, lacks-is, done-is}
 
 -- The ladder: places of the code that the answers cite, each as it is seen from a later place.
-abbrev at-entry : tie.After-list-rows-arg → tie.Start
+abbrev at-entry : tie.After-shared-slice-known3 → tie.Start
 at-entry c = c .before .before .before .before .before .before .before .before .before .before .before
 
 abbrev after-segments : tie.After-bytes → tie.After-segments
@@ -62,30 +62,30 @@ returns : tie.Need-returns
 returns c =
     let clear = c .before .before in
     let then1 = at-then1 (after-bytes c) in
-    let entry = at-entry (then1 .before .before .before .before .before .before .before .before) in
+    let entry = at-entry (then1 .before .before .before .before .before .before .before .before .before .before) in
     let a = entry .args in
     let cells = view (a .image .now) (a .s) in
     let f = then1 .before .before .before .list-rows in
-    λ l short p q done.
+    λ l short p q done sought.
     ap (λ x. record { answer = Refused TooFewRows; left = record { searched = x; lines = clear .clear .last .0 } })
     (after-segments (after-bytes c) .before .clear-all .ensures ∙ emptied cells (a .asked) (a .library .now) (a .n) l short (a .rows) (lent entry) done (sym p) (sym q))
     ∙ ap (λ x. record { answer = Refused TooFewRows; left = record { searched = zeroedSearch l; lines = x } }) (clear .clear .ensures ∙ ap zeros (then1 .before .before .lines .given))
     ∙ lacks-is cells (a .asked) (a .skip) (a .library .now) (a .n) (record { searched = l; lines = a .lines .now }) short (a .rows) (lent entry) done
-    (f .last .1 .1 .1 .1 .1 .1 .1 .1 .1 .1 .1 .1 .0) (f .result)
-    (lines-found cells (a .asked) (a .library .now) (a .n) l short (a .skip) (a .rows) (lent entry) done (a .lines .now)
-    (f .last .1 .1 .1 .1 .1 .1 .1 .1 .1 .1 .1 .1 .0) (f .result) (f .ensures)) (then1 .if1 .taken)
+    (f .last .1 .1 .1 .1 .1 .1 .1 .1 .1 .1 .1 .1 .1 .0) (f .result)
+    (lines-found cells (a .asked) (a .library .now) (a .n) l short (a .skip) (a .rows) (lent entry) done (a .positions .now) (a .goals .now) sought (a .lines .now)
+    (f .last .1 .1 .1 .1 .1 .1 .1 .1 .1 .1 .1 .1 .1 .0) (f .result) (f .ensures)) (then1 .if1 .taken)
 
 returns-2 : tie.Need-returns-2
 returns-2 c =
-    let entry = at-entry (c .before .before .before .before .before .before .before .before) in
+    let entry = at-entry (c .before .before .before .before .before .before .before .before .before .before) in
     let a = entry .args in
     let cells = view (a .image .now) (a .s) in
     let f = c .before .before .before .list-rows in
-    λ l short p q done.
+    λ l short p q done sought.
     done-is cells (a .asked) (a .skip) (a .library .now) (a .n) (record { searched = l; lines = a .lines .now }) short (a .rows) (lent entry) done
-    (f .last .1 .1 .1 .1 .1 .1 .1 .1 .1 .1 .1 .1 .0) (f .result)
-    (lines-found cells (a .asked) (a .library .now) (a .n) l short (a .skip) (a .rows) (lent entry) done (a .lines .now)
-    (f .last .1 .1 .1 .1 .1 .1 .1 .1 .1 .1 .1 .1 .0) (f .result) (f .ensures)) (c .if1 .left)
+    (f .last .1 .1 .1 .1 .1 .1 .1 .1 .1 .1 .1 .1 .1 .0) (f .result)
+    (lines-found cells (a .asked) (a .library .now) (a .n) l short (a .skip) (a .rows) (lent entry) done (a .positions .now) (a .goals .now) sought (a .lines .now)
+    (f .last .1 .1 .1 .1 .1 .1 .1 .1 .1 .1 .1 .1 .1 .0) (f .result) (f .ensures)) (c .if1 .left)
 
 pub list-spec : {M : Type 1} → statement M
 list-spec =

@@ -21,7 +21,7 @@ bears c = bearsOut (isFound (c .args .library .now) 8 (c .args .placed .now) (c 
 returns : tie.Need-returns
 returns c =
     let entry = c .before .before .before .before .before .before .before in
-    rw (le-ltb (entry .args .number)
+    rw (le-ltb (entry .args .number .0)
     (entry .args .n) (c .if1 .taken)) (sym (all-end (bears entry) refl))
 
 returns-2 : tie.Need-returns-2
@@ -31,7 +31,7 @@ returns-2 c =
     c .bear-out .ensures
     ∙ ap (λ row. all (bears entry) (rowsOf referenceLayout (a .references .now) (row .references))) (c .before .segment-at .ensures)
     ∙ sym (ap (λ t. all (bears entry) (if t then rowsOf referenceLayout (a .references .now)
-    (segmentRowAt (a .segments .now) (a .number) .references) else [])) (lt-ltb (a .number) (a .n) (c .before .before .if1 .left)))
+    (segmentRowAt (a .segments .now) (a .number .0) .references) else [])) (lt-ltb (a .number .0) (a .n) (c .before .before .if1 .left)))
 
 pub is-borne-spec : {M : Type 1} → statement M
 is-borne-spec = tie.close (tie.spec returns (λ c κs. search needs) (λ c κs. search needs) returns-2)

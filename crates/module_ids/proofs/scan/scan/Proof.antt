@@ -46,6 +46,9 @@ abbrev μ-loop : tie.MeasureT-loop
 abbrev at-loop : tie.After-places Inv-loop μ-loop → tie.At-loop Inv-loop μ-loop
 at-loop c = c .before .before .before
 
+abbrev at-entry : tie.After-places Inv-loop μ-loop → tie.Start Inv-loop μ-loop
+at-entry c = at-loop c .before .before .before
+
 abbrev after-fill : tie.After-slice-known3 Inv-loop μ-loop → tie.After-fill Inv-loop μ-loop
 after-fill c = c .before .before .before .before .before .before .before .before
 
@@ -56,11 +59,11 @@ after-places c = after-fill c .before .before .before
 abbrev Told : Type 0
 Told = tie.After-places Inv-loop μ-loop
 
-stands : (c : Told) → placesAt (now (at-loop c .before .before .before .args .library)) (at-loop c .loop .at) ≡ placesRead (Whole (c .places .given .0 .0))
+stands : (c : Told) → placesAt (now (at-entry c .args .library)) (at-loop c .loop .at) ≡ placesRead (Whole (c .places .given .0 .0))
 stands c = sym (c .before .before .module-at .ensures) ∙ ap placesRead (c .places .given .1)
 
 loop-holds : tie.Need-loop-holds Inv-loop μ-loop
-loop-holds c = record { long = refl; clear = c .before .before .pre; same = refl }
+loop-holds c = record { long = refl; clear = c .before .before .pre .clear; same = refl }
 
 same-length : tie.Need-same-length Inv-loop μ-loop
 same-length c = c .before .before .loop .inv .long
@@ -74,7 +77,7 @@ returns c =
     record { clear-again = l .inv .clear; says = ap verdictOf (sym no-module ∙ ap collectRefusal (sym none) ∙ l .inv .same) }
 
 fill-requires : tie.Need-fill-requires Inv-loop μ-loop
-fill-requires c κs = at-loop (c .before .before) .loop .inv .clear
+fill-requires c κs = record { short = at-entry (c .before .before) .pre .short; clear = at-loop (c .before .before) .loop .inv .clear }
 
 clear-requires : tie.Need-clear-requires Inv-loop μ-loop
 clear-requires c κs = c .before .before .before .before .before .fill .ensures .tells
@@ -82,9 +85,8 @@ clear-requires c κs = c .before .before .before .before .before .fill .ensures 
 returns-2 : tie.Need-returns-2 Inv-loop μ-loop
 returns-2 c =
     let places = after-places (c .before .before .before) in
-    let loop = at-loop places in
-    let l = loop .loop in
-    let lib = loop .before .before .before .args .library .now in
+    let l = at-loop places .loop in
+    let lib = at-entry places .args .library .now in
     let p = places .places .given .0 .0 in
     let e = told {o = sectionsFault (moduleOf lib p .definitions) (moduleOf lib p .sections)}
     (sym (c .before .before .before .before .before .before .before .sections-fault .ensures _ (after-fill (c .before .before .before) .fill .ensures .tells)) ∙ c .before .verdict .given .1) in
@@ -97,15 +99,13 @@ returns-2 c =
 loop-less : tie.Need-loop-less Inv-loop μ-loop
 loop-less c =
     let places = after-places (c .before .before) in
-    let loop = at-loop places in
-    omega (arith, module-moved (loop .before .before .before .args .library .now) (loop .loop .at) (stands places))
+    omega (arith, module-moved (at-entry places .args .library .now) (at-loop places .loop .at) (stands places))
 
 loop-again : tie.Need-loop-again Inv-loop μ-loop
 loop-again c =
     let places = after-places (c .before .before) in
-    let loop = at-loop places in
-    let l = loop .loop in
-    let lib = loop .before .before .before .args .library .now in
+    let l = at-loop places .loop in
+    let lib = at-entry places .args .library .now in
     let p = places .places .given .0 .0 in
     let e = told {o = sectionsFault (moduleOf lib p .definitions) (moduleOf lib p .sections)}
     (sym (c .before .before .before .before .before .before .sections-fault .ensures _ (after-fill (c .before .before) .fill .ensures .tells)) ∙ c .enum-told .given .1) in

@@ -10,7 +10,7 @@ use Rattle.omf51.specs.declared.ModuleId.{ModuleId}
 use Rattle.library.specs.declared.items.Cursor.{Cursor}
 use Rattle.library.specs.items.Left.{definitionsLeft}
 use Rattle.library.specs.items.Yields.{definitionsAfter, next-definition-yields, definitions-start}
-use Rattle.module_ids.specs.ClearLaws.{Clearing, clearing-starts, clearing-step, cleared}
+use Rattle.module_ids.specs.ClearLaws.{Clearing, clearing-starts, none-small, clearing-step, cleared}
 use borrow.Author.Needs.{needs}
 use Rattle.module_ids.proofs.table.clear.Statement.{statement}
 use Rattle.module_ids.proofs.table.clear.Tie as tie
@@ -46,6 +46,9 @@ loop-holds c =
     let a = entry .args in
     rw (c .start .ensures) (record { long = refl; clearing = rw (definitions-start (a .library .now) (a .at)) (clearing-starts _ (a .table .now) (entry .pre)) })
 
+put-id-requires : tie.Need-put-id-requires Inv-loop μ-loop
+put-id-requires c κs = rw (c .no-row .ensures) none-small
+
 loop-less : tie.Need-loop-less Inv-loop μ-loop
 loop-less c = rw (yields (c .before .before .before .before .before .before)) (omega arith)
 
@@ -56,7 +59,7 @@ loop-again c =
     let i = c .before .before .before .before .id-of .ensures in
     let e = c .before .before .put-id .ensures in
     record {
-      long = ap length e ∙ put-length 6 (l .table) _ _ ∙ l .inv .long;
+      long = ap length e ∙ put-length 3 (l .table) _ _ ∙ l .inv .long;
       clearing = rw (e, c .before .before .before .no-row .ensures, i .0)
           (clearing-step d _ (l .table) (subst (λ (x : ModuleId). x .0 < 65536) (i .0) (i .1)) (rw (yields (c .before .before .before .before .before .before)) at (l .inv .clearing)));
     }
@@ -83,7 +86,7 @@ clear-spec =
     (λ c. search needs)
     (λ c κs. search needs)
     (λ c κs. search needs)
-    (λ c κs. search needs)
+    put-id-requires
     loop-less
     loop-again
     (λ c. search needs)

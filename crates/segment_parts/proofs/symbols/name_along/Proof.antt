@@ -9,6 +9,8 @@ use Rattle.tables.specs.fill.FilledRows.{Adds}
 use Rattle.omf51.specs.declared.Definition.{Definition}
 use Rattle.segments.specs.Ids.{idOf}
 use Rattle.segments.specs.SegmentLayouts.{symbolLayout}
+use Rattle.tables.specs.links.Things.{placesOf, nextOf}
+use Rattle.tables.specs.links.ThingLaws.{place-small, next-small}
 use Rattle.tables.specs.links.Follow.{Follows}
 use Rattle.module_index.specs.gather.Places.{publicAt, PublicIs}
 use Rattle.segment_parts.specs.declared.carried.Carried.{Carried}
@@ -26,10 +28,10 @@ record Inv (library : List ℕ) (link : ℕ) (next places : List ℕ) (c : Carri
       → Adding (PublicIs library places) next symbolLayout (symbolBy c) publics m₀ f₀ last here m f
 
 abbrev Inv-loop : tie.InvT-loop
-Inv-loop library link next places c m₀ last₀ here₀ f₀ m last here f = Inv library link next places c m₀ f₀ m last here f
+Inv-loop library link publics c m₀ last₀ here₀ f₀ m last here f = Inv library link (nextOf publics) (placesOf publics) c m₀ f₀ m last here f
 
 abbrev μ-loop : tie.MeasureT-loop
-μ-loop library link next places c m₀ last₀ here₀ f₀ m last here f = 2 ^ 32 - last
+μ-loop library link publics c m₀ last₀ here₀ f₀ m last here f = 2 ^ 32 - last
 
 -- The ladder: places of the code that the answers cite, each as it is seen from a later place.
 abbrev at-loop : tie.After-slice-known2 Inv-loop μ-loop → tie.At-loop Inv-loop μ-loop
@@ -37,16 +39,17 @@ at-loop c = c .before .before .before .before .before .before
 
 loop-holds : tie.Need-loop-holds Inv-loop μ-loop
 loop-holds c =
-    let entry = c .before .before .before .before in
+    let entry = c .before .before .before in
     let a = entry .args in
     record {
       long = refl;
       small = omega (arith, entry .fits);
-      adding = λ publics f. adding-starts (PublicIs (a .library .now) (a .places .now)) (a .next .now) publics (a .m .now) symbolLayout (symbolBy (a .c)) (a .before) f;
+      adding = λ publics f. adding-starts (PublicIs (a .library .now) (placesOf (a .publics .now))) (nextOf (a .publics .now)) publics (a .m .now) symbolLayout (symbolBy (a .c)) (a .before) f;
     }
 
 append-public-requires : tie.Need-append-public-requires Inv-loop μ-loop
-append-public-requires c κs = rw (c .before .number-at .ensures) (omega (arith, c .before .before .before .before .before .shared-slice-known3 .given (c .before .before .before .loop .here - 1)))
+append-public-requires c κs = rw (c .before .place-at .ensures)
+    (omega (arith, place-small (c .before .before .before .before .before .before .before .args .publics .now) (c .before .before .before .loop .here - 1)))
 
 loop-less : tie.Need-loop-less Inv-loop μ-loop
 loop-less c = omega (arith, at-loop (c .before) .loop .inv .small)
@@ -54,19 +57,18 @@ loop-less c = omega (arith, at-loop (c .before) .loop .inv .small)
 loop-again : tie.Need-loop-again Inv-loop μ-loop
 loop-again c =
     let append-public = c .before .before .before in
-    let loop = at-loop (c .before) in
-    let a = loop .before .before .before .before .before .args in
-    let l = loop .loop in
-    let is = PublicIs (a .library .now) (a .places .now) in
+    let a = at-loop (c .before) .before .before .before .before .args in
+    let l = at-loop (c .before) .loop in
+    let is = PublicIs (a .library .now) (placesOf (a .publics .now)) in
     let new = append-public .append-public .last .1 .1 .1 .0 in
     record {
       long = append-public .append-public .ensures .long ∙ l .inv .long;
-      small = rw (c .number-at2 .ensures) (omega (arith, loop .before .before .before .shared-slice-known2 .given (l .here - 1)));
-      adding = λ publics f. rw (c .number-at2 .ensures)
-          (adding-on is (a .next .now) publics (a .m .now) symbolLayout (symbolBy (a .c)) (a .before) (l .last) (l .here) (l .m) new (l .f)
+      small = rw (c .next-at .ensures) (omega (arith, next-small (a .publics .now) (l .here - 1)));
+      adding = λ publics f. rw (c .next-at .ensures)
+          (adding-on is (nextOf (a .publics .now)) publics (a .m .now) symbolLayout (symbolBy (a .c)) (a .before) (l .last) (l .here) (l .m) new (l .f)
           (append-public .append-public .result) (omega arith) (l .inv .adding publics f)
           (λ d s. subst (λ x. Adds symbolLayout (symbolBy (a .c) x) (l .m) (l .f) new (append-public .append-public .result))
-          (ap (publicAt (a .library .now) (idOf d)) (append-public .before .before .number-at .ensures) ∙ s) (append-public .append-public .ensures .adds (idOf d))));
+          (ap (publicAt (a .library .now) (idOf d)) (append-public .before .before .place-at .ensures) ∙ s) (append-public .append-public .ensures .adds (idOf d))));
     }
 
 same-length : tie.Need-same-length Inv-loop μ-loop
@@ -74,11 +76,11 @@ same-length c = c .before .loop .inv .long
 
 returns : tie.Need-returns Inv-loop μ-loop
 returns c =
-    let a = c .before .before .before .before .before .before .args in
+    let a = c .before .before .before .before .before .args in
     let l = c .before .loop in
     record {
       long = l .inv .long;
-      adds = λ publics f. adding-ends (PublicIs (a .library .now) (a .places .now)) (a .next .now) publics (a .m .now) symbolLayout (symbolBy (a .c))
+      adds = λ publics f. adding-ends (PublicIs (a .library .now) (placesOf (a .publics .now))) (nextOf (a .publics .now)) publics (a .m .now) symbolLayout (symbolBy (a .c))
           (a .before) (l .last) (l .here) (l .m) (l .f) (omega arith) (l .inv .adding publics f);
     }
 

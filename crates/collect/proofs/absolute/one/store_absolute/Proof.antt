@@ -46,32 +46,32 @@ returns : tie.Need-returns
 returns c =
     let entry = at-entry (c .before) in
     let a = entry .args in
-    let fixups = fixupsLeft (a .library .now) (a .fixups) in
+    let fixups = fixupsLeft (a .library .now) (a .from .fixups) in
     let l = lists (a .segments .now) (a .references .now) (a .symbols .now) (a .bytes .now) (a .masks .now) in
     record {
       long = record { segments = refl; references = refl; symbols = refl; bytes = refl; masks = refl };
       apart-long = refl;
       flags-long = refl;
       clear = entry .pre .1 .1 .1;
-      extends = λ ds ps t p gs s. no-bytes-room gs (absoluteOf (a .library .now) ds (a .number) (a .own) (a .content) fixups ps) l (a .c) s
-          (a .content .part .len) (whole-length (a .library .now) (a .content) (entry .pre .1 .1 .0)) (masks-length (length (bytesOf (a .library .now) (a .content .part))) fixups)
-          (leb-false (a .c .pattern + a .content .part .len) (length (a .bytes .now)) (sym (c .before .fits2 .ensures) ∙ not-true (c .before .fits2 .result) (c .if1 .taken)));
+      extends = λ ds ps t p gs s. no-bytes-room gs (absoluteOf (a .library .now) ds (a .number) (a .from .own) (a .from .content) fixups ps) l (a .c) s
+          (a .from .content .part .len) (whole-length (a .library .now) (a .from .content) (entry .pre .1 .1 .0)) (masks-length (length (bytesOf (a .library .now) (a .from .content .part))) fixups)
+          (leb-false (a .c .pattern + a .from .content .part .len) (length (a .bytes .now)) (sym (c .before .fits2 .ensures) ∙ not-true (c .before .fits2 .result) (c .if1 .taken)));
     }
 
 returns-2 : tie.Need-returns-2
 returns-2 c =
     let entry = at-entry (c .before .before .before) in
     let a = entry .args in
-    let fixups = fixupsLeft (a .library .now) (a .fixups) in
+    let fixups = fixupsLeft (a .library .now) (a .from .fixups) in
     let l = lists (a .segments .now) (a .references .now) (a .symbols .now) (a .bytes .now) (a .masks .now) in
     record {
       long = record { segments = refl; references = refl; symbols = refl; bytes = refl; masks = refl };
       apart-long = refl;
       flags-long = refl;
       clear = entry .pre .1 .1 .1;
-      extends = λ ds ps t p gs s. no-masks-room gs (absoluteOf (a .library .now) ds (a .number) (a .own) (a .content) fixups ps) l (a .c) s
-          (a .content .part .len) (whole-length (a .library .now) (a .content) (entry .pre .1 .1 .0)) (masks-length (length (bytesOf (a .library .now) (a .content .part))) fixups)
-          (leb-false (a .c .pattern + a .content .part .len) (length (a .masks .now)) (sym (c .before .fits3 .ensures) ∙ not-true (c .before .fits3 .result) (c .if2 .taken)));
+      extends = λ ds ps t p gs s. no-masks-room gs (absoluteOf (a .library .now) ds (a .number) (a .from .own) (a .from .content) fixups ps) l (a .c) s
+          (a .from .content .part .len) (whole-length (a .library .now) (a .from .content) (entry .pre .1 .1 .0)) (masks-length (length (bytesOf (a .library .now) (a .from .content .part))) fixups)
+          (leb-false (a .c .pattern + a .from .content .part .len) (length (a .masks .now)) (sym (c .before .fits3 .ensures) ∙ not-true (c .before .fits3 .result) (c .if2 .taken)));
     }
 
 name-inside-requires : tie.Need-name-inside-requires
@@ -84,24 +84,24 @@ add-finish c =
     let a = entry .args in
     omega (
       arith,
-      leb-true (a .c .pattern + a .content .part .len) (length (a .bytes .now))
+      leb-true (a .c .pattern + a .from .content .part .len) (length (a .bytes .now))
           (sym (fits2 .fits2 .ensures) ∙ not-false (fits2 .fits2 .result)
           (after-fits3 c .before .if1 .left)),
-      entry .good .1 .1 .1 .1 .1 .1 .1 .1 .1 .1 .1 .1 .1 .1 .1 .0,
+      entry .good .1 .1 .1 .1 .1 .1 .1 .1 .1 .1 .0,
     )
 
 same-length-4 : tie.Need-same-length-4
 same-length-4 c =
     let entry = at-entry (after-fits2 (c .before .before .before .before)) in
     ap length (after-merge-content (after-name-inside (c .before .before .before) .before) .merge-content .ensures .bytes-are) ∙ merged-at-length (entry .args .bytes .now)
-    (entry .args .c .pattern) (entry .args .content .part .len) 0 (bytesOf (entry .args .library .now) (entry .args .content .part))
+    (entry .args .c .pattern) (entry .args .from .content .part .len) 0 (bytesOf (entry .args .library .now) (entry .args .from .content .part))
 
 same-length-5 : tie.Need-same-length-5
 same-length-5 c =
     let entry = at-entry (after-fits2 (c .before .before .before .before)) in
     ap length (after-merge-content (after-name-inside (c .before .before .before) .before) .merge-content .ensures .masks-are) ∙ merged-at-length (entry .args .masks .now)
-    (entry .args .c .pattern) (entry .args .content .part .len) 0
-    (masksOf (length (bytesOf (entry .args .library .now) (entry .args .content .part))) (fixupsLeft (entry .args .library .now) (entry .args .fixups)))
+    (entry .args .c .pattern) (entry .args .from .content .part .len) 0
+    (masksOf (length (bytesOf (entry .args .library .now) (entry .args .from .content .part))) (fixupsLeft (entry .args .library .now) (entry .args .from .fixups)))
 
 same-length-6 : tie.Need-same-length-6
 same-length-6 c = after-merge-content (after-name-inside (c .before .before .before) .before) .merge-content .ensures .long
@@ -118,23 +118,23 @@ returns-3 c =
     let entry = at-entry fits2 in
     let a = entry .args in
     let lib = a .library .now in
-    let size = a .content .part .len in
-    let fixups = fixupsLeft lib (a .fixups) in
-    let new = bytesOf lib (a .content .part) in
+    let size = a .from .content .part .len in
+    let fixups = fixupsLeft lib (a .from .fixups) in
+    let new = bytesOf lib (a .from .content .part) in
     let l = lists (a .segments .now) (a .references .now) (a .symbols .now) (a .bytes .now) (a .masks .now) in
     let m = merge-content .merge-content in
     let r = name-inside .before .before .before .before .before .before .refer in
     let y = name-inside .name-inside in
     let refs = r .last .1 .1 .1 .1 .1 .0 in
-    let syms = y .last .1 .1 .1 .1 .1 .1 .1 .1 .1 .1 .0 in
+    let syms = y .last .1 .1 .1 .1 .1 .1 .1 .1 .0 in
     let bytes = m .last .1 .1 .1 .1 .0 in
     let masks = m .last .1 .1 .1 .1 .1 .0 in
     let end = a .c .pattern + size in
-    let wide = whole-length lib (a .content) (entry .pre .1 .1 .0) in
+    let wide = whole-length lib (a .from .content) (entry .pre .1 .1 .0) in
     let even = masks-length (length new) fixups in
     record {
       long = record {
-        segments = ap length (c .before .before .finish .ensures .1) ∙ finished-length (Only (a .content .offset)) (a .c) end (r .result) (y .result) (a .segments .now);
+        segments = ap length (c .before .before .finish .ensures .1) ∙ finished-length (Only (a .from .content .offset)) (a .c) end (r .result) (y .result) (a .segments .now);
         references = r .ensures .long;
         symbols = y .ensures .long;
         bytes = ap length (m .ensures .bytes-are) ∙ merged-at-length (a .bytes .now) (a .c .pattern) size 0 new;
@@ -145,10 +145,10 @@ returns-3 c =
       clear = y .ensures .clear;
       extends = λ ds ps t p gs s.
           rw (c .before .before .finish .ensures .0, c .before .before .finish .ensures .1)
-          (stored-more gs (absoluteOf lib ds (a .number) (a .own) (a .content) fixups ps) l (a .c) s size wide even refs syms bytes masks (r .result) (y .result)
+          (stored-more gs (absoluteOf lib ds (a .number) (a .from .own) (a .from .content) fixups ps) l (a .c) s size wide even refs syms bytes masks (r .result) (y .result)
           (subst (λ k. Adds referenceLayout (joined (leavesIn ds (a .number) 0) fixups) (a .references .now) k refs (r .result))
           (name-inside .before .before .before .before .before .before .before .filled-to .ensures) (r .ensures .adds ds t))
-          (subst (λ k. Adds symbolLayout (joined (symbolBy (Inside (a .content .offset) size (a .own))) ps) (a .symbols .now) k syms (y .result))
+          (subst (λ k. Adds symbolLayout (joined (symbolBy (Inside (a .from .content .offset) size (a .from .own))) ps) (a .symbols .now) k syms (y .result))
           (name-inside .before .filled-to2 .ensures) (y .ensures .adds ps p))
           (copied-region (patternBytes gs) (a .bytes .now) (a .c .pattern) size (s .bytes) (sym (s .pattern))
           (leb-true end (length (a .bytes .now)) (sym (fits2 .fits2 .ensures) ∙ not-false (fits2 .fits2 .result) (fits3 .before .if1 .left))) new wide (m .ensures .bytes-are))

@@ -15,124 +15,115 @@ use Rattle.library.specs.items.Left.{fixupsLeft}
 use Rattle.library.specs.items.Yields.{sectionsAfter, next-content-yields}
 use Rattle.library.specs.items.Fewer.{fewer-sections}
 use Rattle.library.specs.items.ContentSizeLaws.{ContentGoes, content-goes}
-use Rattle.module_index.specs.gather.Places.{sectionIn, sectionKey, noSection}
-use Rattle.module_index.specs.gather.GatherLaws.{Held, none-gathered, gather-turn, all-done}
+use Rattle.module_index.specs.gather.Places.{sectionIn, SectionIs, sectionKey, noSection}
+use Rattle.module_index.specs.gather.Into.{Held}
+use Rattle.module_index.specs.gather.GatherLaws.{none-gathered, gather-turn, all-done}
 use Rattle.module_index.proofs.gather.sections.gather_sections.Statement.{statement}
 use Rattle.module_index.proofs.gather.sections.gather_sections.Tie as tie
 
 -- a content is read at a place
-abbrev Stands : List ℕ → ℕ → Section → Type 0
-Stands library p s = sectionIn library (nextContent library p) ≡ one s
+abbrev Read : List ℕ → ℕ → Section → Type 0
+Read library p s = sectionIn library (nextContent library p) ≡ one s
 
-record Inv (library : List ℕ) (from : ℕ) (keys₀ places₀ keys places : List ℕ) (at n : ℕ) : Type 0 where
-  keys-long : length keys ≡ length keys₀
-  places-long : length places ≡ length places₀
+record Inv (library : List ℕ) (from : ℕ) (things₀ things : List ℕ) (at n : ℕ) : Type 0 where
+  long : length things ≡ length things₀
   done : List Section
   whole : done ++ itemsAt library (sectionsAt library) at ≡ itemsAt library (sectionsAt library) from
-  gathered : Held sectionKey (Stands library) noSection done keys places n
+  gathered : Held sectionKey (SectionIs library) noSection done things n
   few : 7 * n ≤ at
 
 abbrev Inv-loop : tie.InvT-loop
-Inv-loop library from keys₀ places₀ at₀ n₀ keys places at n = Inv library from keys₀ places₀ keys places at n
+Inv-loop library from things₀ at₀ n₀ things at n = Inv library from things₀ things at n
 
 abbrev μ-loop : tie.MeasureT-loop
-μ-loop library from keys₀ places₀ at₀ n₀ keys places at n = length (itemsAt library (sectionsAt library) at)
+μ-loop library from things₀ at₀ n₀ things at n = length (itemsAt library (sectionsAt library) at)
 
 -- The ladder: places of the code that the answers cite, each as it is seen from a later place.
-abbrev at-entry : tie.After-next-content Inv-loop μ-loop → tie.Start Inv-loop μ-loop
-at-entry c = c .before .before .before .before .before
-
-abbrev after-next-content : tie.After-known-told Inv-loop μ-loop → tie.After-next-content Inv-loop μ-loop
-after-next-content c = c .before .before .before
-
 abbrev at-loop : tie.After-known-told Inv-loop μ-loop → tie.At-loop Inv-loop μ-loop
-at-loop c = after-next-content c .before
+at-loop c = c .before .before .before .before
+
+abbrev at-entry : tie.After-known-told Inv-loop μ-loop → tie.Start Inv-loop μ-loop
+at-entry c = at-loop c .before .before .before
 
 -- the next content, once it is known
 abbrev Told : Type 0
 Told = tie.After-known-told Inv-loop μ-loop
 
-step : (c : Told) → nextContent (now (at-entry (after-next-content c) .args .library)) (at-loop c .loop .at) ≡ Item (c .before .content .given .0 .0)
+step : (c : Told) → nextContent (now (at-entry c .args .library)) (at-loop c .loop .at) ≡ Item (c .before .content .given .0 .0)
     (c .before .content .given .0 .1 .0) (c .before .content .given .0 .1 .1 .0)
-step c = sym (after-next-content c .next-content .ensures) ∙ c .before .content .given .1
+step c = sym (c .before .before .before .next-content .ensures) ∙ c .before .content .given .1
 
-goes : (c : Told) → ContentGoes (now (at-entry (after-next-content c) .args .library)) (at-loop c .loop .at) (c .before .content .given .0 .0) (c .before .content .given .0 .1 .1 .0)
-goes c = content-goes (at-entry (after-next-content c) .args .library .now) (at-loop c .loop .at) (step c)
+goes : (c : Told) → ContentGoes (now (at-entry c .args .library)) (at-loop c .loop .at) (c .before .content .given .0 .0) (c .before .content .given .0 .1 .1 .0)
+goes c = content-goes (at-entry c .args .library .now) (at-loop c .loop .at) (step c)
 
 -- there is room for it
-below : (c : Told) → 7 * at-loop c .loop .n + 7 < 4294967296
-below c = omega (arith, at-loop c .loop .inv .few, goes c .later, goes c .inside, at-entry (after-next-content c) .pre .short)
+below : (c : Told) → 7 * at-loop c .loop .n + 7 ≤ 1048576
+below c = omega (arith, at-loop c .loop .inv .few, goes c .later, goes c .inside, at-entry c .pre .short)
 
-room : (c : Told) → (at-loop c .loop .n < length (at-loop c .loop .keys)) × (at-loop c .loop .n < length (at-loop c .loop .places))
+room : (c : Told) → at-loop c .loop .n < length (at-loop c .loop .things)
 room c =
     let i = at-loop c .loop .inv in
     let g = goes c in
-    let r = at-entry (after-next-content c) .pre in
-    (omega (arith, i .few, g .later, g .inside, r .for-keys, i .keys-long), omega (arith, i .few, g .later, g .inside, r .for-places, i .places-long))
+    omega (arith, i .few, g .later, g .inside, at-entry c .pre .room, i .long)
+
+early : (c : Told) → at-loop c .loop .at < 1048576
+early c = omega (arith, goes c .later, goes c .inside, at-entry c .pre .short)
 
 loop-holds : tie.Need-loop-holds Inv-loop μ-loop
 loop-holds c =
-    let entry = c .before .before .before in
+    let entry = c .before .before in
     record {
-      keys-long = refl;
-      places-long = refl;
+      long = refl;
       done = [];
       whole = refl;
-      gathered = none-gathered sectionKey (Stands (entry .args .library .now)) noSection (entry .args .keys .now) (entry .args .places .now);
+      gathered = none-gathered sectionKey (Read (entry .args .library .now)) noSection (entry .args .things .now);
       few = omega arith;
     }
 
-mul-keys : tie.Need-mul-keys Inv-loop μ-loop
-mul-keys c = omega (arith, below c)
+thing-requires : tie.Need-thing-requires Inv-loop μ-loop
+thing-requires c κs = early c
 
-slice-write-keys : tie.Need-slice-write-keys Inv-loop μ-loop
-slice-write-keys c = room c .0
+mul-things : tie.Need-mul-things Inv-loop μ-loop
+mul-things c = omega (arith, below (c .before))
 
-cast-places : tie.Need-cast-places Inv-loop μ-loop
-cast-places c = omega (arith, goes c .later, goes c .inside, at-entry (after-next-content c) .pre .short)
-
-mul-places : tie.Need-mul-places Inv-loop μ-loop
-mul-places c = omega (arith, below c)
-
-slice-write-places : tie.Need-slice-write-places Inv-loop μ-loop
-slice-write-places c = room c .1
+slice-write-things : tie.Need-slice-write-things Inv-loop μ-loop
+slice-write-things c = room (c .before)
 
 add-n : tie.Need-add-n Inv-loop μ-loop
-add-n c = omega (arith, below c)
+add-n c = omega (arith, below (c .before))
 
 loop-less : tie.Need-loop-less Inv-loop μ-loop
-loop-less c = fewer-sections (at-entry (after-next-content c) .args .library .now) (at-loop c .loop .at) (step c)
+loop-less c = fewer-sections (at-entry (c .before) .args .library .now) (at-loop (c .before) .loop .at) (step (c .before))
 
 loop-again : tie.Need-loop-again Inv-loop μ-loop
 loop-again c =
-    let lib = at-entry (after-next-content c) .args .library .now in
-    let l = at-loop c .loop in
+    let known-told = c .before in
+    let lib = at-entry (c .before) .args .library .now in
+    let l = at-loop (c .before) .loop in
     let i = l .inv in
-    let s : Section = record { content = c .before .content .given .0 .0; fixups = fixupsLeft lib (c .before .content .given .0 .1 .0) } in
+    let s : Section = record { content = c .before .before .content .given .0 .0; fixups = fixupsLeft lib (c .before .before .content .given .0 .1 .0) } in
     record {
-      keys-long = length-set (l .keys) (l .n) _ ∙ i .keys-long;
-      places-long = length-set (l .places) (l .n) _ ∙ i .places-long;
+      long = length-set (l .things) (l .n) _ ∙ i .long;
       done = i .done ++ one s;
-      whole = append-assoc (i .done) (one s) _ ∙ ap (λ xs. i .done ++ xs) (sym (next-content-yields lib (l .at) ∙ ap (sectionsAfter lib) (step c))) ∙ i .whole;
-      gathered = gather-turn sectionKey (Stands lib) noSection (i .done) (l .keys) (l .places) (l .n) s (l .at) (room c .0) (room c .1) (ap (sectionIn lib) (step c)) (i .gathered);
-      few = omega (arith, i .few, goes c .later);
+      whole = append-assoc (i .done) (one s) _ ∙ ap (λ xs. i .done ++ xs) (sym (next-content-yields lib (l .at) ∙ ap (sectionsAfter lib) (step (c .before)))) ∙ i .whole;
+      gathered = rw
+          (c .thing .ensures .0)
+          (gather-turn sectionKey (Read lib) noSection (i .done) (l .things) (l .n) s (l .at) (room (c .before)) (c .thing .ensures .1)
+          (early (c .before)) (ap (sectionIn lib) (step (c .before))) (i .gathered));
+      few = omega (arith, i .few, goes (c .before) .later);
     }
 
 same-length : tie.Need-same-length Inv-loop μ-loop
-same-length c = c .before .before .before .loop .inv .keys-long
-
-same-length-2 : tie.Need-same-length-2 Inv-loop μ-loop
-same-length-2 c = c .before .before .before .loop .inv .places-long
+same-length c = c .before .before .before .loop .inv .long
 
 returns : tie.Need-returns Inv-loop μ-loop
 returns c =
-    let lib = at-entry (c .before .before) .args .library .now in
+    let lib = c .before .before .before .before .before .before .args .library .now in
     let l = c .before .before .before .loop in
     let none = next-content-yields lib (l .at) ∙ ap (sectionsAfter lib) (sym (c .before .before .next-content .ensures) ∙ c .enum-told .given .1) in
     record {
-      gathered = subst (λ xs. Held sectionKey (Stands lib) noSection xs (l .keys) (l .places) (l .n)) (all-done (l .inv .whole) none) (l .inv .gathered);
-      keys-long = l .inv .keys-long;
-      places-long = l .inv .places-long;
+      gathered = subst (λ xs. Held sectionKey (SectionIs lib) noSection xs (l .things) (l .n)) (all-done (l .inv .whole) none) (l .inv .gathered);
+      long = l .inv .long;
     }
 
 pub gather-sections-spec : {M : Type 1} → statement M
@@ -144,15 +135,12 @@ gather-sections-spec =
     loop-holds
     (λ c κs. search needs)
     (λ c. search needs)
-    mul-keys
-    slice-write-keys
-    cast-places
-    mul-places
-    slice-write-places
+    thing-requires
+    mul-things
+    slice-write-things
     add-n
     loop-less
     loop-again
     (λ c. search needs)
     same-length
-    same-length-2
     returns)

@@ -3,6 +3,8 @@ use Prim.Native.Nat.{ℕ, _-_, _<_, _^_}
 use mathlib.Core.Path.{_≡_}
 use mathlib.Core.List.{List}
 use native.Mathlib.Omega.{arith}
+use Rattle.tables.specs.links.Things.{nextOf}
+use Rattle.tables.specs.links.ThingLaws.{next-small}
 use Rattle.tables.specs.links.Index.{linkFrom, Linked}
 use Rattle.segment_parts.specs.declared.symbols_by_offset.flags.Blocks.{Blocks}
 use Rattle.segment_parts.specs.symbols_by_offset.Flags.{Grows, Wide}
@@ -17,14 +19,10 @@ record Inv (link : ℕ) (next flags₀ : List ℕ) (s₀ : Blocks) (flags : List
   way : (keys first : List ℕ) (v : ℕ) → Linked keys 0 first next → Wide keys flags₀ → link ≡ linkFrom keys v 0 → Way keys v last here flags s
 
 abbrev Inv-loop : tie.InvT-loop
-Inv-loop link next flags₀ last₀ here₀ s₀ flags last here s = Inv link next flags₀ s₀ flags last here s
+Inv-loop link publics flags₀ last₀ here₀ s₀ flags last here s = Inv link (nextOf publics) flags₀ s₀ flags last here s
 
 abbrev μ-loop : tie.MeasureT-loop
-μ-loop link next flags₀ last₀ here₀ s₀ flags last here s = 2 ^ 32 - last
-
--- The ladder: places of the code that the answers cite, each as it is seen from a later place.
-abbrev at-loop : tie.After-slice-known2 Inv-loop μ-loop → tie.At-loop Inv-loop μ-loop
-at-loop c = c .before .before .before .before .before
+μ-loop link publics flags₀ last₀ here₀ s₀ flags last here s = 2 ^ 32 - last
 
 loop-holds : tie.Need-loop-holds Inv-loop μ-loop
 loop-holds c =
@@ -39,19 +37,18 @@ flag-block-requires : tie.Need-flag-block-requires Inv-loop μ-loop
 flag-block-requires c κs = omega (arith, c .before .before .loop .inv .small)
 
 loop-less : tie.Need-loop-less Inv-loop μ-loop
-loop-less c = omega (arith, at-loop (c .before) .loop .inv .small)
+loop-less c = omega (arith, c .before .before .before .before .before .before .loop .inv .small)
 
 loop-again : tie.Need-loop-again Inv-loop μ-loop
 loop-again c =
     let flag-block = c .before .before .before in
-    let loop = at-loop (c .before) in
-    let entry = loop .before .before .before in
-    let l = loop .loop in
+    let entry = flag-block .before .before .before .before .before .before in
+    let l = flag-block .before .before .before .loop in
     record {
-      small = rw (c .number-at .ensures) (omega (arith, loop .before .before .shared-slice-known .given (l .here - 1)));
+      small = rw (c .next-at .ensures) (omega (arith, next-small (entry .args .publics .now) (l .here - 1)));
       grows = grows-on (l .inv .grows) (flag-block .flag-block .ensures .grows);
-      way = λ keys first v k w e. rw (c .number-at .ensures)
-          (way-on keys v (l .last) (l .here) (l .inv .way keys first v k w e) first (entry .args .next .now) (entry .args .flags .now) (omega arith)
+      way = λ keys first v k w e. rw (c .next-at .ensures)
+          (way-on keys v (l .last) (l .here) (l .inv .way keys first v k w e) first (nextOf (entry .args .publics .now)) (entry .args .flags .now) (omega arith)
           k w (l .inv .grows .long) (flag-block .flag-block .ensures));
     }
 

@@ -3,6 +3,7 @@ use Prim.Native.Nat.{ℕ, _+_, _-_, _≤_}
 use mathlib.Core.Path.{subst}
 use mathlib.Core.List.{List}
 use native.Mathlib.Omega.{arith}
+use Rattle.tables.specs.links.Things.{nextOf}
 use Rattle.tables.specs.links.Index.{Linked}
 use Rattle.segment_parts.specs.declared.symbols_by_offset.flags.Blocks.{Blocks}
 use Rattle.segment_parts.specs.symbols_by_offset.Flags.{noBlocks, Grows, Wide, Words, Covers, FlagsAlong}
@@ -17,10 +18,10 @@ record Inv (at len : ℕ) (first next flags₀ flags : List ℕ) (s : Blocks) (i
   covers : (keys : List ℕ) → Linked keys 0 first next → Wide keys flags₀ → Words keys → Covers keys at (at + i) flags s
 
 abbrev Inv-loop : tie.InvT-loop
-Inv-loop at len first next flags₀ s₀ i₀ flags s i = Inv at len first next flags₀ flags s i
+Inv-loop at len first publics flags₀ s₀ i₀ flags s i = Inv at len first (nextOf publics) flags₀ flags s i
 
 abbrev μ-loop : tie.MeasureT-loop
-μ-loop at len first next flags₀ s₀ i₀ flags s i = len - i
+μ-loop at len first publics flags₀ s₀ i₀ flags s i = len - i
 
 loop-holds : tie.Need-loop-holds Inv-loop μ-loop
 loop-holds c = record { within = omega arith; grows = grows-none (c .before .before .before .args .flags .now) noBlocks; covers = λ keys l w k j h a b. absurd (omega arith) }
@@ -33,13 +34,13 @@ loop-again c =
     let flag-along = c .before .before in
     let l = flag-along .before .before .before .before .loop in
     let a = flag-along .before .before .before .before .before .before .before .before .args in
-    let along : FlagsAlong _ (a .next .now) (l .flags) (l .s) _ (flag-along .flag-along .result) = subst
-    (λ h. FlagsAlong h (a .next .now) (l .flags) (l .s) (flag-along .flag-along .last .1 .1 .1 .0) (flag-along .flag-along .result))
-    (flag-along .before .before .head-at .ensures) (flag-along .flag-along .ensures) in
+    let along : FlagsAlong _ (nextOf (a .publics .now)) (l .flags) (l .s) _ (flag-along .flag-along .result) = subst
+    (λ h. FlagsAlong h (nextOf (a .publics .now)) (l .flags) (l .s) (flag-along .flag-along .last .1 .1 .1 .0) (flag-along .flag-along .result))
+    (flag-along .before .before .number-at .ensures) (flag-along .flag-along .ensures) in
     record {
       within = omega arith;
       grows = grows-on (l .inv .grows) (flag-along .flag-along .ensures .grows);
-      covers = λ keys k w z. covers-on keys (a .first .now) (a .next .now) (a .at) (l .i) (a .flags .now) k w (l .inv .grows .long) z along (l .inv .covers keys k w z);
+      covers = λ keys k w z. covers-on keys (a .first .now) (nextOf (a .publics .now)) (a .at) (l .i) (a .flags .now) k w (l .inv .grows .long) z along (l .inv .covers keys k w z);
     }
 
 same-length : tie.Need-same-length Inv-loop μ-loop

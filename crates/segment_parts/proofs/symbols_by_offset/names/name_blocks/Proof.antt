@@ -6,6 +6,7 @@ use mathlib.Core.List.{List}
 use native.Mathlib.Omega.{arith}
 use lib.ListN.{length, take, getD}
 use Rattle.tables.specs.declared.fill.Fill.{Fill}
+use Rattle.tables.specs.links.Things.{keysOf, placesOf}
 use Rattle.omf51.specs.declared.Definition.{Definition}
 use Rattle.segment_parts.specs.declared.symbols_by_offset.flags.Blocks.{Blocks}
 use Rattle.segment_parts.specs.symbols_by_offset.Flags.{Flagged, Covers}
@@ -28,23 +29,23 @@ unflagged flags s i e j a b f =
     omega (arith, z)
 
 abbrev Inv-loop : tie.InvT-loop
-Inv-loop library at len own keys n places s flags m₀ j₀ f₀ m j f = Inv library at len own keys n places s flags m₀ f₀ m j f
+Inv-loop library at len own publics n s flags m₀ j₀ f₀ m j f = Inv library at len own (keysOf publics) n (placesOf publics) s flags m₀ f₀ m j f
 
 abbrev μ-loop : tie.MeasureT-loop
-μ-loop library at len own keys n places s flags m₀ j₀ f₀ m j f = n - j
+μ-loop library at len own publics n s flags m₀ j₀ f₀ m j f = n - j
 
 -- The ladder: places of the code that the answers cite, each as it is seen from a later place.
 abbrev at-entry : tie.After-struct-known Inv-loop μ-loop → tie.Start Inv-loop μ-loop
-at-entry c = c .before .before .before .before .before .before
+at-entry c = c .before .before .before .before .before
 
 loop-holds : tie.Need-loop-holds Inv-loop μ-loop
 loop-holds c =
     let a = at-entry c .args in
     record {
       long = refl;
-      left = λ p t k. left-past (a .library .now) (a .keys .now) (a .n) (a .places .now) p t (a .at) (a .len) (a .own) (a .s) (a .flags .now) k
+      left = λ p t k. left-past (a .library .now) (keysOf (a .publics .now)) (a .n) (placesOf (a .publics .now)) p t (a .at) (a .len) (a .own) (a .s) (a .flags .now) k
           (a .m .now) (a .before) 0 (a .s .low * 256) (a .m .now) (a .before) (omega arith) (λ j x y fl. omega (arith, fl .from))
-          (left-all (a .library .now) (a .keys .now) (a .n) (a .places .now) p t (a .at) (a .len) (a .own) (a .s) (a .flags .now) k (a .m .now) (a .before));
+          (left-all (a .library .now) (keysOf (a .publics .now)) (a .n) (placesOf (a .publics .now)) p t (a .at) (a .len) (a .own) (a .s) (a .flags .now) k (a .m .now) (a .before));
     }
 
 same-length : tie.Need-same-length Inv-loop μ-loop
@@ -56,9 +57,9 @@ returns c =
     let l = c .before .before .before .loop in
     record {
       long = l .inv .long;
-      adds = λ p t k. left-none (a .library .now) (a .keys .now) (a .n) (a .places .now) p t (a .at) (a .len) (a .own) (a .s) (a .flags .now) k
+      adds = λ p t k. left-none (a .library .now) (keysOf (a .publics .now)) (a .n) (placesOf (a .publics .now)) p t (a .at) (a .len) (a .own) (a .s) (a .flags .now) k
           (a .m .now) (a .before) (l .j + a .n) (l .m) (l .f) (omega arith)
-          (left-past (a .library .now) (a .keys .now) (a .n) (a .places .now) p t (a .at) (a .len) (a .own) (a .s) (a .flags .now) k (a .m .now)
+          (left-past (a .library .now) (keysOf (a .publics .now)) (a .n) (placesOf (a .publics .now)) p t (a .at) (a .len) (a .own) (a .s) (a .flags .now) k (a .m .now)
           (a .before) (l .j) (l .j + a .n) (l .m) (l .f) (omega arith) (λ j x y fl. omega (arith, fl .below)) (l .inv .left p t k));
     }
 
@@ -71,7 +72,7 @@ loop-again c =
     let l = c .before .before .before .before .before .loop in
     record {
       long = l .inv .long;
-      left = λ p t k. left-past (a .library .now) (a .keys .now) (a .n) (a .places .now) p t (a .at) (a .len) (a .own) (a .s) (a .flags .now) k
+      left = λ p t k. left-past (a .library .now) (keysOf (a .publics .now)) (a .n) (placesOf (a .publics .now)) p t (a .at) (a .len) (a .own) (a .s) (a .flags .now) k
           (a .m .now) (a .before) (l .j) _ (l .m) (l .f) (omega arith) (unflagged (a .flags .now) (a .s) (l .j) (sym (c .before .flag-at .ensures) ∙ c .if2 .taken)) (l .inv .left p t k);
     }
 
@@ -85,8 +86,8 @@ loop-again-2 c =
     let l = name-place .before .before .before .before .before .before .before .loop in
     record {
       long = name-place .name-place .ensures .long ∙ l .inv .long;
-      left = λ p t k. left-one (a .library .now) (a .keys .now) (a .n) (a .places .now) p t (a .at) (a .len) (a .own) (a .s) (a .flags .now) k
-          (a .m .now) (a .before) (l .j) (l .m) (name-place .name-place .last .1 .1 .1 .1 .1 .1 .1 .0) (l .f) (name-place .name-place .result)
+      left = λ p t k. left-one (a .library .now) (keysOf (a .publics .now)) (a .n) (placesOf (a .publics .now)) p t (a .at) (a .len) (a .own) (a .s) (a .flags .now) k
+          (a .m .now) (a .before) (l .j) (l .m) (name-place .name-place .last .1 .1 .1 .1 .1 .1 .0) (l .f) (name-place .name-place .result)
           (omega arith) (name-place .name-place .ensures) (l .inv .left p t k);
     }
 
@@ -99,7 +100,7 @@ returns-2 c =
     let l = c .before .loop in
     record {
       long = l .inv .long;
-      adds = λ p t k. left-none (a .library .now) (a .keys .now) (a .n) (a .places .now) p t (a .at) (a .len) (a .own) (a .s) (a .flags .now) k
+      adds = λ p t k. left-none (a .library .now) (keysOf (a .publics .now)) (a .n) (placesOf (a .publics .now)) p t (a .at) (a .len) (a .own) (a .s) (a .flags .now) k
           (a .m .now) (a .before) (l .j) (l .m) (l .f) (omega arith) (l .inv .left p t k);
     }
 

@@ -1,7 +1,8 @@
 -- `name_inside` flags, names and clears. Assumes nothing.
 use mathlib.Core.Path.{_∙_}
-use native.Mathlib.Omega.{arith}
 use lib.ListN.{take}
+use Rattle.tables.specs.links.Things.{keysOf}
+use Rattle.tables.specs.links.ThingLaws.{key-small}
 use Rattle.segment_parts.specs.symbols_by_offset.FlagLaws.{none-flagged, words-taken}
 use borrow.Author.Needs.{needs}
 use Rattle.segment_parts.proofs.symbols_by_offset.names.name_inside.Statement.{statement}
@@ -9,7 +10,7 @@ use Rattle.segment_parts.proofs.symbols_by_offset.names.name_inside.Tie
 
 -- The ladder: places of the code that the answers cite, each as it is seen from a later place.
 abbrev at-entry : tie.After-flag-inside-arg → tie.Start
-at-entry c = c .before .before .before .before .before .before .before .before
+at-entry c = c .before .before .before .before .before .before
 
 abbrev after-name-blocks : tie.After-slice-known5 → tie.After-name-blocks
 after-name-blocks c = c .before .before .before .before .before .before
@@ -35,17 +36,16 @@ same-length-2 c = after-name-blocks c .name-blocks .ensures .long
 returns : tie.Need-returns
 returns c =
     let clear-blocks = c .before .before in
-    let flag-inside = after-flag-inside c in
-    let entry = at-entry (flag-inside .before) in
+    let entry = at-entry (after-flag-inside c .before) in
     let a = entry .args in
-    let f = flag-inside .flag-inside .ensures in
+    let f = after-flag-inside c .flag-inside .ensures in
     record {
       long = after-name-blocks c .name-blocks .ensures .long;
       flags-long = clear-blocks .clear-blocks .ensures .long ∙ f .grows .long;
       clear = clear-blocks .clear-blocks .ensures .clear (f .grows .bounds (none-flagged (a .flags .now) (entry .pre .1 .1)));
       adds = λ p o. c .before .before .before .before .before .before .name-blocks .ensures .adds p (o .standing)
-          (f .met (take (a .n) (a .keys .now)) (o .linked) (o .wide)
-          (words-taken (a .keys .now) (a .n) (λ j. omega (arith, flag-inside .before .before .before .before .before .before .before .shared-slice-known2 .given j))));
+          (f .met (take (a .n) (keysOf (a .publics .now))) (o .linked) (o .wide)
+          (words-taken (keysOf (a .publics .now)) (a .n) (key-small (a .publics .now))));
     }
 
 pub name-inside-spec : {M : Type 1} → statement M

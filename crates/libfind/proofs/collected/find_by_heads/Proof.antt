@@ -1,0 +1,117 @@
+-- `find_by_heads`: the list of what the search found, or the search's refusal. Assumes nothing.
+use borrow.Author.Needs.{needs}
+use Rattle.libfind.proofs.collected.find_by_heads.Statement.{statement}
+use Rattle.libfind.proofs.collected.find_by_heads.Tie as tie
+use mathlib.Core.Path.{_∙_}
+use Rattle.run.specs.Run.{lentLists}
+use Rattle.libfind.specs.FlowLaws.{listed-then, unlisted}
+
+-- The ladder: places of the code that the answers cite, each as it is seen from a later place.
+abbrev after-references : tie.After-placed → tie.After-references
+after-references c = c .before .before .before .before .before .before .before .before
+
+abbrev after-asked-of : tie.After-placed → tie.After-asked-of
+after-asked-of c = after-references c .before .before .before .before .before .before .before .before .before .before .before .before .before
+
+abbrev at-entry : tie.After-placed → tie.Start
+at-entry c = after-asked-of c .before .before .before .before .before .before .before .before .before .before .before .before .before .before
+
+abbrev after-noted : tie.After-slice-known28 → tie.After-noted
+after-noted c = c .before .before .before .before .before .before .before .before .before .before .before .before
+
+abbrev after-found : tie.After-references2 → tie.After-found
+after-found c = c .before .before .before .before .before .before .before .before .before .before .before .before .before .before .before
+
+abbrev after-positions : tie.After-references2 → tie.After-positions
+after-positions c = after-found c .before .before .before .before .before
+
+abbrev after-placed2 : tie.After-conclude → tie.After-placed2
+after-placed2 c = c .before .before .before .before .before .before
+
+abbrev after-references2 : tie.After-conclude → tie.After-references2
+after-references2 c = after-placed2 c .before .before .before .before .before .before .before .before
+
+abbrev after-placed : tie.After-conclude → tie.After-placed
+after-placed c = after-positions (after-references2 c) .before .before .before .before
+
+same-length : tie.Need-same-length
+same-length c = after-references2 c .before .before .segments2 .given ∙ after-references (after-placed c) .before .before .segments .given
+
+same-length-2 : tie.Need-same-length-2
+same-length-2 c = after-references2 c .references2 .given ∙ after-references (after-placed c) .references .given
+
+same-length-3 : tie.Need-same-length-3
+same-length-3 c = after-placed2 c .before .before .before .before .before .before .symbols2 .given ∙ after-placed c .before .before .before .before .before .before .symbols .given
+
+same-length-4 : tie.Need-same-length-4
+same-length-4 c = after-placed2 c .before .before .before .before .bytes2 .given ∙ after-placed c .before .before .before .before .bytes .given
+
+same-length-5 : tie.Need-same-length-5
+same-length-5 c = after-placed2 c .before .before .masks2 .given ∙ after-placed c .before .before .masks .given
+
+same-length-6 : tie.Need-same-length-6
+same-length-6 c = after-placed2 c .placed2 .given ∙ after-placed c .placed .given
+
+same-length-7 : tie.Need-same-length-7
+same-length-7 c = c .before .before .before .before .noted2 .given ∙ after-positions (after-references2 c) .before .before .noted .given
+
+same-length-9 : tie.Need-same-length-9
+same-length-9 c = after-positions (after-references2 c) .positions .given
+
+returns : tie.Need-returns
+returns c =
+    let references2 = after-references2 c in
+    let placed = after-placed c in
+    let a = at-entry placed .args in
+    let search = after-references placed .before .before .before .search in
+    λ blank blank₂ short.
+    listed-then (a .image .now) (a .library .now) (a .settings) (a .collected)
+    (lentLists (a .segments .now) (a .references .now) (a .symbols .now) (a .bytes .now) (a .masks .now) (a .placed .now) (a .noted .now)
+    (a .lines .now)) short (after-asked-of placed .asked-of .ensures)
+    (search .ensures blank blank₂) (after-found references2 .found .given .1) (placed .placed .given)
+    (after-positions references2 .before .before .noted .given) (references2 .before .before .before .list .ensures) (c .conclude .ensures)
+
+returns-2 : tie.Need-returns-2
+returns-2 c =
+    let noted = after-noted c in
+    let a = at-entry (noted .before .before) .args in
+    let search = after-references (noted .before .before) .before .before .before .search in
+    λ blank blank₂ short.
+    unlisted (a .image .now) (a .library .now) (a .settings) (a .collected)
+    (lentLists (a .segments .now) (a .references .now) (a .symbols .now) (a .bytes .now) (a .masks .now) (a .placed .now) (a .noted .now)
+    (a .lines .now)) short (after-asked-of (noted .before .before) .asked-of .ensures)
+    (search .ensures blank blank₂) (c .before .before .before .before .before .r .given .1) (c .before .before .clear .ensures)
+
+pub find-by-heads-spec : {M : Type 1} → statement M
+find-by-heads-spec =
+    tie.close
+    (tie.spec
+    (λ c κs. search needs)
+    (λ c κs. search needs)
+    (λ c. search needs)
+    (λ c κs. search needs)
+    (λ c κs. search needs)
+    (λ c. search needs)
+    (λ c κs. search needs)
+    same-length
+    same-length-2
+    same-length-3
+    same-length-4
+    same-length-5
+    same-length-6
+    same-length-7
+    (λ c. search needs)
+    same-length-9
+    (λ c. search needs)
+    returns
+    (λ c. search needs)
+    (λ c. search needs)
+    (λ c. search needs)
+    (λ c. search needs)
+    (λ c. search needs)
+    (λ c. search needs)
+    (λ c. search needs)
+    (λ c. search needs)
+    (λ c. search needs)
+    (λ c. search needs)
+    returns-2)
