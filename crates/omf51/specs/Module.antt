@@ -15,27 +15,36 @@ use Rattle.omf51.specs.Reader.{Reader, _>>=_, give, refuse, many, atLeas
 use Rattle.omf51.specs.Record.{recordOf}
 use Rattle.omf51.specs.Entry.{ending, nameWith, idSize, idAt, definitionAt, fixupAt}
 
--- the twenty types that at51 knows (in its own table, KNOWN_TYPES, 08h stands twice)
+-- a type is one of the even types, whose records have ids of one byte, or of the odd ones, the same records with ids of two
+abbrev pub eitherOf : List ℕ → List ℕ → ℕ → Bool
+eitherOf even odd type = isIn even type || isIn odd type
+
+-- THE KNOWN TYPES: the thirteen even types of the Intel paper, and seven odd ones
 abbrev pub isKnown : ℕ → Bool
 isKnown =
-    isIn
-    (0x02 ∷ 0x04 ∷ 0x06 ∷ 0x07 ∷ 0x08 ∷ 0x09 ∷ 0x0e ∷ 0x0f ∷ 0x10 ∷ 0x11 ∷ 0x12 ∷ 0x13 ∷ 0x16 ∷ 0x17 ∷ 0x18 ∷ 0x19 ∷ 0x26 ∷ 0x28 ∷ 0x2a ∷ 0x2c ∷ [])
+    eitherOf
+    (0x02 ∷ 0x04 ∷ 0x06 ∷ 0x08 ∷ 0x0e ∷ 0x10 ∷ 0x12 ∷ 0x16 ∷ 0x18 ∷ 0x26 ∷ 0x28 ∷ 0x2a ∷ 0x2c ∷ [])
+    (0x07 ∷ 0x09 ∷ 0x0f ∷ 0x11 ∷ 0x13 ∷ 0x17 ∷ 0x19 ∷ [])
 
 -- the types of definition records: segments, public names, externals
 abbrev pub defines : ℕ → Bool
-defines = isIn (0x0e ∷ 0x0f ∷ 0x16 ∷ 0x17 ∷ 0x18 ∷ 0x19 ∷ [])
+defines = eitherOf (0x0e ∷ 0x16 ∷ 0x18 ∷ []) (0x0f ∷ 0x17 ∷ 0x19 ∷ [])
 
 -- the types of contents
 abbrev pub fills : ℕ → Bool
-fills = isIn (0x06 ∷ 0x07 ∷ [])
+fills = eitherOf (0x06 ∷ []) (0x07 ∷ [])
 
 -- the types of fixup records
 abbrev pub fixes : ℕ → Bool
-fixes = isIn (0x08 ∷ 0x09 ∷ [])
+fixes = eitherOf (0x08 ∷ []) (0x09 ∷ [])
 
--- the types that are skipped among contents: all unknown types, and three known ones
+-- the known types that are skipped among contents
+abbrev pub rests : ℕ → Bool
+rests = eitherOf (0x10 ∷ 0x12 ∷ []) (0x13 ∷ [])
+
+-- the types that are skipped among contents: all unknown types, and these
 abbrev pub isIdle : ℕ → Bool
-isIdle type = not (isKnown type) || isIn (0x10 ∷ 0x12 ∷ 0x13 ∷ []) type
+isIdle type = not (isKnown type) || rests type
 
 -- a record among definitions: it has at least one whole entry (a partial entry behind it is dropped), or is of an
 -- unknown type and skipped

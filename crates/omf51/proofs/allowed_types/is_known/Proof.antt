@@ -1,12 +1,18 @@
--- `is_known` searches at51's table, which has 08h twice. Assumes nothing.
-use mathlib.Core.Path.{_∙_}
-use borrow.Author.Needs.{needs}
-use Rattle.omf51.specs.TypeLaws.{known-types}
+-- `is_known` decides over two groups of types, the even ones and the odd ones. Assumes nothing.
+use mathlib.Core.List.{[], _∷_}
+use Rattle.lent.specs.Lists.{isIn}
+use Rattle.omf51.specs.TypeLaws.{one-in, none-in, or-second}
 use Rattle.omf51.proofs.allowed_types.is_known.Statement.{statement}
 use Rattle.omf51.proofs.allowed_types.is_known.Tie as tie
 
 returns : tie.Need-returns
-returns c = c .is-in .ensures ∙ known-types (c .before .before .args .kind) (search needs)
+returns c = rw (one-in _ _ (c .before .args .kind) (c .match .keys1))
+
+returns-2 : tie.Need-returns-2
+returns-2 c = or-second (isIn (0x02 ∷ 0x04 ∷ 0x06 ∷ 0x08 ∷ 0x0e ∷ 0x10 ∷ 0x12 ∷ 0x16 ∷ 0x18 ∷ 0x26 ∷ 0x28 ∷ 0x2a ∷ 0x2c ∷ []) (c .before .args .kind)) (one-in 0x07 (0x09 ∷ 0x0f ∷ 0x11 ∷ 0x13 ∷ 0x17 ∷ 0x19 ∷ []) (c .before .args .kind) (c .match .keys2))
+
+returns-3 : tie.Need-returns-3
+returns-3 c = rw (none-in _ _ (c .before .args .kind) (c .match .rest .0 .1), none-in _ _ (c .before .args .kind) (c .match .rest .1))
 
 pub is-known-spec : {M : Type 1} → statement M
-is-known-spec = tie.close (tie.spec (λ c. search needs) (λ c κs. search needs) returns)
+is-known-spec = tie.close (tie.spec returns returns-2 returns-3)
