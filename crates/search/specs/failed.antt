@@ -1,0 +1,3 @@
+-- Which reference of a match fails first.
+pub mod Failures
+pub mod FailureLaws
