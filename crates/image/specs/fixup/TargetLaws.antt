@@ -1,5 +1,5 @@
 -- When a reference has a target. Assumes nothing.
-use Prim.Native.Nat.{ℕ, _+_, _-_, _≤_, _<_, max}
+use Prim.Native.Nat.{ℕ, _+_, _-_, _%_, _≤_, _<_, max}
 use mathlib.Core.Path.{_≡_, refl, sym, ap, _∙_}
 use mathlib.Core.Logic.{_↔_, _⊎_, inl, inr}
 use mathlib.Core.Bool.{Bool, true, false, and-eq-true-iff, false≢true}
@@ -32,6 +32,22 @@ rules-0 = refl
 
 pub rules-1 : rulesOf 1 ≡ Documented
 rules-1 = refl
+
+-- as documented the program counter has 16 bits: no target is above FFFFh
+pub target-within : (cells : List ℕ) (pos : ℕ) (kind : Kind) (offset t : ℕ) → target cells Documented pos kind offset ≡ At t → t < 65536
+unfolding target
+target-within cells pos kind offset t e = go (readable cells pos (reads kind)) e
+  where
+    led : ℕ
+    led = minus (leadsTo Documented pos kind (cellAt cells pos) (cellAt cells (pos + 1))) offset
+
+    address : Target → ℕ
+    address (At x) = x
+    address Nowhere = 0
+
+    go : (b : Bool) → (if b then At (led % 65536) else Nowhere) ≡ At t → t < 65536
+    go true h = let same : led % 65536 ≡ t = ap address h in omega (arith, same)
+    go false h = let same : 0 ≡ t = ap address h in omega (arith, same)
 
 -- an image of bytes
 abbrev pub Bytes : List ℕ → Type 0
@@ -125,19 +141,3 @@ module _ (image : List ℕ) (s : Stretch) (bytes : Bytes image) (rules : Rules) 
           → (if t then At led else Nowhere) ≡ Nowhere
       back true e h = absurd (never h e)
       back false e h = refl
-
--- as documented the program counter has 16 bits: no target is above FFFFh
-pub target-within : (cells : List ℕ) (pos : ℕ) (kind : Kind) (offset t : ℕ) → target cells Documented pos kind offset ≡ At t → t < 65536
-unfolding target
-target-within cells pos kind offset t e = go (readable cells pos (reads kind)) e
-  where
-    led : ℕ
-    led = minus (leadsTo Documented pos kind (cellAt cells pos) (cellAt cells (pos + 1))) offset
-
-    address : Target → ℕ
-    address (At x) = x
-    address Nowhere = 0
-
-    go : (b : Bool) → (if b then At (led % 65536) else Nowhere) ≡ At t → t < 65536
-    go true h = let same : led % 65536 ≡ t = ap address h in omega (arith, same)
-    go false h = let same : 0 ≡ t = ap address h in omega (arith, same)
