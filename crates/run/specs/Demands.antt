@@ -102,7 +102,8 @@ module _ (image library : List ℕ) (s : Settings) (lent : Lent) where
     pub rows-within : s .rules ≡ 1 → numberOf (o .answer) ≡ 0 → (i : ℕ) → i < countsOf (o .answer) .lines → lineAt (o .left .lines) i .address < 65536
     rows-within r z i h =
         let x = row-of z i h in
-        rw (x .is) (sixteen-bits image library s r (answered-exactly .0 z .reached .accepted .image-fits) (getD lines i noLine) (at-among lines noLine i (x .number)))
+        subst (λ l. l .address < 65536) (sym (x .is))
+        (sixteen-bits image library s r (answered-exactly .0 z .reached .accepted .image-fits) (getD lines i noLine) (at-among lines noLine i (x .number)))
 
     -- GRADE 0: the name of each row with grade 0 is referred to there, under either rule set
     pub noted-row : numberOf (o .answer) ≡ 0 → (i : ℕ) → i < countsOf (o .answer) .lines → lineAt (o .left .lines) i .grade ≡ 0

@@ -1,6 +1,6 @@
 -- Under rule set 1 the program counter has 16 bits: no line of the list has an address above FFFFh. Assumes nothing.
-use Prim.Native.Nat.{ℕ, _≤_, _<_}
-use mathlib.Core.Path.{_≡_, sym, ap, subst, _∙_}
+use Prim.Native.Nat.{ℕ, _+_, _≤_, _<_}
+use mathlib.Core.Path.{_≡_, sym, ap, _∙_}
 use mathlib.Core.List.{List}
 use native.Mathlib.Omega.{arith}
 use lib.ListN.{length}
@@ -9,7 +9,7 @@ use Rattle.image.specs.View.{view}
 use Rattle.image.specs.ViewLaws.{view-length}
 use Rattle.image.specs.declared.fixup.Rules.{Rules}
 use Rattle.image.specs.declared.fixup.Rules.the-variants.{Documented}
-use Rattle.image.specs.fixup.Target.{rulesOf}
+use Rattle.image.specs.fixup.Target.{rulesOf, target}
 use Rattle.image.specs.fixup.TargetLaws.{target-within}
 use Rattle.omf51.specs.File.{file, modulesIn}
 use Rattle.segments.specs.Collect.{Collected, collect}
@@ -27,7 +27,9 @@ noted-within : (library cells : List ℕ) (a : Asked) (segments : List Collected
     → (n : Noting) → n among noted library cells a segments → n .target < 65536
 noted-within library cells a segments r n i =
     let by = noted-by library cells a segments n i in
-    target-within cells _ _ _ (n .target) (rw r at (by .leads-to))
+    let pos = by .m .position + by .reference .place in
+    target-within cells pos (by .reference .kind) (by .reference .offset) (n .target)
+    (ap (λ rules. target cells rules pos (by .reference .kind) (by .reference .offset)) (sym r) ∙ by .leads-to)
 
 -- and each line is that of a place in the image, or of a noted name
 pub sixteen-bits : (image library : List ℕ) (s : Settings) → s .rules ≡ 1 → length image ≤ 65536

@@ -34,6 +34,24 @@ rules-0 = refl
 pub rules-1 : rulesOf 1 ≡ Documented
 rules-1 = refl
 
+-- as documented the program counter has 16 bits: no target is above FFFFh
+pub target-within : (cells : List ℕ) (pos : ℕ) (kind : Kind) (offset t : ℕ) → target cells Documented pos kind offset ≡ At t → t < 65536
+unfolding target
+target-within cells pos kind offset t e = go (fits cells pos (reads kind)) (shown cells pos (reads kind)) e
+  where
+    led : ℕ
+    led = minus (leadsTo Documented pos kind (cellAt cells pos) (cellAt cells (pos + 1))) offset
+
+    address : Target → ℕ
+    address (At x) = x
+    address PastEnd = 0
+    address Withheld = 0
+
+    go : (a b : Bool) → (if a then if b then At (led % 65536) else Withheld else PastEnd) ≡ At t → t < 65536
+    go true true h = let same : led % 65536 ≡ t = ap address h in omega (arith, same)
+    go true false h = let same : 0 ≡ t = ap address h in omega (arith, same)
+    go false b h = let same : 0 ≡ t = ap address h in omega (arith, same)
+
 -- an image of bytes
 abbrev pub Bytes : List ℕ → Type 0
 Bytes image = (i : ℕ) → cellAt image i < 256
@@ -150,21 +168,3 @@ module _ (image : List ℕ) (s : Stretch) (bytes : Bytes image) (rules : Rules) 
 pub target-alone : (a b : List ℕ) (s : Stretch) → Agree a b s → (rules : Rules) (pos : ℕ) (kind : Kind) (offset : ℕ)
     → target (view a s) rules pos kind offset ≡ target (view b s) rules pos kind offset
 target-alone a b s h rules pos kind offset = ap (λ cells. target cells rules pos kind offset) (same-view a b s h)
-
--- as documented the program counter has 16 bits: no target is above FFFFh
-pub target-within : (cells : List ℕ) (pos : ℕ) (kind : Kind) (offset t : ℕ) → target cells Documented pos kind offset ≡ At t → t < 65536
-unfolding target
-target-within cells pos kind offset t e = go (fits cells pos (reads kind)) (shown cells pos (reads kind)) e
-  where
-    led : ℕ
-    led = minus (leadsTo Documented pos kind (cellAt cells pos) (cellAt cells (pos + 1))) offset
-
-    address : Target → ℕ
-    address (At x) = x
-    address PastEnd = 0
-    address Withheld = 0
-
-    go : (a b : Bool) → (if a then if b then At (led % 65536) else Withheld else PastEnd) ≡ At t → t < 65536
-    go true true h = let same : led % 65536 ≡ t = ap address h in omega (arith, same)
-    go true false h = let same : 0 ≡ t = ap address h in omega (arith, same)
-    go false b h = let same : 0 ≡ t = ap address h in omega (arith, same)
