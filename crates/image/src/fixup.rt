@@ -90,7 +90,10 @@ fn passes(end: usize, pos: usize, n: usize) -> bool
     if end < n {
         return true;
     }
-    end - n < pos
+    if end - n < pos {
+        return true;
+    }
+    false
 }
 
 // The byte of the image at a place, 0 past the end.

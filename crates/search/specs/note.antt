@@ -1,4 +1,4 @@
--- Names are noted, and whether references hold.
+-- Names are noted.
 pub mod NotedNames
 pub mod NotedNameLaws
-pub mod ReferLaws
+pub mod ReferenceLaws

@@ -57,12 +57,16 @@ all-unless p why e k (r ∷ rest) = ap (λ t. t && all p rest) (e r) ∙ go (why
     go none h = h
     go (some w) h = refl
 
+-- of references that lead somewhere, among some segments
+pub none-failed : (cells : List ℕ) (segments : List Collected) (leads : Reference → Target) (rs : List Reference)
+    → all (λ r. holdsAt cells segments (r .goal) (leads r)) rs ≡ isNothing (failedFrom (λ r. failure cells segments (r .goal) (leads r)) 0 rs)
+none-failed cells segments leads rs =
+    all-unless _ (λ r. failure cells segments (r .goal) (leads r)) (λ r. holds-unless cells segments (r .goal) (leads r)) 0 rs
+
 -- A MATCH HOLDS exactly if no reference of it fails
 pub holds-exactly : (cells : List ℕ) (a : Asked) (segments : List Collected) (m : Match) → holds cells a segments m ≡ isNothing (firstFailed cells a segments m)
 unfolding holds firstFailed
-holds-exactly cells a segments m =
-    all-unless _ (λ r. failure cells segments (r .goal) (targetOf cells a (m .position) r))
-    (λ r. holds-unless cells segments (r .goal) (targetOf cells a (m .position) r)) 0 (m .segment .references)
+holds-exactly cells a segments m = none-failed cells segments (targetOf cells a (m .position)) (m .segment .references)
 
 -- number i of some references fails for this reason, and none before it does
 pub record FailsFirst (why : Reference → Option Why) (rs : List Reference) (i : ℕ) (w : Why) : Type 0 where
@@ -72,11 +76,11 @@ pub record FailsFirst (why : Reference → Option Why) (rs : List Reference) (i 
   pub earlier : (j : ℕ) (r : Reference) → j < i → getElem? rs j ≡ some r → why r ≡ none
 
 module _ (why : Reference → Option Why) where
-  numberIn : Failed → ℕ
+  abbrev numberIn : Failed → ℕ
   numberIn Failed.Nothing = 0
   numberIn (Failed.Reference number w) = number
 
-  reasonIn : Failed → Option Why
+  abbrev reasonIn : Failed → Option Why
   reasonIn Failed.Nothing = none
   reasonIn (Failed.Reference number w) = some w
 
@@ -84,24 +88,29 @@ module _ (why : Reference → Option Why) where
       → (i : ℕ) × (number ≡ k + i) × FailsFirst why rs i w
   unfolding failedFrom
   first-at k [] number w e = absurd (none≢some (ap reasonIn e))
-  first-at k (r ∷ rest) number w e = go (why r) refl e
+  first-at k (r ∷ rest) number w e = go (why r) refl (λ h. first-at (k + 1) rest number w h) e
     where
-      go : (o : Option Why) → why r ≡ o → failed k o (failedFrom why (k + 1) rest) ≡ Failed.Reference number w → (i : ℕ) × (number ≡ k + i) × FailsFirst why (r ∷ rest) i w
-      go (some v) q h = (0, omega (arith, ap numberIn h), record {
-        reference = r;
-        there = refl;
-        fails = q ∙ ap reasonIn h;
-        earlier = λ j x l g. absurd (omega (arith, l));
-      })
-      go none q h = later (first-at (k + 1) rest number w h)
+      go : (o : Option Why) → why r ≡ o → (failedFrom why (k + 1) rest ≡ Failed.Reference number w → (i : ℕ) × (number ≡ k + 1 + i) × FailsFirst why rest i w)
+          → failed k o (failedFrom why (k + 1) rest) ≡ Failed.Reference number w → (i : ℕ) × (number ≡ k + i) × FailsFirst why (r ∷ rest) i w
+      go (some v) q on h =
+          let same : k ≡ number = ap numberIn h in (
+            0,
+            omega (arith, same),
+            record { reference = r; there = refl; fails = q ∙ ap reasonIn h; earlier = λ j x l g. absurd (omega (arith, l)) },
+          )
+      go none q on h = later (on h)
         where
           later : (i : ℕ) × (number ≡ k + 1 + i) × FailsFirst why rest i w → (i : ℕ) × (number ≡ k + i) × FailsFirst why (r ∷ rest) i w
-          later (i, n, f) = (suc i, omega (arith, n), record {
-            reference = f .reference;
-            there = f .there;
-            fails = f .fails;
-            earlier = before;
-          })
+          later (i, n, f) = (
+            suc i,
+            omega (arith, n),
+            record {
+              reference = f .reference;
+              there = f .there;
+              fails = f .fails;
+              earlier = before;
+            },
+          )
             where
               inside : Option Reference → Reference
               inside none = r

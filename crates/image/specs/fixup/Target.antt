@@ -96,7 +96,7 @@ unfoldable pub target : List ℕ → Rules → ℕ → Kind → ℕ → Target
 target cells rules pos kind offset =
     if fits cells pos (reads kind)
     then
-        if shown cells pos (reads kind)
-        then At (counted rules (minus (leadsTo rules pos kind (cellAt cells pos) (cellAt cells (pos + 1))) offset))
-        else Withheld
+    if shown cells pos (reads kind)
+    then At (counted rules (minus (leadsTo rules pos kind (cellAt cells pos) (cellAt cells (pos + 1))) offset))
+    else Withheld
     else PastEnd

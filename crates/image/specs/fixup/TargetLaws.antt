@@ -134,20 +134,22 @@ module _ (image : List ℕ) (s : Stretch) (bytes : Bytes image) (rules : Rules) 
 
   -- PAST exactly if the bytes pass the image's end
   pub past-exactly : (target cells rules pos kind offset ≡ PastEnd) ↔ (length image < pos + n)
+  unfolding word
   past-exactly = (λ e. go (decLe (pos + n) (length image)) (isApart s pos n) refl (ap word e), target-past)
     where
       go : Dec (pos + n ≤ length image) → (t : Bool) → isApart s pos n ≡ t → word (target cells rules pos kind offset) ≡ 1 → length image < pos + n
       go (no h) t p e = omega (arith, h)
-      go (yes h) true p e = absurd (omega (arith, sym (ap word (target-shown h p)) ∙ e))
-      go (yes h) false p e = absurd (omega (arith, sym (ap word (target-withheld h p)) ∙ e))
+      go (yes h) true p e = let z : _≡_ {A = ℕ} 0 1 = sym (ap word (target-shown h p)) ∙ e in absurd (omega arith)
+      go (yes h) false p e = let z : _≡_ {A = ℕ} 2 1 = sym (ap word (target-withheld h p)) ∙ e in absurd (omega arith)
 
   -- WITHHELD exactly if they do not, and one of them is withheld
   pub withheld-exactly : (target cells rules pos kind offset ≡ Withheld) ↔ ((pos + n ≤ length image) × Touches pos n s)
+  unfolding word
   withheld-exactly = (λ e. go (decLe (pos + n) (length image)) (apart-or-touches pos n s) (ap word e), λ h. target-withheld (h .0) (touching (h .1)))
     where
       go : Dec (pos + n ≤ length image) → Apart pos n s ⊎ Touches pos n s → word (target cells rules pos kind offset) ≡ 2 → (pos + n ≤ length image) × Touches pos n s
-      go (no h) t e = absurd (omega (arith, sym (ap word (target-past (omega (arith, h)))) ∙ e))
-      go (yes h) (inl p) e = absurd (omega (arith, sym (ap word (target-shown h (apart p))) ∙ e))
+      go (no h) t e = let z : _≡_ {A = ℕ} 1 2 = sym (ap word (target-past (omega (arith, h)))) ∙ e in absurd (omega arith)
+      go (yes h) (inl p) e = let z : _≡_ {A = ℕ} 0 2 = sym (ap word (target-shown h (apart p))) ∙ e in absurd (omega arith)
       go (yes h) (inr t) e = (h, t)
 
   -- so a reference has no target exactly if its bytes pass the image's end or touch the stretch

@@ -4,6 +4,7 @@ use mathlib.Core.Path.{_≡_, refl, sym, ap, _∙_}
 use mathlib.Core.Bool.{Bool, true, false, not, false≢true}
 use mathlib.Core.List.{List, [], _∷_}
 use mathlib.Core.Option.{Option, none, some}
+use Rattle.lent.specs.declared.part.Part.{Part}
 use Rattle.lent.specs.Choice.{if_then_else_}
 use Rattle.image.specs.declared.fixup.Rules.{Rules}
 use Rattle.image.specs.declared.fixup.Target.{Target}
@@ -20,8 +21,8 @@ use Rattle.search_rules.specs.declared.Failed.{Failed}
 use Rattle.search_rules.specs.declared.Failed.the-variants as Failed
 use Rattle.search_rules.specs.Search.{failure, failed, failedFrom}
 use Rattle.search_rules.specs.FailedLaws.{isNothing}
-use Rattle.search.specs.targets.Seats.{IsMatch}
-use Rattle.search.specs.failed.Failures.{leads, whyOf, FailsAt}
+use Rattle.search.specs.targets.Seats.{leads, IsMatch}
+use Rattle.search.specs.failed.Failures.{whyOf, FailsAt}
 
 module _ (cells : List ℕ) (rules : Rules) (position : ℕ) (segments : List ℕ) (n : ℕ) (bytes masks : List ℕ) (k : ℕ) (r : Reference) where
   -- without a target, whatever the goal
@@ -37,9 +38,8 @@ module _ (cells : List ℕ) (rules : Rules) (position : ℕ) (segments : List �
         → FailsAt cells rules position segments n bytes masks k r q
     by-goal goal g q h stored symbols = rw (e, g) (h stored symbols)
 
-    pub fails-name : (goal : Goal) → r .goal ≡ goal → ((number : SegmentNumber) → goal ≡ Goal.Segment number → ⊥) → FailsAt cells rules position segments n bytes masks k r Failed.Nothing
-    fails-name (Goal.Segment number) g z = absurd (z number refl)
-    fails-name (Goal.Name name) g z = by-goal (Goal.Name name) g Failed.Nothing (λ stored symbols. refl)
+    pub fails-name : (name : Part) → r .goal ≡ Goal.Name name → FailsAt cells rules position segments n bytes masks k r Failed.Nothing
+    fails-name name g = by-goal (Goal.Name name) g Failed.Nothing (λ stored symbols. refl)
 
     module _ (number : SegmentNumber) (g : r .goal ≡ Goal.Segment number) (found : Bool) (h : IsMatch cells segments n bytes masks number t found) where
       abbrev answer : Bool → Failed

@@ -1,24 +1,22 @@
--- What one reference notes, case by case; and references one after another. Assumes nothing.
+-- What one reference notes, case by case. Assumes nothing.
 use Prim.Native.Nat.{ℕ}
 use mathlib.Core.Path.{_≡_, refl, sym, ap, subst, _∙_}
 use mathlib.Core.Bool.{Bool}
-use mathlib.Core.List.{List, [], _∷_, append-nil}
+use mathlib.Core.List.{List, []}
 use Rattle.lent.specs.declared.part.Part.{Part}
-use Rattle.lent.specs.Lists.{one, joined}
-use Rattle.lent.specs.ListLaws.{joined-append, joined-end}
 use Rattle.tables.specs.declared.fill.Fill.{Fill}
 use Rattle.image.specs.declared.fixup.Rules.{Rules}
 use Rattle.image.specs.declared.fixup.Target.{Target}
 use Rattle.image.specs.declared.fixup.Target.the-variants.{At, PastEnd, Withheld}
-use Rattle.segments.specs.declared.Goal.{Goal}
 use Rattle.segments.specs.declared.Goal.the-variants as Goal
 use Rattle.segments.specs.declared.SegmentNumber.{SegmentNumber}
 use Rattle.segments.specs.declared.Reference.{Reference}
-use Rattle.tables.specs.by_name.Tables.{table, LeadsOn}
-use Rattle.tables.specs.by_name.TakeLaws.{takes-none, leads-all, lead-on, all-taken}
+use Rattle.tables.specs.by_name.Tables.{table}
+use Rattle.tables.specs.by_name.TakeLaws.{takes-none}
 use Rattle.search_rules.specs.Search.{noteAt, note}
 use Rattle.search_rules.specs.SearchRows.{notedSheet}
-use Rattle.search.specs.note.NotedNames.{Notes, NotesOne, leads, notesOf}
+use Rattle.search.specs.targets.Seats.{leads}
+use Rattle.search.specs.note.NotedNames.{Notes, NotesOne, notesOf}
 
 module _ (cells : List ℕ) (rules : Rules) (position : ℕ) (valid : Bool) (library : List ℕ) (r : Reference) (m heads : List ℕ) (f : Fill) where
   nothing : notesOf cells rules position valid r ≡ [] → Notes library (notesOf cells rules position valid r) m heads f m heads f

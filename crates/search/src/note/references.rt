@@ -73,7 +73,16 @@ pub fn note_references(
     while k < len {
         let r = reference_at(references, at + k);
         f = note_reference(
-            image, s, rules, position, valid, library, r, noted, heads, f,
+            image,
+            s,
+            rules,
+            position,
+            valid,
+            library,
+            r,
+            noted,
+            heads,
+            f,
         );
         k += 1;
     }

@@ -1,87 +1,86 @@
--- `refer_all` goes from row to row. The invariant: whoever goes over those that are left has gone over all. Assumes nothing.
+-- `note_references` goes from row to row. The invariant: whoever notes what is left has noted all. Assumes nothing.
 use Prim.Native.Nat.{ℕ, _+_, _-_, _/_, _≤_}
 use mathlib.Core.Path.{_≡_, refl, sym, ap, subst, _∙_}
-use mathlib.Core.Logic.{_⊎_, inl, inr, ⊎-elim}
-use mathlib.Core.Bool.{Bool, true, false, _&&_}
-use mathlib.Core.List.{List, []}
+use mathlib.Core.Bool.{Bool}
+use mathlib.Core.List.{List, _∷_}
 use native.Mathlib.Omega.{arith}
 use lib.ListN.{length}
 use Rattle.lent.specs.declared.part.Part.{Part}
-use Rattle.lent.specs.Lists.{one}
+use Rattle.lent.specs.Lists.{joined}
+use Rattle.lent.specs.ListLaws.{joined-turn, joined-end}
 use Rattle.tables.specs.declared.fill.Fill.{Fill}
 use Rattle.image.specs.declared.Stretch.{Stretch}
 use Rattle.image.specs.View.{view}
 use Rattle.image.specs.declared.fixup.Rules.{Rules}
-use Rattle.segments.specs.SegmentLayouts.{referenceLayout, referenceAt}
+use Rattle.segments.specs.SegmentLayouts.{referenceLayout}
+use Rattle.tables.specs.by_name.Tables.{table, LeadsOn}
+use Rattle.tables.specs.by_name.TakeLaws.{takes-none, leads-all, lead-on, all-taken}
 use Rattle.segments.specs.recalled.RowsLaws.{rowsFrom, rows-past, rows-few, rows-within, rows-turn, rows-end}
-use Rattle.search.specs.note.NotedNames.{Refers}
-use Rattle.search.specs.note.ReferLaws.{Referring, referring-starts, referring-on, referring-ends}
+use Rattle.search_rules.specs.Search.{Noting, note}
+use Rattle.search_rules.specs.SearchRows.{notedSheet}
+use Rattle.search.specs.note.NotedNames.{Notes, notesOf}
 use borrow.Author.Needs.{needs}
-use Rattle.search.proofs.note.refer.refer_all.Statement.{statement}
-use Rattle.search.proofs.note.refer.refer_all.Tie as tie
+use Rattle.search.proofs.note.references.note_references.Statement.{statement}
+use Rattle.search.proofs.note.references.note_references.Tie as tie
 
-both-came : (a b now : Bool) → ((a ≡ true) × (now ≡ b)) ⊎ ((a ≡ false) × (now ≡ a)) → now ≡ (a && b)
-both-came a b now (inl (e, h)) = h ∙ ap (λ t. t && b) (sym e)
-both-came a b now (inr (e, h)) = h ∙ e ∙ ap (λ t. t && b) (sym e)
+-- what the references from row k of the part on note
+abbrev left : List ℕ → Stretch → Rules → ℕ → Bool → List ℕ → Part → ℕ → List Noting
+left image s rules position valid references part k = joined (notesOf (view image s) rules position valid) (rowsFrom referenceLayout references part k)
 
-record Inv (image : List ℕ) (s : Stretch) (rules : Rules) (position : ℕ) (valid : Bool) (library segments : List ℕ) (n : ℕ)
-    (references bytes masks noted₀ heads₀ : List ℕ) (f₀ : Fill) (part : Part) (noted heads : List ℕ) (holds : Bool) (f : Fill) (k : ℕ) : Type 0 where
+record Inv (image : List ℕ) (s : Stretch) (rules : Rules) (position : ℕ) (valid : Bool) (library references : List ℕ) (part : Part) (noted₀ heads₀ : List ℕ)
+    (f₀ : Fill) (noted heads : List ℕ) (f : Fill) (k : ℕ) : Type 0 where
   within : k ≤ part .len
   long : length noted ≡ length noted₀
   heads-long : length heads ≡ length heads₀
-  refers : Referring (view image s) rules position valid library segments n bytes masks (rowsFrom referenceLayout references part 0)
-      (rowsFrom referenceLayout references part k) noted₀ heads₀ f₀ noted heads f holds
+  leads : LeadsOn notedSheet library (note library) (left image s rules position valid references part k) (table noted heads f)
+      (left image s rules position valid references part 0) (table noted₀ heads₀ f₀)
 
 abbrev Inv-loop : tie.InvT-loop
-Inv-loop image s rules position valid library segments n references bytes masks noted₀ heads₀ holds₀ f₀ at len k₀ noted heads holds f k =
-    Inv image s rules position valid library segments n references bytes masks noted₀ heads₀ f₀ (record { at = at; len = len }) noted heads holds f k
+Inv-loop image s rules position valid library references noted₀ heads₀ f₀ at len k₀ noted heads f k =
+    Inv image s rules position valid library references (record { at = at; len = len }) noted₀ heads₀ f₀ noted heads f k
 
 abbrev μ-loop : tie.MeasureT-loop
-μ-loop image s rules position valid library segments n references bytes masks noted₀ heads₀ holds₀ f₀ at len k₀ noted heads holds f k = len - k
+μ-loop image s rules position valid library references noted₀ heads₀ f₀ at len k₀ noted heads f k = len - k
 
 -- The ladder: places of the code that the answers cite, each as it is seen from a later place.
-abbrev at-entry : tie.After-lies-within Inv-loop μ-loop → tie.Start Inv-loop μ-loop
-at-entry c = c .before .before .before .before .before .before .before .before .before
+abbrev at-entry : tie.Else1 Inv-loop μ-loop → tie.Start Inv-loop μ-loop
+at-entry c = c .before .before .before .before .before .before .before
 
-abbrev after-reference-at : tie.Joined2 Inv-loop μ-loop → tie.After-reference-at Inv-loop μ-loop
-after-reference-at c = c .before .before .before .before .before .before .before .before .before
+abbrev after-reference-at : tie.After-slice-known4 Inv-loop μ-loop → tie.After-reference-at Inv-loop μ-loop
+after-reference-at c = c .before .before .before .before .before .before .before
 
-fits : (c : tie.In-loop Inv-loop μ-loop) → at-entry (c .before .before .before) .args .part .at +
-    at-entry (c .before .before .before) .args .part .len ≤ length (at-entry (c .before .before .before) .args .references .now) / 6
+fits : (c : tie.At-loop Inv-loop μ-loop) → at-entry (c .before) .args .part .at + at-entry (c .before) .args .part .len ≤ length (at-entry (c .before) .args .references .now) / 6
 fits c =
-    let lies-within = c .before .before .before in
-    let entry = at-entry lies-within in
-    rows-few referenceLayout (entry .args .references .now) (entry .args .part) (lies-within .lies-within .result) (lies-within .lies-within .ensures) (c .before .before .if1 .left)
+    let lies-within = c .before .before in
+    let entry = at-entry (c .before) in
+    rows-few referenceLayout (entry .args .references .now) (entry .args .part) (lies-within .lies-within .result) (lies-within .lies-within .ensures) (c .before .if1 .left)
 
 returns : tie.Need-returns Inv-loop μ-loop
 returns c =
-    let a = at-entry (c .before) .args in
-    let cells = view (a .image .now) (a .s) in
-    subst (λ rs. Refers cells (a .rules) (a .position) (a .valid) (a .library .now) (a .segments .now) (a .n) (a .bytes .now) (a .masks .now) rs
-    (a .noted .now) (a .heads .now) (a .before) (a .noted .now) (a .heads .now) (record { holds = true; fill = a .before }))
-    (sym (rows-past referenceLayout (a .references .now) (a .part) (c .before .lies-within .result) (c .before .lies-within .ensures) (c .if1 .taken)))
-    (referring-ends cells (a .rules) (a .position) (a .valid) (a .library .now) (a .segments .now) (a .n) (a .bytes .now) (a .masks .now) []
-    (a .noted .now) (a .heads .now) (a .before) (a .noted .now) (a .heads .now) (a .before) true
-    (referring-starts cells (a .rules) (a .position) (a .valid) (a .library .now) (a .segments .now) (a .n) (a .bytes .now) (a .masks .now) [] (a .noted .now) (a .heads .now) (a .before)) refl)
+    let a = c .before .before .before .before .before .before .before .args in
+    subst (λ xs. Notes (a .library .now) xs (a .noted .now) (a .heads .now) (a .before) (a .noted .now) (a .heads .now) (a .before))
+    (sym (joined-end (notesOf (view (a .image .now) (a .s)) (a .rules) (a .position) (a .valid))
+    (rows-past referenceLayout (a .references .now) (a .part) (c .before .lies-within .result) (c .before .lies-within .ensures) (c .if1 .taken))))
+    (takes-none notedSheet (a .library .now) (note (a .library .now)) (table (a .noted .now) (a .heads .now) (a .before)))
 
 loop-holds : tie.Need-loop-holds Inv-loop μ-loop
 loop-holds c =
-    let a = at-entry (c .before) .args in
+    let a = at-entry c .args in
     record {
       within = omega arith;
       long = refl;
       heads-long = refl;
-      refers = referring-starts (view (a .image .now) (a .s)) (a .rules) (a .position) (a .valid) (a .library .now) (a .segments .now) (a .n)
-          (a .bytes .now) (a .masks .now) (rowsFrom referenceLayout (a .references .now) (a .part) 0) (a .noted .now) (a .heads .now) (a .before);
+      leads = leads-all notedSheet (a .library .now) (note (a .library .now))
+          (left (a .image .now) (a .s) (a .rules) (a .position) (a .valid) (a .references .now) (a .part) 0) (table (a .noted .now) (a .heads .now) (a .before));
     }
 
 add-reference-at : tie.Need-add-reference-at Inv-loop μ-loop
-add-reference-at c = omega (arith, c .loop-test .taken, fits c, at-entry (c .before .before .before) .good .1 .1 .1 .1 .1 .1 .1 .1 .0)
+add-reference-at c = omega (arith, c .loop-test .taken, fits (c .before), at-entry (c .before .before) .good .1 .1 .1 .1 .1 .1 .0)
 
 add-k : tie.Need-add-k Inv-loop μ-loop
 add-k c =
-    let in-loop = after-reference-at c .before in
-    omega (arith, in-loop .loop-test .taken, fits in-loop, at-entry (in-loop .before .before .before) .good .1 .1 .1 .1 .1 .1 .1 .1 .0)
+    let reference-at = after-reference-at c in
+    omega (arith, reference-at .before .loop-test .taken, fits (reference-at .before .before), at-entry (reference-at .before .before .before) .good .1 .1 .1 .1 .1 .1 .0)
 
 loop-less : tie.Need-loop-less Inv-loop μ-loop
 loop-less c = omega (arith, after-reference-at c .before .loop-test .taken)
@@ -90,24 +89,24 @@ loop-again : tie.Need-loop-again Inv-loop μ-loop
 loop-again c =
     let reference-at = after-reference-at c in
     let in-loop = reference-at .before in
-    let a = at-entry (in-loop .before .before .before) .args in
+    let q = c .before .before .before .before .note-reference in
+    let a = at-entry (in-loop .before .before) .args in
     let l = in-loop .before .loop in
-    let q = c .before .before .before .before .before .before .refer-one in
-    let cells = view (a .image .now) (a .s) in
+    let r = reference-at .reference-at in
+    let rest = rowsFrom referenceLayout (a .references .now) (a .part) (l .k + 1) in
     record {
       within = omega (arith, in-loop .loop-test .taken);
-      long = c .before .before .before .before .before .noted .given ∙ l .inv .long;
-      heads-long = c .before .before .before .heads .given ∙ l .inv .heads-long;
-      refers =
-          referring-on cells (a .rules) (a .position) (a .valid) (a .library .now) (a .segments .now) (a .n) (a .bytes .now) (a .masks .now)
-          (rowsFrom referenceLayout (a .references .now) (a .part) 0) (a .noted .now) (a .heads .now) (a .before)
-          (l .noted) (l .heads) (l .f) (l .holds) (l .inv .refers) (referenceAt (a .references .now) (a .part .at + l .k))
-          (rowsFrom referenceLayout (a .references .now) (a .part) (l .k + 1)) (q .last .1 .1 .1 .1 .1 .1 .1 .1 .1 .1 .1 .0) (q .last .1 .1 .1 .1 .1 .1 .1 .1 .1 .1 .1 .1 .0) (q .result)
-          (rows-turn referenceLayout (a .references .now) (a .part) (l .k) (omega (arith, in-loop .loop-test .taken)))
-          (subst (λ r. Refers cells (a .rules) (a .position) (a .valid) (a .library .now) (a .segments .now) (a .n) (a .bytes .now) (a .masks .now)
-          (one r) (l .noted) (l .heads) (l .f) (q .last .1 .1 .1 .1 .1 .1 .1 .1 .1 .1 .1 .0) (q .last .1 .1 .1 .1 .1 .1 .1 .1 .1 .1 .1 .1 .0)
-          (q .result)) (reference-at .reference-at .ensures) (q .ensures))
-          (c .if2 .holds) (both-came (l .holds) (q .result .holds) (c .if2 .holds) (⊎-elim (λ w. inl (w .0 .taken, w .1)) (λ w. inr (w .0 .left, w .1)) (c .if2 .came)));
+      long = c .before .before .before .noted .given ∙ l .inv .long;
+      heads-long = c .before .heads .given ∙ l .inv .heads-long;
+      leads =
+          lead-on notedSheet (a .library .now) (note (a .library .now)) (notesOf (view (a .image .now) (a .s)) (a .rules) (a .position) (a .valid) (r .result))
+          (left (a .image .now) (a .s) (a .rules) (a .position) (a .valid) (a .references .now) (a .part) (l .k + 1))
+          (left (a .image .now) (a .s) (a .rules) (a .position) (a .valid) (a .references .now) (a .part) 0)
+          {t₀ = table (a .noted .now) (a .heads .now) (a .before)} {t = table (l .noted) (l .heads) (l .f)}
+          {u = table (q .last .1 .1 .1 .1 .1 .1 .1 .0) (q .last .1 .1 .1 .1 .1 .1 .1 .1 .0) (q .result)}
+          (joined-turn (notesOf (view (a .image .now) (a .s)) (a .rules) (a .position) (a .valid))
+          (rows-turn referenceLayout (a .references .now) (a .part) (l .k) (omega (arith, in-loop .loop-test .taken)) ∙ ap (λ x. x ∷ rest) (sym (r .ensures))))
+          (q .ensures) (l .inv .leads);
     }
 
 same-length : tie.Need-same-length Inv-loop μ-loop
@@ -119,18 +118,18 @@ same-length-2 c = c .before .loop .inv .heads-long
 returns-2 : tie.Need-returns-2 Inv-loop μ-loop
 returns-2 c =
     let lies-within = c .before .before .before in
-    let a = at-entry lies-within .args in
+    let a = at-entry (c .before .before) .args in
     let l = c .before .loop in
-    let cells = view (a .image .now) (a .s) in
-    subst (λ rs. Refers cells (a .rules) (a .position) (a .valid) (a .library .now) (a .segments .now) (a .n) (a .bytes .now) (a .masks .now) rs
-    (a .noted .now) (a .heads .now) (a .before) (l .noted) (l .heads) (record { holds = l .holds; fill = l .f }))
+    subst (λ rs. Notes (a .library .now) (joined (notesOf (view (a .image .now) (a .s)) (a .rules) (a .position) (a .valid)) rs) (a .noted .now)
+    (a .heads .now) (a .before) (l .noted) (l .heads) (l .f))
     (sym (rows-within referenceLayout (a .references .now) (a .part) (lies-within .lies-within .result) (lies-within .lies-within .ensures) (c .before .before .if1 .left)))
-    (referring-ends cells (a .rules) (a .position) (a .valid) (a .library .now) (a .segments .now) (a .n) (a .bytes .now) (a .masks .now)
-    (rowsFrom referenceLayout (a .references .now) (a .part) 0) (a .noted .now) (a .heads .now) (a .before)
-    (l .noted) (l .heads) (l .f) (l .holds) (l .inv .refers) (rows-end referenceLayout (a .references .now) (a .part) (l .k) (omega (arith, c .loop-test .left))))
+    (all-taken notedSheet (a .library .now) (note (a .library .now)) (left (a .image .now) (a .s) (a .rules) (a .position) (a .valid) (a .references .now) (a .part) 0)
+    {t₀ = table (a .noted .now) (a .heads .now) (a .before)} {t = table (l .noted) (l .heads) (l .f)}
+    (joined-end (notesOf (view (a .image .now) (a .s)) (a .rules) (a .position) (a .valid))
+    (rows-end referenceLayout (a .references .now) (a .part) (l .k) (omega (arith, c .loop-test .left)))) (l .inv .leads))
 
-pub refer-all-spec : {M : Type 1} → statement M
-refer-all-spec =
+pub note-references-spec : {M : Type 1} → statement M
+note-references-spec =
     tie.close
     (tie.spec
     Inv-loop
