@@ -48,7 +48,13 @@ fn targets() {
     both_rules(b"P9", 0, Kind::Relative, 0xfe, 0);
     say(b"P10");
     target(b"\x00\x00\x00\x12", NOTHING, Rules::AsFound, 3, Kind::Word);
-    target(b"\x00\x00\x00\x12\x34", NOTHING, Rules::AsFound, 3, Kind::Word);
+    target(
+        b"\x00\x00\x00\x12\x34",
+        NOTHING,
+        Rules::AsFound,
+        3,
+        Kind::Word,
+    );
     say(b"\n");
 }
 

@@ -95,7 +95,7 @@ table =
     ∷ []
 
 pub all-hold : map (λ e. e .computed) table ≡ map (λ e. e .result) table
-unfolding table matches matchesAt all keep from readable target masksOf fold describe description oneOf placeOf same numbered view
+unfolding table matches matchesAt all keep from shown target masksOf fold describe description oneOf placeOf same numbered view
 all-hold = refl
 
 -- The whole printed case.
