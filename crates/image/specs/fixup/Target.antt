@@ -4,7 +4,7 @@ use Prim.Native.Nat.{ℕ, _+_, _-_, _*_, _/_, _%_, _^_}
 use mathlib.Core.Bool.{Bool}
 use mathlib.Core.List.{List}
 use mathlib.Core.Option.{Option, none, some}
-use lib.Dec.{eqb, leb, ltb}
+use lib.Dec.{eqb, ltb}
 use lib.ListN.{length}
 use Rattle.lent.specs.Choice.{if_then_else_}
 use Rattle.lent.specs.Lists.{all, from}
@@ -77,9 +77,9 @@ reads Relative = 1
 reads Word = 2
 reads Inblock = 2
 
--- the n cells at `pos` do not pass the view's end
-abbrev pub fits : List ℕ → ℕ → ℕ → Bool
-fits cells pos n = leb (pos + n) (length cells)
+-- the n cells at `pos` pass the view's end
+abbrev pub passes : List ℕ → ℕ → ℕ → Bool
+passes cells pos n = ltb (length cells) (pos + n)
 
 -- none of the n cells at `pos` is withheld
 unfoldable pub shown : List ℕ → ℕ → ℕ → Bool
@@ -94,9 +94,6 @@ counted Documented t = t % 65536
 -- one of them is withheld. Else the fixup's offset is subtracted from the address, and then the program counter wraps
 unfoldable pub target : List ℕ → Rules → ℕ → Kind → ℕ → Target
 target cells rules pos kind offset =
-    if fits cells pos (reads kind)
-    then
-    if shown cells pos (reads kind)
-    then At (counted rules (minus (leadsTo rules pos kind (cellAt cells pos) (cellAt cells (pos + 1))) offset))
+    if passes cells pos (reads kind) then PastEnd
+    else if shown cells pos (reads kind) then At (counted rules (minus (leadsTo rules pos kind (cellAt cells pos) (cellAt cells (pos + 1))) offset))
     else Withheld
-    else PastEnd

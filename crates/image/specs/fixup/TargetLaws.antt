@@ -7,7 +7,7 @@ use mathlib.Core.List.{List}
 use mathlib.Core.Option.{none}
 use native.Mathlib.Decide.{decLe, decLt}
 use native.Mathlib.Omega.{arith}
-use borrow.Author.Tests.{le-leb, lt-leb, ltb-true, lt-ltb}
+use borrow.Author.Tests.{ltb-true, lt-ltb, le-ltb}
 use lib.ListN.{length}
 use Rattle.lent.specs.Choice.{if_then_else_}
 use Rattle.lent.specs.ChoiceLaws.{same-test}
@@ -25,7 +25,7 @@ use Rattle.image.specs.declared.fixup.Rules.the-variants.{AsFound, Docum
 use Rattle.image.specs.declared.fixup.Kind.{Kind}
 use Rattle.image.specs.declared.fixup.Target.{Target}
 use Rattle.image.specs.declared.fixup.Target.the-variants.{At, PastEnd, Withheld}
-use Rattle.image.specs.fixup.Target.{rulesOf, minus, leadsTo, counted, reads, fits, shown, addressIn, target}
+use Rattle.image.specs.fixup.Target.{rulesOf, minus, leadsTo, counted, reads, passes, shown, addressIn, target}
 
 -- rule set 0 is as found, 1 as documented
 pub rules-0 : rulesOf 0 ≡ AsFound
@@ -34,10 +34,16 @@ rules-0 = refl
 pub rules-1 : rulesOf 1 ≡ Documented
 rules-1 = refl
 
+-- bytes that pass the image's end are past it, whatever is withheld
+pub target-past : (image : List ℕ) (s : Stretch) (rules : Rules) (pos : ℕ) (kind : Kind) (offset : ℕ) → length image < pos + reads kind
+    → target (view image s) rules pos kind offset ≡ PastEnd
+unfolding target
+target-past image s rules pos kind offset h = rw (lt-ltb (length (view image s)) (pos + reads kind) (omega (arith, h, view-length image s)))
+
 -- as documented the program counter has 16 bits: no target is above FFFFh
 pub target-within : (cells : List ℕ) (pos : ℕ) (kind : Kind) (offset t : ℕ) → target cells Documented pos kind offset ≡ At t → t < 65536
 unfolding target
-target-within cells pos kind offset t e = go (fits cells pos (reads kind)) (shown cells pos (reads kind)) e
+target-within cells pos kind offset t e = go (passes cells pos (reads kind)) (shown cells pos (reads kind)) e
   where
     led : ℕ
     led = minus (leadsTo Documented pos kind (cellAt cells pos) (cellAt cells (pos + 1))) offset
@@ -47,10 +53,10 @@ target-within cells pos kind offset t e = go (fits cells pos (reads kind)) (show
     address PastEnd = 0
     address Withheld = 0
 
-    go : (a b : Bool) → (if a then if b then At (led % 65536) else Withheld else PastEnd) ≡ At t → t < 65536
-    go true true h = let same : led % 65536 ≡ t = ap address h in omega (arith, same)
-    go true false h = let same : 0 ≡ t = ap address h in omega (arith, same)
-    go false b h = let same : 0 ≡ t = ap address h in omega (arith, same)
+    go : (a b : Bool) → (if a then PastEnd else if b then At (led % 65536) else Withheld) ≡ At t → t < 65536
+    go true b h = let same : 0 ≡ t = ap address h in omega (arith, same)
+    go false true h = let same : led % 65536 ≡ t = ap address h in omega (arith, same)
+    go false false h = let same : 0 ≡ t = ap address h in omega (arith, same)
 
 -- an image of bytes
 abbrev pub Bytes : List ℕ → Type 0
@@ -91,7 +97,7 @@ apart-or-touches at n s = go (decLt w (at + n)) (decLt w (s .start + s .len))
     go (yes a) (no b) = inl (λ i l m h. omega (arith, b, h .0, h .1))
     go (no a) b = inl (λ i l m h. omega (arith, a, h .0, h .1))
 
--- the three answers, by the image's end and the window
+-- the answers for bytes that do not pass the image's end, by the window; and all three, exactly
 module _ (image : List ℕ) (s : Stretch) (bytes : Bytes image) (rules : Rules) (pos : ℕ) (kind : Kind) (offset : ℕ) where
   abbrev cells : List ℕ
   cells = view image s
@@ -102,13 +108,9 @@ module _ (image : List ℕ) (s : Stretch) (bytes : Bytes image) (rules : Rules) 
   abbrev led : ℕ
   led = counted rules (minus (leadsTo rules pos kind (cellAt cells pos) (cellAt cells (pos + 1))) offset)
 
-  pub target-past : length image < pos + n → target cells rules pos kind offset ≡ PastEnd
-  unfolding target
-  target-past h = rw (lt-leb (pos + n) (length cells) (omega (arith, h, view-length image s)))
-
   by-window : pos + n ≤ length image → (t : Bool) → isApart s pos n ≡ t → target cells rules pos kind offset ≡ (if t then At led else Withheld)
   unfolding target
-  by-window h t e = rw (le-leb (pos + n) (length cells) (omega (arith, h, view-length image s)), shown-window image s bytes pos n h ∙ e)
+  by-window h t e = rw (le-ltb (length cells) (pos + n) (omega (arith, h, view-length image s)), shown-window image s bytes pos n h ∙ e)
 
   pub target-withheld : pos + n ≤ length image → isApart s pos n ≡ false → target cells rules pos kind offset ≡ Withheld
   target-withheld h e = by-window h false e
@@ -132,10 +134,13 @@ module _ (image : List ℕ) (s : Stretch) (bytes : Bytes image) (rules : Rules) 
       go true e = absurd (is-apart s pos n .0 e (t .0) (t .1) (t .2) (t .3))
       go false e = refl
 
+  beyond : length image < pos + n → target cells rules pos kind offset ≡ PastEnd
+  beyond h = target-past image s rules pos kind offset h
+
   -- PAST exactly if the bytes pass the image's end
   pub past-exactly : (target cells rules pos kind offset ≡ PastEnd) ↔ (length image < pos + n)
   unfolding word
-  past-exactly = (λ e. go (decLe (pos + n) (length image)) (isApart s pos n) refl (ap word e), target-past)
+  past-exactly = (λ e. go (decLe (pos + n) (length image)) (isApart s pos n) refl (ap word e), beyond)
     where
       go : Dec (pos + n ≤ length image) → (t : Bool) → isApart s pos n ≡ t → word (target cells rules pos kind offset) ≡ 1 → length image < pos + n
       go (no h) t p e = omega (arith, h)
@@ -148,7 +153,7 @@ module _ (image : List ℕ) (s : Stretch) (bytes : Bytes image) (rules : Rules) 
   withheld-exactly = (λ e. go (decLe (pos + n) (length image)) (apart-or-touches pos n s) (ap word e), λ h. target-withheld (h .0) (touching (h .1)))
     where
       go : Dec (pos + n ≤ length image) → Apart pos n s ⊎ Touches pos n s → word (target cells rules pos kind offset) ≡ 2 → (pos + n ≤ length image) × Touches pos n s
-      go (no h) t e = let z : _≡_ {A = ℕ} 1 2 = sym (ap word (target-past (omega (arith, h)))) ∙ e in absurd (omega arith)
+      go (no h) t e = let z : _≡_ {A = ℕ} 1 2 = sym (ap word (beyond (omega (arith, h)))) ∙ e in absurd (omega arith)
       go (yes h) (inl p) e = let z : _≡_ {A = ℕ} 0 2 = sym (ap word (target-shown h (apart p))) ∙ e in absurd (omega arith)
       go (yes h) (inr t) e = (h, t)
 
@@ -162,7 +167,7 @@ module _ (image : List ℕ) (s : Stretch) (bytes : Bytes image) (rules : Rules) 
       there (yes h) (inl p) e = absurd (none≢some (sym e ∙ ap addressIn (target-shown h (apart p))))
 
       back : Dec (pos + n ≤ length image) → (length image < pos + n) ⊎ Touches pos n s → addressIn (target cells rules pos kind offset) ≡ none
-      back (no h) q = ap addressIn (target-past (omega (arith, h)))
+      back (no h) q = ap addressIn (beyond (omega (arith, h)))
       back (yes h) (inl l) = absurd (omega (arith, h, l))
       back (yes h) (inr t) = ap addressIn (target-withheld h (touching t))
 

@@ -5,7 +5,7 @@ use mathlib.Core.Bool.{Bool, true, false, not, _&&_, _||_, or-true, false≢true
 use mathlib.Core.List.{List, [], _∷_, map, List·Memᴰ·head, List·Memᴰ·tail, List·Memᴰ·not-nil}
 use native.Mathlib.Nat.{add-zero}
 use native.Mathlib.Omega.{arith}
-use borrow.Author.Tests.{eqb-true, eq-eqb, ne-eqb, lt-leb}
+use borrow.Author.Tests.{eqb-true, eq-eqb, ne-eqb}
 use lib.Dec.{eqb}
 use lib.ListN.{length, getD, List·getD-eq-default}
 use Rattle.lent.specs.Choice.{if_then_else_}
@@ -15,11 +15,11 @@ use Rattle.lent.specs.Members.{_among_, of-keep}
 use Rattle.lent.specs.Parts.{bytesOf}
 use Rattle.image.specs.declared.Stretch.{Stretch}
 use Rattle.image.specs.View.{view}
-use Rattle.image.specs.ViewLaws.{view-length}
 use Rattle.image.specs.declared.fixup.Rules.{Rules}
 use Rattle.image.specs.declared.fixup.Kind.{Kind}
 use Rattle.image.specs.declared.fixup.Target.the-variants.{PastEnd}
-use Rattle.image.specs.fixup.Target.{reads, target}
+use Rattle.image.specs.fixup.Target.{target}
+use Rattle.image.specs.fixup.TargetLaws.{target-past}
 use Rattle.image.specs.declared.Seat.{Seat}
 use Rattle.image.specs.declared.Seat.the-variants.{Anywhere, Only}
 use Rattle.image.specs.Match.{matchesAt, tried, matches}
@@ -71,8 +71,7 @@ module _ (cells bytes masks : List ℕ) (at : ℕ) where
 
 -- past the image's end there is no target
 pub past-target : (image : List ℕ) (s : Stretch) (rules : Rules) (pos : ℕ) (kind : Kind) (offset : ℕ) → length image < pos → target (view image s) rules pos kind offset ≡ PastEnd
-unfolding target
-past-target image s rules pos kind offset h = rw (lt-leb (pos + reads kind) (length (view image s)) (omega (arith, view-length image s)))
+past-target image s rules pos kind offset h = target-past image s rules pos kind offset (omega (arith, h))
 
 -- the matches of the segment of a number, recalled from rows
 module _ (cells segments references symbols bytes masks : List ℕ) (n : ℕ) where

@@ -38,7 +38,7 @@ windowed c = let a = at-entry (c .before .before) .args in ap (isApart (a .s) (a
 returns : tie.Need-returns
 returns c =
     let a = at-entry (c .before) .args in
-    sym (target-past (a .image .now) (a .s) (bytes (c .before)) (a .rules) (a .pos) (a .kind) (a .offset)
+    sym (target-past (a .image .now) (a .s) (a .rules) (a .pos) (a .kind) (a .offset)
     (ltb-true (length (a .image .now)) (a .pos + reads (a .kind)) (passing (c .before) ∙ c .if1 .taken)))
 
 returns-2 : tie.Need-returns-2
