@@ -4,11 +4,12 @@ ghost use mathlib.Core.Path.{_≡_};
 ghost use mathlib.Core.Bool.{_&&_};
 ghost use Prim.Native.Nat.{_+_, _<_};
 ghost use lib.Dec.{eqb};
+ghost use lib.ListN.{length};
 ghost use Rattle.lent.specs.Parts.{bytesOf, same as sameBytes};
 ghost use Rattle.tables.specs.by_name.Sheet.{spread as spreadBytes, ends, nameBucket};
 ghost use Rattle.tables.specs.by_name.Heads.{headAt, lowHead, headSet, headsWith};
 ghost use Rattle.tables.specs.by_name.Tables.{followed};
-ghost use Rattle.tables.specs.by_name.Tags.{Whole, tagAt, otherLength};
+ghost use Rattle.tables.specs.by_name.Tags.{Whole, tagAt, otherLength, mayBe, Passes};
 use crate::links::number_at;
 use lent::names;
 use lent::part::Part;
@@ -107,6 +108,48 @@ fn is_tagged(library: &[u8], tag: Tag, key: u64, bytes: &[u8]) -> bool
     names::same(names::name(library, tag.name), bytes)
 }
 
+// Whether the row at a place has this key, and a name of this length. The length tells more rows of a bucket apart than the
+// key does, so it comes first.
+fn may_be(m: &[u64], at: usize, key: u64, len: usize) -> bool
+    requires { ⌜ at + 2 < length (now m) ⌝ }
+    ensures { λ r. ⌜ r ≡ mayBe (now (m .entry)) at key len ⌝ }
+{
+    if m[at + 2] as usize != len {
+        return false;
+    }
+    m[at] == key
+}
+
+// Follows the links of a bucket from `link` on, past the rows that have another key, or a name of another length; gives the
+// link to the first row that has both, or 0. Most rows of a long bucket are passed here, so the loop does no more than it
+// must: if the first row is one of the `rows` whole rows, so are the earlier ones. If it is not, or if no length rules out
+// the name, no row is passed.
+fn pass(m: &[u64], width: usize, rows: usize, link: usize, key: u64, len: usize) -> usize
+    requires { ⌜ Whole width (now m) rows ⌝ }
+    ensures { λ r. ⌜ Passes width (now (m .entry)) key len link r ⌝ }
+{
+    if len == 0 {
+        return link;
+    }
+    if rows < link {
+        return link;
+    }
+    let mut here = link;
+    while here != 0 {
+        let i = here - 1;
+        let at = i * width;
+        if may_be(m, at, key, len) {
+            return here;
+        }
+        let next = m[at + (width - 1)] as usize;
+        if i < next {
+            return 0;
+        }
+        here = next;
+    }
+    0
+}
+
 // Follows the links of a bucket from `link` on, to the first row with this key and name; gives the link to that row, or
 // 0. A link that does not lead to an earlier row ends the search, so that the loop ends on any numbers.
 pub fn find(library: &[u8], m: &[u64], width: usize, link: usize, key: u64, name: Part) -> usize
@@ -116,11 +159,15 @@ pub fn find(library: &[u8], m: &[u64], width: usize, link: usize, key: u64, name
     let rows = whole_rows(m, width);
     let mut here = link;
     while here != 0 {
-        let tag = tag_at(m, width, rows, here - 1);
-        if is_tagged(library, tag, key, bytes) {
-            return here;
+        let there = pass(m, width, rows, here, key, bytes.len());
+        if there == 0 {
+            return 0;
         }
-        if here <= tag.next {
+        let tag = tag_at(m, width, rows, there - 1);
+        if is_tagged(library, tag, key, bytes) {
+            return there;
+        }
+        if there <= tag.next {
             return 0;
         }
         here = tag.next;

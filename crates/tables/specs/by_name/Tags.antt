@@ -1,10 +1,14 @@
--- What a search looks at in a row (its tag).
-use Prim.Native.Nat.{ℕ, _-_, _/_, _≤_, _<_}
+-- What a search looks at in a row (its tag), and which rows it passes.
+use Prim.Native.Nat.{ℕ, _+_, _-_, _/_, _≤_, _<_}
+use mathlib.Core.Path.{_≡_}
 use mathlib.Core.Bool.{Bool, _&&_, not}
 use mathlib.Core.List.{List}
 use lib.Dec.{eqb}
-use lib.ListN.{length}
+use lib.ListN.{length, getD}
+use Rattle.lent.specs.declared.part.Part.{Part}
+use Rattle.lent.specs.Parts.{bytesOf}
 use Rattle.lent.specs.Rows.{cellOf}
+use Rattle.tables.specs.by_name.Tables.{followed}
 use Rattle.tables.specs.declared.by_name.Tag.{Tag}
 
 abbrev pub tagAt : ℕ → List ℕ → ℕ → Tag
@@ -19,3 +23,13 @@ otherLength len wanted = not (eqb wanted 0) && not (eqb len wanted)
 pub record Whole (width : ℕ) (m : List ℕ) (rows : ℕ) : Type 0 where
   pub whole : rows ≤ length m / width
   pub wide : 0 < rows → 3 ≤ width
+
+-- the row whose numbers start at a place has this key, and a name of this length
+abbrev pub mayBe : List ℕ → ℕ → ℕ → ℕ → Bool
+mayBe m at key len = eqb (getD m (at + 2) 0) len && eqb (getD m at 0) key
+
+-- rows from `link` to `r` may be passed: whichever name of this length is sought with this key, the way from `link` comes to
+-- what the way from `r` comes to
+pub record Passes (width : ℕ) (m : List ℕ) (key len link r : ℕ) : Type 0 where
+  pub near : r ≤ link
+  pub right : (library : List ℕ) (name : Part) → length (bytesOf library name) ≡ len → followed library width m key name link ≡ followed library width m key name r
