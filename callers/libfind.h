@@ -44,8 +44,8 @@ enum {
    Refusals 1 to 8 leave all lent lists as they were, 9 to 13 set them to zero. On 0 each list begins with its rows, and the rest of it is zero.
 
    image, library       the bytes of both files
-   rules                1: as documented, where AJMP and ACALL keep the top three bits of their targets and a symbol of an absolute content stands at its own
-                        address. 0: as at51 has it
+   rules                1: as documented, where AJMP and ACALL keep the top three bits of their targets, a target has 16 bits and a symbol of an absolute content
+                        stands at its own address; no line has an address above FFFFh. 0: as at51 has it
    check                whether a match counts only if the segments that it refers to stand where it says
    minimum              so many bytes of a pattern must be fixed, in whole or in part, for a match to count by itself
    skips, amount        whether addresses with more than `amount` names are left out; if not, `amount` has no influence

@@ -61,6 +61,8 @@ printed both three.img both.lib --skip-multiple 2
 printed heading three.img both.lib --skip-multiple 1
 printed heading call.img unmet.lib --min-fn-length 1
 printed unmet call.img unmet.lib --min-fn-length 1 --no-check
+printed back back.img back.lib --min-fn-length 1
+printed back-found back.img back.lib --min-fn-length 1 --rules found
 printed full full.img full.lib
 printed heading empty.img routines.lib
 printed many many.img many.lib

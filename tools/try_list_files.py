@@ -12,10 +12,11 @@ spec.loader.exec_module(make)
 HEADING = "Address | Name                 | Description\n"
 RETURNS = b"\x22\x22\x22"
 KEPT, NOT_KEPT = 1, 0
+RELATIVE = 2
 
 
 def line(address, name, brackets="  ", says=""):
-    return f"0x{address:04x}".ljust(9) + (brackets[0] + name + brackets[1]).ljust(23) + (says and " " + says) + "\n"
+    return f"0x{address:04x}".ljust(7) + "  " + (brackets[0] + name + brackets[1]).ljust(23) + (says and " " + says) + "\n"
 
 
 def segment(number, stored_size, relocation=KEPT):
@@ -48,6 +49,8 @@ def libraries():
         "short": make.routine("SHORT", "short", b"\x22"),
         # a call of the segment behind it, which does not stand there
         "unmet": make.module("M", segment(1, 3), segment(2, 3), make.public(1, 0, "unmet"), make.content(1, 0, b"\x02\0\0"), make.record(0x08, make.fixup(1, make.WORD, make.SEGMENT, 2)), make.content(2, 0, RETURNS)),
+        # a short jump back, to a name that stands before address 0
+        "back": make.module("M", segment(1, 2), make.public(1, 0, "back"), make.external(0, "before"), make.content(1, 0, b"\x80\0"), make.record(0x08, make.fixup(1, RELATIVE, make.EXTERNAL, 0))),
         "printed": bytes.fromhex(
             "02 05 00 01 4D 00 00 AB 0E 0B 00 01 00 01 00 00 00 03 00 01 53 8E 16 0E 00 01 00 00 00 00 07 3F 43 3F 4C 41 44 44 FE"
             "06 07 00 01 00 00 E5 25 22 C6 04 07 00 01 4D 00 00 00 00 A7"
@@ -67,6 +70,7 @@ def images():
         "one": b"\x22",
         "three": RETURNS,
         "call": b"\x02\x12\x34",
+        "back": b"\x80\x80",
         "empty": b"",
         "printed": bytes.fromhex("00 E5 25 22"),
     }
@@ -88,6 +92,8 @@ def lists():
         "both": HEADING + line(0, "one") + line(0, "other"),
         "short": HEADING + line(0, "short"),
         "unmet": HEADING + line(0, "unmet"),
+        "back": HEADING + line(0, "back", "[]") + line(2 - 128 + 2**16, "before", "()"),
+        "back-found": HEADING + line(0, "back", "[]") + line(2 - 128 + 2**64, "before", "()"),
     }
 
 

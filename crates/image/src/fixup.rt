@@ -2,7 +2,7 @@
 ghost use mathlib.Core.Path.{_≡_};
 ghost use Prim.Native.Nat.{_<_};
 ghost use Rattle.image.specs.View.{view, cellAt};
-ghost use Rattle.image.specs.fixup.Target.{signed as signedOf, topBits, addr16 as addr16Of, reads, readable as readableIn, leadsTo, target};
+ghost use Rattle.image.specs.fixup.Target.{signed as signedOf, topBits, addr16 as addr16Of, reads, readable as readableIn, leadsTo, counted as countedBy, target};
 ghost use Rattle.image.specs.fixup.AddressLaws.{page11};
 use crate::Stretch;
 
@@ -120,8 +120,19 @@ fn leads_to(rules: Rules, pos: u64, kind: Kind, a: u8, b: u8) -> u64
     }
 }
 
+// A target as the program counter holds it: as documented it has 16 bits, as found a target keeps its 64.
+fn counted(rules: Rules, t: u64) -> u64
+    ensures { λ r. ⌜ r ≡ countedBy rules t ⌝ }
+{
+    match rules {
+        Rules::AsFound => t,
+        Rules::Documented => t % 65536,
+    }
+}
+
 // The target of a reference that reads at `pos`: none if its bytes pass the image's end or touch the stretch, else the
-// address that the bytes give, less the fixup's offset, where the difference wraps at 64 bits.
+// address that the bytes give, less the fixup's offset, where the difference wraps at 64 bits, as the program counter
+// holds it.
 pub fn find_target(
     image: &[u8],
     s: Stretch,
@@ -136,7 +147,8 @@ pub fn find_target(
         let a = byte_at(image, pos);
         let b = byte_at(image, pos + 1);
         let led = leads_to(rules, pos as u64, kind, a, b);
-        return Target::At(std::num::wrapping_sub_u64(led, offset));
+        let t = std::num::wrapping_sub_u64(led, offset);
+        return Target::At(counted(rules, t));
     }
     Target::Nowhere
 }

@@ -29,6 +29,7 @@ use Rattle.run.specs.Withheld.{same-run, plain-run}
 use Rattle.run.specs.Own.{Own, Referred}
 use Rattle.run.specs.OwnAddress.{own-address}
 use Rattle.run.specs.NotedAddress.{noted-address}
+use Rattle.run.specs.SixteenBits.{sixteen-bits}
 use Rattle.run.specs.ListedRows.{at-among, place-among, grades, row-is-line}
 
 -- the contract of an entry point: its answer, and all that it leaves in lent memory, are those of the run
@@ -96,6 +97,13 @@ module _ (image library : List ℕ) (s : Settings) (lent : Lent) where
         let x = row-of z i h in
         subst (λ l. 1 ≤ l .grade → Own library (view image (s .stretch)) (askedOf s) (modulesIn (file library)) (l .name) (l .address)) (sym (x .is))
         (own-address image library s r (getD lines i noLine) (at-among lines noLine i (x .number)))
+
+    -- SIXTEEN BITS: under rule set 1 no row of the list has an address above FFFFh
+    pub rows-within : s .rules ≡ 1 → numberOf (o .answer) ≡ 0 → (i : ℕ) → i < countsOf (o .answer) .lines → lineAt (o .left .lines) i .address < 65536
+    rows-within r z i h =
+        let x = row-of z i h in
+        subst (λ l. l .address < 65536) (sym (x .is))
+        (sixteen-bits image library s r (answered-exactly .0 z .reached .accepted .image-fits) (getD lines i noLine) (at-among lines noLine i (x .number)))
 
     -- GRADE 0: the name of each row with grade 0 is referred to there, under either rule set
     pub noted-row : numberOf (o .answer) ≡ 0 → (i : ℕ) → i < countsOf (o .answer) .lines → lineAt (o .left .lines) i .grade ≡ 0

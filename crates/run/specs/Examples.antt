@@ -85,7 +85,7 @@ table =
     ∷ P 6 (bothAt Inblock 0x0100 (0xe1 ∷ 0x34 ∷ [])) (0x0034 ∷ 0x0734 ∷ [])
     ∷ P 7 (bothAt Inblock 0x07fe (0x01 ∷ 0x34 ∷ [])) (0x0834 ∷ 0x0834 ∷ [])
     ∷ P 8 (targetAt AsFound Relative 0x0010 (0xfe ∷ [])) (0x000f ∷ [])
-    ∷ P 9 (targetAt AsFound Relative 0 (0xfe ∷ [])) (one (2 ^ 64 - 1))
+    ∷ P 9 (bothAt Relative 0 (0xfe ∷ [])) ((2 ^ 64 - 1) ∷ 0xffff ∷ [])
     ∷ P 10 (length (targetAt AsFound Word 3 (0x12 ∷ [])) ∷ length (targetAt AsFound Word 3 (0x12 ∷ 0x34 ∷ [])) ∷ []) (0 ∷ 1 ∷ [])
     ∷ P 11 (segmentSize 0x80 5 ∷ segmentSize 0 0 ∷ segmentSize 0 0xffff ∷ []) (0 ∷ 65536 ∷ 65535 ∷ [])
     ∷ P 12 (masksOf 3 (one P12)) (0xff ∷ 0xff ∷ 0x00 ∷ [])

@@ -10,5 +10,6 @@ pub mod Answers
 pub mod Own
 pub mod OwnAddress
 pub mod NotedAddress
+pub mod SixteenBits
 pub mod ListedRows
 pub mod Demands

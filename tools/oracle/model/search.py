@@ -1,4 +1,4 @@
-"""Document 01's "Matching and references", written from its text and apart from the Rust: where the segments match in an
+"""Document 01's "Matching and references", with document 02's W-202, written from its text and apart from the Rust: where the segments match in an
 image, which symbols they place there, which names their references note; and these as rows of numbers."""
 from dataclasses import dataclass
 
@@ -9,6 +9,8 @@ PLACED, NOTED = 8, 6
 # Buckets of keys, and of keys and names together.
 KEYS, NAMES = 65536, 65536
 SUMS = 2 ** 64
+# Addresses that the processor's counter can hold (document 02, W-202).
+COUNTER = 2 ** 16
 LONGEST_IMAGE = 65536
 
 
@@ -65,7 +67,7 @@ class Search:
                     yield at
 
     def target(self, r, pos):
-        """Where the bytes at a place lead, less the fixup's offset; None where they can't be read."""
+        """Where the bytes at a place lead, less the fixup's offset; None where they can't be read. As documented, the program counter wraps."""
         size = 1 if r.kind == RELATIVE else 2
         if pos + size > len(self.image) or self.is_withheld(pos, size):
             return None
@@ -77,7 +79,7 @@ class Search:
             led = (pos + 2 & ~0x7FF) + 256 * top + second & 0xFFFF
         else:
             led = pos + 1 + (first - 256 if first > 127 else first)
-        return (led - r.offset) % SUMS
+        return (led - r.offset) % (COUNTER if self.asked.rules == DOCUMENTED else SUMS)
 
     def is_valid(self, s):
         return sum(mask != 0 for mask in s.masks) >= self.asked.minimum

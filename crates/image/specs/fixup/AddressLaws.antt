@@ -15,7 +15,7 @@ use Rattle.image.specs.ViewLaws.{view-outside}
 use Rattle.image.specs.declared.fixup.Kind.{Kind}
 use Rattle.image.specs.declared.fixup.Kind.the-variants.{Relative, Word, Inblock}
 use Rattle.image.specs.declared.fixup.Target.the-variants.{At, Nowhere}
-use Rattle.image.specs.fixup.Target.{minus, signed, topBits, addr16, leadsTo, reads, readable, target}
+use Rattle.image.specs.fixup.Target.{minus, signed, topBits, addr16, leadsTo, counted, reads, readable, target}
 use Rattle.image.specs.fixup.TargetLaws.{Bytes, readable-seen}
 
 -- an address of 11 bits within the page of the place after the instruction, kept to 16 bits
@@ -78,12 +78,12 @@ module _ (image : List ℕ) (s : Stretch) (bytes : Bytes image) (rules : Rules) 
   same-lead Inblock e = rw (byte 2 e pos (omega arith) (omega arith), byte 2 e (pos + 1) (omega arith) (omega arith))
 
   pub target-at : (kind : Kind) (a b led r : ℕ) → readable (view image s) pos (reads kind) ≡ true → a ≡ cellAt image pos → b ≡ cellAt image (pos + 1)
-      → led ≡ leadsTo rules pos kind a b → r < 2 ^ 64 → offset < 2 ^ 64 → (r + offset) % 2 ^ 64 ≡ led → At r ≡ target (view image s) rules pos kind offset
+      → led ≡ leadsTo rules pos kind a b → r < 2 ^ 64 → offset < 2 ^ 64 → (r + offset) % 2 ^ 64 ≡ led → At (counted rules r) ≡ target (view image s) rules pos kind offset
   unfolding target
   target-at kind a b led r e p q l m o w =
       let same : led ≡ leadsTo rules pos kind (cellAt (view image s) pos) (cellAt (view image s) (pos + 1)) =
       l ∙ rw (p, q) (same-lead kind e) in
-      rw e (ap At (minus-wraps led offset r m o w ∙ ap (λ x. minus x offset) same))
+      rw e (ap (λ x. At (counted rules x)) (minus-wraps led offset r m o w ∙ ap (λ x. minus x offset) same))
 
   pub target-nowhere : (kind : Kind) → readable (view image s) pos (reads kind) ≡ false → target (view image s) rules pos kind offset ≡ Nowhere
   unfolding target

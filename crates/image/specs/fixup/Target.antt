@@ -1,4 +1,5 @@
--- The target of a reference: the address that its bytes in the view give, less the fixup's offset. Sums wrap at 64 bits.
+-- The target of a reference: the address that its bytes in the view give, less the fixup's offset. Sums wrap at 64 bits,
+-- and under rule set 1, as documented, the target at 16.
 use Prim.Native.Nat.{ℕ, _+_, _-_, _*_, _/_, _%_, _^_}
 use mathlib.Core.Bool.{Bool, _&&_}
 use mathlib.Core.List.{List}
@@ -79,9 +80,15 @@ reads Inblock = 2
 unfoldable pub readable : List ℕ → ℕ → ℕ → Bool
 readable cells pos n = leb (pos + n) (length cells) && all (λ i. isByte (cellAt cells (pos + i))) (from 0 n)
 
--- the target of a reference that reads at `pos`: none if its cells can't be read; the fixup's offset is subtracted
+-- a target as the program counter holds it: as documented it has 16 bits, as found a target keeps its 64
+abbrev pub counted : Rules → ℕ → ℕ
+counted AsFound t = t
+counted Documented t = t % 65536
+
+-- the target of a reference that reads at `pos`: none if its cells can't be read; the fixup's offset is subtracted, and then
+-- the program counter wraps
 unfoldable pub target : List ℕ → Rules → ℕ → Kind → ℕ → Target
 target cells rules pos kind offset =
     if readable cells pos (reads kind)
-    then At (minus (leadsTo rules pos kind (cellAt cells pos) (cellAt cells (pos + 1))) offset)
+    then At (counted rules (minus (leadsTo rules pos kind (cellAt cells pos) (cellAt cells (pos + 1))) offset))
     else Nowhere

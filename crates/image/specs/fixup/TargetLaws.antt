@@ -1,6 +1,6 @@
 -- When a reference has a target. Assumes nothing.
-use Prim.Native.Nat.{ℕ, _+_, _-_, _≤_, _<_, max}
-use mathlib.Core.Path.{_≡_, refl, sym, _∙_}
+use Prim.Native.Nat.{ℕ, _+_, _-_, _%_, _≤_, _<_, max}
+use mathlib.Core.Path.{_≡_, refl, sym, ap, _∙_}
 use mathlib.Core.Logic.{_↔_, _⊎_, inl, inr}
 use mathlib.Core.Bool.{Bool, true, false, and-eq-true-iff, false≢true}
 use mathlib.Core.List.{List}
@@ -22,8 +22,9 @@ use Rattle.image.specs.WindowLaws.{is-apart}
 use Rattle.image.specs.declared.fixup.Rules.{Rules}
 use Rattle.image.specs.declared.fixup.Rules.the-variants.{AsFound, Documented}
 use Rattle.image.specs.declared.fixup.Kind.{Kind}
+use Rattle.image.specs.declared.fixup.Target.{Target}
 use Rattle.image.specs.declared.fixup.Target.the-variants.{At, Nowhere}
-use Rattle.image.specs.fixup.Target.{rulesOf, minus, leadsTo, reads, readable, target}
+use Rattle.image.specs.fixup.Target.{rulesOf, minus, leadsTo, counted, reads, readable, target}
 
 -- rule set 0 is as found, 1 as documented
 pub rules-0 : rulesOf 0 ≡ AsFound
@@ -31,6 +32,22 @@ rules-0 = refl
 
 pub rules-1 : rulesOf 1 ≡ Documented
 rules-1 = refl
+
+-- as documented the program counter has 16 bits: no target is above FFFFh
+pub target-within : (cells : List ℕ) (pos : ℕ) (kind : Kind) (offset t : ℕ) → target cells Documented pos kind offset ≡ At t → t < 65536
+unfolding target
+target-within cells pos kind offset t e = go (readable cells pos (reads kind)) e
+  where
+    led : ℕ
+    led = minus (leadsTo Documented pos kind (cellAt cells pos) (cellAt cells (pos + 1))) offset
+
+    address : Target → ℕ
+    address (At x) = x
+    address Nowhere = 0
+
+    go : (b : Bool) → (if b then At (led % 65536) else Nowhere) ≡ At t → t < 65536
+    go true h = let same : led % 65536 ≡ t = ap address h in omega (arith, same)
+    go false h = let same : 0 ≡ t = ap address h in omega (arith, same)
 
 -- an image of bytes
 abbrev pub Bytes : List ℕ → Type 0
@@ -100,7 +117,7 @@ module _ (image : List ℕ) (s : Stretch) (bytes : Bytes image) (rules : Rules) 
       n = reads kind
 
       led : ℕ
-      led = minus (leadsTo rules pos kind (cellAt (view image s) pos) (cellAt (view image s) (pos + 1))) offset
+      led = counted rules (minus (leadsTo rules pos kind (cellAt (view image s) pos) (cellAt (view image s) (pos + 1))) offset)
 
       can : (readable (view image s) pos n ≡ true) ↔ ((pos + n ≤ length image) × Apart pos n s)
       can = readable-seen image s bytes pos n

@@ -5,6 +5,7 @@ use native.Mathlib.Omega.{arith}
 use Rattle.image.specs.View.{view}
 use Rattle.image.specs.fixup.Target.{reads, readable}
 use Rattle.image.specs.fixup.TargetLaws.{readable-fits}
+use Rattle.image.specs.declared.fixup.Target.the-variants.{At}
 use Rattle.image.specs.fixup.AddressLaws.{reads-some, target-at, target-nowhere}
 use borrow.Author.Needs.{needs}
 use Rattle.image.proofs.fixup.find_target.Statement.{statement}
@@ -21,13 +22,13 @@ add-byte-at c =
 
 returns : tie.Need-returns
 returns c =
-    let a = c .before .before .before .before .before .before .before .before .args in
+    let a = c .before .before .before .before .before .before .before .before .before .args in
     let cells = view (a .image .now) (a .s) in
     let can : readable cells (a .pos) (reads (a .kind)) ≡ true =
-    ap (readable cells (a .pos)) (sym (c .before .before .before .before .before .before .width .ensures)) ∙ sym (c .before .before .before .before .before .readable .ensures) ∙ c .before .before .before .before .if1 .taken in
-    target-at (a .image .now) (a .s) (λ k. omega (arith, c .before .before .before .before .before .before .before .shared-slice-known .given k)) (a .rules) (a .pos) (a .offset) (a .kind)
-    (c .before .before .before .byte-at .result) (c .before .before .byte-at2 .result) (c .before .leads-to .result) (c .wrapping-sub-u64 .result)
-    can (c .before .before .before .byte-at .ensures) (c .before .before .byte-at2 .ensures) (c .before .leads-to .ensures) (omega arith) (omega arith) (c .wrapping-sub-u64 .ensures)
+    ap (readable cells (a .pos)) (sym (c .before .before .before .before .before .before .before .width .ensures)) ∙ sym (c .before .before .before .before .before .before .readable .ensures) ∙ c .before .before .before .before .before .if1 .taken in
+    ap At (c .counted .ensures) ∙ target-at (a .image .now) (a .s) (λ k. omega (arith, c .before .before .before .before .before .before .before .before .shared-slice-known .given k)) (a .rules) (a .pos) (a .offset) (a .kind)
+    (c .before .before .before .before .byte-at .result) (c .before .before .before .byte-at2 .result) (c .before .before .leads-to .result) (c .before .wrapping-sub-u64 .result)
+    can (c .before .before .before .before .byte-at .ensures) (c .before .before .before .byte-at2 .ensures) (c .before .before .leads-to .ensures) (omega arith) (omega arith) (c .before .wrapping-sub-u64 .ensures)
 
 returns-2 : tie.Need-returns-2
 returns-2 c =
@@ -45,6 +46,7 @@ find-target-spec =
     (λ c κs. search needs)
     (λ c κs. search needs)
     add-byte-at
+    (λ c κs. search needs)
     (λ c κs. search needs)
     (λ c κs. search needs)
     (λ c κs. search needs)
