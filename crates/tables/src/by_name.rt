@@ -2,18 +2,19 @@
 // last number is the link to an earlier row in the same bucket of key and name. A link is one more than a row's number, or 0.
 ghost use mathlib.Core.Path.{_≡_};
 ghost use mathlib.Core.Bool.{_&&_};
-ghost use Prim.Native.Nat.{_+_, _<_};
+ghost use Prim.Native.Nat.{_+_, _-_, _<_};
 ghost use lib.Dec.{eqb};
-ghost use lib.ListN.{length};
+ghost use lib.ListN.{length, drop};
 ghost use Rattle.lent.specs.Parts.{bytesOf, same as sameBytes};
 ghost use Rattle.tables.specs.by_name.Sheet.{spread as spreadBytes, ends, nameBucket};
 ghost use Rattle.tables.specs.by_name.Heads.{headAt, lowHead, headSet, headsWith};
 ghost use Rattle.tables.specs.by_name.Tables.{followed};
-ghost use Rattle.tables.specs.by_name.Tags.{Whole, tagAt, otherLength, mayBe, Passes};
+ghost use Rattle.tables.specs.by_name.Tags.{Whole, tagAt, otherLength, mayBe, namedAt, Stops};
 use crate::links::number_at;
 use lent::names;
 use lent::part::Part;
 use lent::rows::cell;
+use std::num::wrapping_sub_usize;
 
 // How many buckets of keys there are. In a table of heads as many buckets of key and name together follow them.
 pub const KEYS: usize = 65536;
@@ -44,27 +45,8 @@ fn whole_rows(m: &[u64], width: usize) -> usize
     m.len() / width
 }
 
-// The tag of row i. If the row is one of the `rows` whole rows, its numbers are read without further tests.
-fn tag_at(m: &[u64], width: usize, rows: usize, i: usize) -> Tag
-    requires { ⌜ Whole width (now m) rows ⌝ }
-    ensures { λ r. ⌜ r ≡ tagAt width (now (m .entry)) i ⌝ }
-{
-    if rows <= i {
-        return tag_by_cells(m, width, i);
-    }
-    let at = i * width;
-    Tag {
-        key: m[at],
-        name: Part {
-            at: m[at + 1] as usize,
-            len: m[at + 2] as usize,
-        },
-        next: m[at + (width - 1)] as usize,
-    }
-}
-
 // The tag of row i for any width, with 0 for each number that the row does not have, as when there is no such row.
-fn tag_by_cells(m: &[u64], width: usize, i: usize) -> Tag
+fn tag_at(m: &[u64], width: usize, i: usize) -> Tag
     ensures { λ r. ⌜ r ≡ tagAt width (now (m .entry)) i ⌝ }
 {
     if width == 0 {
@@ -84,6 +66,16 @@ fn tag_by_cells(m: &[u64], width: usize, i: usize) -> Tag
     }
 }
 
+// Whether a row's tag has this key, and a name of these bytes.
+fn is_tagged(library: &[u8], tag: Tag, key: u64, bytes: &[u8]) -> bool
+    ensures { λ r. ⌜ r ≡ (eqb (tag .key) key && sameBytes (bytesOf (now (library .entry)) (tag .name)) (now (bytes .entry))) ⌝ }
+{
+    if tag.key != key {
+        return false;
+    }
+    names::same(names::name(library, tag.name), bytes)
+}
+
 // Whether the length of a row's name alone rules out the bytes wanted. No length rules out the empty name, since a name
 // that passes the library's end has no bytes whatever its length says.
 fn is_other_length(len: usize, wanted: usize) -> bool
@@ -95,57 +87,102 @@ fn is_other_length(len: usize, wanted: usize) -> bool
     len != wanted
 }
 
-// Whether a row's tag has this key, and a name of these bytes.
-fn is_tagged(library: &[u8], tag: Tag, key: u64, bytes: &[u8]) -> bool
-    ensures { λ r. ⌜ r ≡ (eqb (tag .key) key && sameBytes (bytesOf (now (library .entry)) (tag .name)) (now (bytes .entry))) ⌝ }
-{
-    if tag.key != key {
-        return false;
-    }
-    if is_other_length(tag.name.len, bytes.len()) {
-        return false;
-    }
-    names::same(names::name(library, tag.name), bytes)
-}
-
-// Whether the row at a place has this key, and a name of this length. The length tells more rows of a bucket apart than the
-// key does, so it comes first.
-fn may_be(m: &[u64], at: usize, key: u64, len: usize) -> bool
+// Whether the row at a place has this key, and a name whose length does not rule out a name of `wanted` bytes. The length
+// comes first: in a long bucket it tells more rows apart than the key.
+fn may_be(m: &[u64], at: usize, key: u64, wanted: usize) -> bool
     requires { ⌜ at + 2 < length (now m) ⌝ }
-    ensures { λ r. ⌜ r ≡ mayBe (now (m .entry)) at key len ⌝ }
+    ensures { λ r. ⌜ r ≡ mayBe (now (m .entry)) at key wanted ⌝ }
 {
-    if m[at + 2] as usize != len {
+    if is_other_length(m[at + 2] as usize, wanted) {
         return false;
     }
     m[at] == key
 }
 
-// Follows the links of a bucket from `link` on, past the rows that have another key, or a name of another length; gives the
-// link to the first row that has both, or 0. Most rows of a long bucket are passed here, so the loop does no more than it
-// must: if the first row is one of the `rows` whole rows, so are the earlier ones. If it is not, or if no length rules out
-// the name, no row is passed.
-fn pass(m: &[u64], width: usize, rows: usize, link: usize, key: u64, len: usize) -> usize
-    requires { ⌜ Whole width (now m) rows ⌝ }
-    ensures { λ r. ⌜ Passes width (now (m .entry)) key len link r ⌝ }
+// The name of the row at a place.
+fn name_at(m: &[u64], at: usize) -> Part
+    requires { ⌜ at + 2 < length (now m) ⌝ }
+    ensures { λ r. ⌜ r ≡ namedAt (now (m .entry)) at ⌝ }
 {
-    if len == 0 {
-        return link;
+    Part {
+        at: m[at + 1] as usize,
+        len: m[at + 2] as usize,
     }
-    if rows < link {
-        return link;
+}
+
+// Follows the links of a bucket from `link` on, past rows that can't have this key and a name of `wanted` bytes; gives the
+// link to the first row that may, or 0. `links` has the link of a row where `m` has its key. Nearly all of a long bucket
+// is gone over here, so that a turn does no more than it must: one test tells that a link leads to no earlier row, whether
+// it is 0 or too large.
+fn pass(m: &[u64], links: &[u64], width: usize, link: usize, key: u64, wanted: usize) -> usize
+    requires { ⌜ Whole width (now m) link × (now links ≡ drop (width - 1) (now m)) ⌝ }
+    ensures { λ r. ⌜ Stops width (now (m .entry)) key wanted link r ⌝ }
+{
+    if link == 0 {
+        return 0;
     }
-    let mut here = link;
-    while here != 0 {
-        let i = here - 1;
+    let mut i = link - 1;
+    loop {
         let at = i * width;
-        if may_be(m, at, key, len) {
-            return here;
+        if may_be(m, at, key, wanted) {
+            return i + 1;
         }
-        let next = m[at + (width - 1)] as usize;
-        if i < next {
+        let before = wrapping_sub_usize(links[at] as usize, 1);
+        if i <= before {
+            return 0;
+        }
+        i = before;
+    }
+}
+
+// What `find` does where the first row and those before it are whole.
+fn find_whole(library: &[u8], m: &[u64], width: usize, link: usize, key: u64, name: Part) -> usize
+    requires { ⌜ (0 < link) × Whole width (now m) link ⌝ }
+    ensures { λ r. ⌜ r ≡ followed (now (library .entry)) width (now (m .entry)) key name link ⌝ }
+{
+    let bytes = names::name(library, name);
+    let last = width - 1;
+    let links = &m[last..];
+    let mut here = link;
+    loop {
+        let there = pass(m, links, width, here, key, bytes.len());
+        if there == 0 {
+            return 0;
+        }
+        let at = (there - 1) * width;
+        if names::same(names::name(library, name_at(m, at)), bytes) {
+            return there;
+        }
+        let next = links[at] as usize;
+        if there <= next {
             return 0;
         }
         here = next;
+    }
+}
+
+// What `find` does on any numbers.
+fn find_by_cells(
+    library: &[u8],
+    m: &[u64],
+    width: usize,
+    link: usize,
+    key: u64,
+    name: Part,
+) -> usize
+    ensures { λ r. ⌜ r ≡ followed (now (library .entry)) width (now (m .entry)) key name link ⌝ }
+{
+    let bytes = names::name(library, name);
+    let mut here = link;
+    while here != 0 {
+        let tag = tag_at(m, width, here - 1);
+        if is_tagged(library, tag, key, bytes) {
+            return here;
+        }
+        if here <= tag.next {
+            return 0;
+        }
+        here = tag.next;
     }
     0
 }
@@ -155,24 +192,13 @@ fn pass(m: &[u64], width: usize, rows: usize, link: usize, key: u64, len: usize)
 pub fn find(library: &[u8], m: &[u64], width: usize, link: usize, key: u64, name: Part) -> usize
     ensures { λ r. ⌜ r ≡ followed (now (library .entry)) width (now (m .entry)) key name link ⌝ }
 {
-    let bytes = names::name(library, name);
-    let rows = whole_rows(m, width);
-    let mut here = link;
-    while here != 0 {
-        let there = pass(m, width, rows, here, key, bytes.len());
-        if there == 0 {
-            return 0;
-        }
-        let tag = tag_at(m, width, rows, there - 1);
-        if is_tagged(library, tag, key, bytes) {
-            return there;
-        }
-        if there <= tag.next {
-            return 0;
-        }
-        here = tag.next;
+    if link == 0 {
+        return 0;
     }
-    0
+    if whole_rows(m, width) < link {
+        return find_by_cells(library, m, width, link, key, name);
+    }
+    find_whole(library, m, width, link, key, name)
 }
 
 // A number of 32 bits after bytes were mixed in.

@@ -4,11 +4,12 @@ use mathlib.Core.Path.{_≡_, refl, sym, ap, _∙_}
 use mathlib.Core.Logic.{_⊎_, inl, inr}
 use mathlib.Core.Bool.{Bool, true, false, false≢true, _&&_, not}
 use mathlib.Core.List.{List, []}
+use native.Mathlib.Decide.{decLt}
 use native.Mathlib.Omega.{arith}
-use borrow.Author.Tests.{leb-true, eqb-false, ne-eqb, not-true}
+use borrow.Author.Tests.{leb-true, eqb-true, eqb-false, not-true}
 use lib.Dec.{eqb, leb}
 use lib.ListN.{length, getD, take, drop, length-drop}
-use lib.Seq.{length-take-le}
+use lib.Seq.{length-take-le, getD-drop}
 use Rattle.lent.specs.Choice.{if_then_else_}
 use Rattle.lent.specs.ChoiceLaws.{both}
 use Rattle.lent.specs.declared.part.Part.{Part}
@@ -18,7 +19,7 @@ use Rattle.lent.specs.Rows.{cellOf}
 use Rattle.lent.specs.RowLaws.{cell-there, cell-past}
 use Rattle.tables.specs.declared.by_name.Tag.{Tag}
 use Rattle.tables.specs.by_name.Tables.{rowIs, followedFor, followed}
-use Rattle.tables.specs.by_name.Tags.{tagAt, otherLength, mayBe, Passes}
+use Rattle.tables.specs.by_name.Tags.{tagAt, otherLength, mayBe, namedAt, Passes, Stops}
 use Rattle.tables.specs.by_name.FollowLaws.{follow-none, follow-enough, follow-hit, follow-on, follow-end}
 
 module _ (width : ℕ) (m : List ℕ) (i : ℕ) where
@@ -32,19 +33,23 @@ module _ (width : ℕ) (m : List ℕ) (i : ℕ) where
       let none : (j : ℕ) → 0 ≡ cellOf width m i j = λ j. sym (cell-past width m i j (omega (arith, e))) in
       tag-made (none 0) (none 1) (none 2) (none (width - 1))
 
-  pub tag-there : 3 ≤ width → i * width + width ≤ length m
+  pub tag-there : {links : List ℕ} → links ≡ drop (width - 1) m → 3 ≤ width → i * width + width ≤ length m
       → _≡_ {A = Tag}
       (record {
         key = getD m (i * width) 0;
-        name = record { at = getD m (i * width + 1) 0; len = getD m (i * width + 2) 0 };
-        next = getD m (i * width + (width - 1)) 0;
+        name = namedAt m (i * width);
+        next = getD links (i * width) 0;
       })
       (tagAt width m i)
-  tag-there wide whole =
+  tag-there e wide whole =
       let first : i * width ≡ i * width + 0 = omega arith in
+      let last : width - 1 + i * width ≡ i * width + (width - 1) = omega arith in
       tag-made (ap (λ k. getD m k 0) first ∙ sym (cell-there width m i 0 whole (omega arith))) (sym (cell-there width m i 1 whole (omega arith)))
       (sym (cell-there width m i 2 whole (omega arith)))
-      (sym (cell-there width m i (width - 1) whole (omega arith)))
+      (ap (λ xs. getD xs (i * width) 0) e
+      ∙ getD-drop (width - 1) m (i * width) 0
+      ∙ ap (λ k. getD m k 0) last
+      ∙ sym (cell-there width m i (width - 1) whole (omega arith)))
 
 -- following links by it: the bytes of the name that is sought are known, and so is whether the row has it
 module _ (library : List ℕ) (width : ℕ) (m : List ℕ) (key : ℕ) (name : Part) (link : ℕ) (some : link ≡ 0 → ⊥) {tag : Tag}
@@ -86,48 +91,67 @@ other-length library p bytes e = same-lengths (bytesOf library p) bytes (λ q. g
     go (inl h) q = eqb-false (p .len) (length bytes) (not-true (eqb (p .len) (length bytes)) (parts .1)) (sym h ∙ q)
     go (inr h) q = eqb-false (length bytes) 0 (not-true (eqb (length bytes) 0) (parts .0)) (sym q ∙ h)
 
--- PASSING ROWS: none yet, and then one more that is whole and can't be the one sought
-module _ (width : ℕ) (m : List ℕ) (key len link : ℕ) where
-  pub pass-none : Passes width m key len link link
-  pass-none = record { near = omega arith; right = λ library name e. refl }
+-- PASSING ROWS from `link` on
+module _ (width : ℕ) (m : List ℕ) (key wanted link : ℕ) where
+  pub pass-first : Passes width m key wanted link link
+  pass-first = record { near = omega arith; right = λ library name e. refl }
 
-  pub pass-all : (here : ℕ) → Passes width m key len link here → here ≡ 0 → Passes width m key len link 0
-  pass-all here p z = rw z at p
+  stop-none : Passes width m key wanted link 0 → Stops width m key wanted link 0
+  stop-none p = record { passed = p; keyed = λ some. absurd (some refl) }
 
-  module _ (here : ℕ) (before : Passes width m key len link here) (some : here ≡ 0 → ⊥) (long : len ≡ 0 → ⊥) (wide : 3 ≤ width)
-      (whole : (here - 1) * width + width ≤ length m) (other : mayBe m ((here - 1) * width) key len ≡ false) where
-    abbrev start : ℕ
-    start = (here - 1) * width
+  pub stop-first : link ≡ 0 → Stops width m key wanted link 0
+  stop-first e = stop-none (record { near = omega arith; right = λ library name f. ap (λ k. followed library width m key name k) e })
 
-    abbrev next : ℕ
-    next = getD m (start + (width - 1)) 0
-
-    abbrev named : Part
-    named = record { at = getD m (start + 1) 0; len = getD m (start + 2) 0 }
-
-    not-it : (library : List ℕ) (name : Part) → length (bytesOf library name) ≡ len → (eqb (getD m start 0) key && same (bytesOf library named) (bytesOf library name)) ≡ false
-    not-it library name e = go (eqb (getD m start 0) key) (eqb (getD m (start + 2) 0) len) refl other
-      where
-        go : (k l : Bool) → eqb (getD m (start + 2) 0) len ≡ l → (l && k) ≡ false → (k && same (bytesOf library named) (bytesOf library name)) ≡ false
-        go false l f o = refl
-        go true true f o = absurd (false≢true (sym o))
-        go true false f o = other-length library named (bytesOf library name) (rw (e, ne-eqb len 0 long, f))
-
-    pub pass-on : next < here → Passes width m key len link next
-    pass-on l =
+  -- up to row i
+  module _ {links : List ℕ} (e : links ≡ drop (width - 1) m) (i : ℕ) (before : Passes width m key wanted link (i + 1)) where
+    pub stop-here : mayBe m (i * width) key wanted ≡ true → Stops width m key wanted link (i + 1)
+    stop-here is =
+        let same-row : i + 1 - 1 ≡ i = omega arith in
         record {
-          near = omega (arith, before .near, l);
-          right = λ library name e.
-              before .right library name e
-              ∙ tag-on library width m key name here some (tag-there width m (here - 1) wide whole) refl refl (not-it library name e) l;
+          passed = before;
+          keyed = λ some. rw same-row (eqb-true (getD m (i * width) 0) key (both (not (otherLength (getD m (i * width + 2) 0) wanted)) (eqb (getD m (i * width) 0) key) is .1));
         }
 
-    pub pass-end : here ≤ next → Passes width m key len link 0
-    pass-end l =
-        record {
-          near = omega arith;
-          right = λ library name e.
-              before .right library name e
-              ∙ tag-end library width m key name here some (tag-there width m (here - 1) wide whole) refl refl (not-it library name e) l
-              ∙ sym (follow-none library width m key name 0 0 refl);
-        }
+    -- and past it, if it is whole and can't be the one sought: on, or to an end
+    module _ (wide : 3 ≤ width) (whole : i * width + width ≤ length m) (other : mayBe m (i * width) key wanted ≡ false) where
+      abbrev named : Part
+      named = namedAt m (i * width)
+
+      not-it : (library : List ℕ) (name : Part) → length (bytesOf library name) ≡ wanted
+          → (eqb (getD m (i * width) 0) key && same (bytesOf library named) (bytesOf library name)) ≡ false
+      not-it library name f = go (eqb (getD m (i * width) 0) key) (otherLength (named .len) wanted) refl other
+        where
+          go : (k o : Bool) → otherLength (named .len) wanted ≡ o → (not o && k) ≡ false → (k && same (bytesOf library named) (bytesOf library name)) ≡ false
+          go false o p q = refl
+          go true true p q = other-length library named (bytesOf library name) (rw f p)
+          go true false p q = absurd (false≢true (sym q))
+
+      abbrev next : ℕ
+      next = getD links (i * width) 0
+
+      seen : _≡_ {A = Tag} (record { key = getD m (i * width) 0; name = named; next = next }) (tagAt width m (i + 1 - 1))
+      seen = let same-row : i ≡ i + 1 - 1 = omega arith in tag-there width m i e wide whole ∙ ap (tagAt width m) same-row
+
+      pub pass-on : (k : ℕ) → next ≡ k → k < i + 1 → Passes width m key wanted link k
+      pass-on k is l =
+          record {
+            near = omega (arith, before .near, l);
+            right = λ library name f.
+                before .right library name f
+                ∙ tag-on library width m key name (i + 1) (omega arith) seen refl refl (not-it library name f) (omega (arith, is, l))
+                ∙ ap (λ j. followed library width m key name j) is;
+          }
+
+      pub stop-end : (next < i + 1 → next ≡ 0) → Stops width m key wanted link 0
+      stop-end out = stop-none (go (decLt next (i + 1)))
+        where
+          go : Dec (next < i + 1) → Passes width m key wanted link 0
+          go (yes l) = pass-on 0 (out l) (omega arith)
+          go (no l) =
+              record {
+                near = omega arith;
+                right = λ library name f.
+                    before .right library name f
+                    ∙ tag-end library width m key name (i + 1) (omega arith) seen refl refl (not-it library name f) (omega (arith, l))
+                    ∙ sym (follow-none library width m key name 0 0 refl);
+              }

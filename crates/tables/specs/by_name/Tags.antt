@@ -1,5 +1,5 @@
 -- What a search looks at in a row (its tag), and which rows it passes.
-use Prim.Native.Nat.{ℕ, _+_, _-_, _/_, _≤_, _<_}
+use Prim.Native.Nat.{ℕ, _+_, _-_, _*_, _/_, _≤_, _<_}
 use mathlib.Core.Path.{_≡_}
 use mathlib.Core.Bool.{Bool, _&&_, not}
 use mathlib.Core.List.{List}
@@ -24,12 +24,21 @@ pub record Whole (width : ℕ) (m : List ℕ) (rows : ℕ) : Type 0 where
   pub whole : rows ≤ length m / width
   pub wide : 0 < rows → 3 ≤ width
 
--- the row whose numbers start at a place has this key, and a name of this length
-abbrev pub mayBe : List ℕ → ℕ → ℕ → ℕ → Bool
-mayBe m at key len = eqb (getD m (at + 2) 0) len && eqb (getD m at 0) key
+-- the name of the row whose numbers start at a place
+abbrev pub namedAt : List ℕ → ℕ → Part
+namedAt m at = record { at = getD m (at + 1) 0; len = getD m (at + 2) 0 }
 
--- rows from `link` to `r` may be passed: whichever name of this length is sought with this key, the way from `link` comes to
--- what the way from `r` comes to
-pub record Passes (width : ℕ) (m : List ℕ) (key len link r : ℕ) : Type 0 where
+-- that row has this key, and its name's length does not rule out a name of so many bytes
+abbrev pub mayBe : List ℕ → ℕ → ℕ → ℕ → Bool
+mayBe m at key wanted = not (otherLength (getD m (at + 2) 0) wanted) && eqb (getD m at 0) key
+
+-- rows from `link` on are passed up to `r`: whichever name of so many bytes is sought with this key, the way from `link` comes
+-- to what the way from `r` comes to
+pub record Passes (width : ℕ) (m : List ℕ) (key wanted link r : ℕ) : Type 0 where
   pub near : r ≤ link
-  pub right : (library : List ℕ) (name : Part) → length (bytesOf library name) ≡ len → followed library width m key name link ≡ followed library width m key name r
+  pub right : (library : List ℕ) (name : Part) → length (bytesOf library name) ≡ wanted → followed library width m key name link ≡ followed library width m key name r
+
+-- up to a row that has the key, if there is one
+pub record Stops (width : ℕ) (m : List ℕ) (key wanted link r : ℕ) : Type 0 where
+  pub passed : Passes width m key wanted link r
+  pub keyed : (r ≡ 0 → ⊥) → getD m ((r - 1) * width) 0 ≡ key

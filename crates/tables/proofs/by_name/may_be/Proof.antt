@@ -1,16 +1,14 @@
--- `may_be` compares the length of the name, and then the key. Assumes nothing.
-use Prim.Native.Nat.{_+_}
-use borrow.Author.Tests.{eq-eqb, ne-eqb}
-use lib.ListN.{getD}
+-- `may_be` looks at the length of the name, and then at the key. Assumes nothing.
+use mathlib.Core.Path.{refl, sym, _∙_}
 use borrow.Author.Needs.{needs}
 use Rattle.tables.proofs.by_name.may_be.Statement.{statement}
 use Rattle.tables.proofs.by_name.may_be.Tie as tie
 
 returns : tie.Need-returns
-returns c = let a = c .before .before .args in rw (ne-eqb (getD (a .m .now) (a .at + 2) 0) (a .len) (c .if1 .taken))
+returns c = rw (sym (c .before .is-other-length .ensures) ∙ c .if1 .taken) refl
 
 returns-2 : tie.Need-returns-2
-returns-2 c = let a = c .before .before .before .args in rw (eq-eqb (getD (a .m .now) (a .at + 2) 0) (a .len) (c .before .if1 .left))
+returns-2 c = rw (sym (c .before .before .is-other-length .ensures) ∙ c .before .if1 .left) refl
 
 pub may-be-spec : {M : Type 1} → statement M
 may-be-spec =
@@ -19,6 +17,7 @@ may-be-spec =
     (λ c. search needs)
     (λ c. search needs)
     (λ c. search needs)
+    (λ c κs. search needs)
     returns
     (λ c. search needs)
     (λ c. search needs)
