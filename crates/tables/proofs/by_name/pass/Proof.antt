@@ -1,6 +1,6 @@
 -- `pass`: wherever it stands, the way that is left comes to what the whole way comes to. Assumes nothing.
 use Prim.Native.Nat.{_+_, _-_, _*_, _<_, _≤_}
-use mathlib.Core.Path.{_≡_, sym, ap, subst, _∙_}
+use mathlib.Core.Path.{_≡_, sym, ap, _∙_}
 use native.Mathlib.Omega.{arith}
 use lib.ListN.{length, length-drop}
 use Rattle.lent.specs.RowLaws.{row-fits}
