@@ -232,27 +232,27 @@ def halves(rng):
 
 
 @functools.cache
-def before_last(buckets):
-    """The numbers, ascending, that the last step of a name's bucket takes to a bucket of rest 0 modulo so many, at most 65,536."""
-    back = pow(FACTOR, -1, 1 << 32)
-    return sorted((bucket * 65536 + low) * back % (1 << 32) for bucket in range(0, 65536, buckets) for low in range(65536))
+def endings():
+    """What three letters from the space on, behind a name, add to the number that its bucket is made of: ascending, each with its letters."""
+    letters = range(32, 127)
+    return sorted((((first * FACTOR + second) * FACTOR + third) * FACTOR % (1 << 32), bytes((first, second, third)))
+                  for first, second, third in itertools.product(letters, repeat=3))
 
 
 def colliding(buckets=16384):
-    """Names that differ, of different lengths, that share a bucket with each other, modulo so many, at most 65,536."""
+    """Names that differ, of different lengths, that share a bucket with each other, modulo so many, at most 65,536. A bucket is the upper 16 bits of a
+    number to which the letters of a name add, so that the endings which lead to bucket 0 stand together in the list of them all."""
     def make(number):
         name = mixed_name(number)
         whole = name + bytes(3)
         hashed = len(whole)
-        for byte in (whole if len(whole) <= 16 else whole[:8] + whole[-8:])[:-3]:
+        for byte in whole if len(whole) <= 16 else whole[:8] + whole[-8:]:
             hashed = (hashed + byte) * FACTOR % (1 << 32)
-        # three letters from the space on, of which the last comes to such a number
-        for first, second in itertools.product(range(32, 127), repeat=2):
-            reached = ((hashed + first) * FACTOR + second) * FACTOR % (1 << 32)
-            at = bisect.bisect_left(before_last(buckets), reached + 32)
-            if at < len(before_last(buckets)) and before_last(buckets)[at] < reached + 127:
-                return name + bytes((first, second, before_last(buckets)[at] - reached))
-        raise ValueError(f"no letters make name {number} share a bucket")
+        found = []
+        for bucket in range(0, 65536, buckets):
+            start = (bucket * 65536 - hashed) % (1 << 32)
+            found += endings()[bisect.bisect_left(endings(), (start,)):bisect.bisect_left(endings(), (start + 65536,))]
+        return name + min(letters for _, letters in found)
     return make
 
 

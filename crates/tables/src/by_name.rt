@@ -2,17 +2,19 @@
 // last number is the link to an earlier row in the same bucket of key and name. A link is one more than a row's number, or 0.
 ghost use mathlib.Core.Path.{_≡_};
 ghost use mathlib.Core.Bool.{_&&_};
-ghost use Prim.Native.Nat.{_+_, _<_};
+ghost use Prim.Native.Nat.{_+_, _-_, _<_};
 ghost use lib.Dec.{eqb};
+ghost use lib.ListN.{length, drop};
 ghost use Rattle.lent.specs.Parts.{bytesOf, same as sameBytes};
 ghost use Rattle.tables.specs.by_name.Sheet.{spread as spreadBytes, ends, nameBucket};
 ghost use Rattle.tables.specs.by_name.Heads.{headAt, lowHead, headSet, headsWith};
 ghost use Rattle.tables.specs.by_name.Tables.{followed};
-ghost use Rattle.tables.specs.by_name.Tags.{Whole, tagAt, otherLength};
+ghost use Rattle.tables.specs.by_name.Tags.{Whole, tagAt, otherLength, mayBe, namedAt, Stops};
 use crate::links::number_at;
 use lent::names;
 use lent::part::Part;
 use lent::rows::cell;
+use std::num::wrapping_sub_usize;
 
 // How many buckets of keys there are. In a table of heads as many buckets of key and name together follow them.
 pub const KEYS: usize = 65536;
@@ -43,27 +45,8 @@ fn whole_rows(m: &[u64], width: usize) -> usize
     m.len() / width
 }
 
-// The tag of row i. If the row is one of the `rows` whole rows, its numbers are read without further tests.
-fn tag_at(m: &[u64], width: usize, rows: usize, i: usize) -> Tag
-    requires { ⌜ Whole width (now m) rows ⌝ }
-    ensures { λ r. ⌜ r ≡ tagAt width (now (m .entry)) i ⌝ }
-{
-    if rows <= i {
-        return tag_by_cells(m, width, i);
-    }
-    let at = i * width;
-    Tag {
-        key: m[at],
-        name: Part {
-            at: m[at + 1] as usize,
-            len: m[at + 2] as usize,
-        },
-        next: m[at + (width - 1)] as usize,
-    }
-}
-
 // The tag of row i for any width, with 0 for each number that the row does not have, as when there is no such row.
-fn tag_by_cells(m: &[u64], width: usize, i: usize) -> Tag
+fn tag_at(m: &[u64], width: usize, i: usize) -> Tag
     ensures { λ r. ⌜ r ≡ tagAt width (now (m .entry)) i ⌝ }
 {
     if width == 0 {
@@ -83,6 +66,16 @@ fn tag_by_cells(m: &[u64], width: usize, i: usize) -> Tag
     }
 }
 
+// Whether a row's tag has this key, and a name of these bytes.
+fn is_tagged(library: &[u8], tag: Tag, key: u64, bytes: &[u8]) -> bool
+    ensures { λ r. ⌜ r ≡ (eqb (tag .key) key && sameBytes (bytesOf (now (library .entry)) (tag .name)) (now (bytes .entry))) ⌝ }
+{
+    if tag.key != key {
+        return false;
+    }
+    names::same(names::name(library, tag.name), bytes)
+}
+
 // Whether the length of a row's name alone rules out the bytes wanted. No length rules out the empty name, since a name
 // that passes the library's end has no bytes whatever its length says.
 fn is_other_length(len: usize, wanted: usize) -> bool
@@ -94,29 +87,95 @@ fn is_other_length(len: usize, wanted: usize) -> bool
     len != wanted
 }
 
-// Whether a row's tag has this key, and a name of these bytes.
-fn is_tagged(library: &[u8], tag: Tag, key: u64, bytes: &[u8]) -> bool
-    ensures { λ r. ⌜ r ≡ (eqb (tag .key) key && sameBytes (bytesOf (now (library .entry)) (tag .name)) (now (bytes .entry))) ⌝ }
+// Whether the row at a place has this key, and a name whose length does not rule out a name of `wanted` bytes. The length
+// comes first: in a long bucket it tells more rows apart than the key.
+fn may_be(m: &[u64], at: usize, key: u64, wanted: usize) -> bool
+    requires { ⌜ at + 2 < length (now m) ⌝ }
+    ensures { λ r. ⌜ r ≡ mayBe (now (m .entry)) at key wanted ⌝ }
 {
-    if tag.key != key {
+    if is_other_length(m[at + 2] as usize, wanted) {
         return false;
     }
-    if is_other_length(tag.name.len, bytes.len()) {
-        return false;
-    }
-    names::same(names::name(library, tag.name), bytes)
+    m[at] == key
 }
 
-// Follows the links of a bucket from `link` on, to the first row with this key and name; gives the link to that row, or
-// 0. A link that does not lead to an earlier row ends the search, so that the loop ends on any numbers.
-pub fn find(library: &[u8], m: &[u64], width: usize, link: usize, key: u64, name: Part) -> usize
+// The name of the row at a place.
+fn name_at(m: &[u64], at: usize) -> Part
+    requires { ⌜ at + 2 < length (now m) ⌝ }
+    ensures { λ r. ⌜ r ≡ namedAt (now (m .entry)) at ⌝ }
+{
+    Part {
+        at: m[at + 1] as usize,
+        len: m[at + 2] as usize,
+    }
+}
+
+// Follows the links of a bucket from `link` on, past rows that can't have this key and a name of `wanted` bytes; gives the
+// link to the first row that may, or 0. `links` has the link of a row where `m` has its key. Nearly all of a long bucket
+// is gone over here, so that a turn does no more than it must: one test tells that a link leads to no earlier row, whether
+// it is 0 or too large.
+fn pass(m: &[u64], links: &[u64], width: usize, link: usize, key: u64, wanted: usize) -> usize
+    requires { ⌜ Whole width (now m) link × (now links ≡ drop (width - 1) (now m)) ⌝ }
+    ensures { λ r. ⌜ Stops width (now (m .entry)) key wanted link r ⌝ }
+{
+    if link == 0 {
+        return 0;
+    }
+    let mut i = link - 1;
+    loop {
+        let at = i * width;
+        if may_be(m, at, key, wanted) {
+            return i + 1;
+        }
+        let before = wrapping_sub_usize(links[at] as usize, 1);
+        if i <= before {
+            return 0;
+        }
+        i = before;
+    }
+}
+
+// What `find` does where the first row and those before it are whole.
+fn find_whole(library: &[u8], m: &[u64], width: usize, link: usize, key: u64, name: Part) -> usize
+    requires { ⌜ (0 < link) × Whole width (now m) link ⌝ }
     ensures { λ r. ⌜ r ≡ followed (now (library .entry)) width (now (m .entry)) key name link ⌝ }
 {
     let bytes = names::name(library, name);
-    let rows = whole_rows(m, width);
+    let last = width - 1;
+    let links = &m[last..];
+    let mut here = link;
+    loop {
+        let there = pass(m, links, width, here, key, bytes.len());
+        if there == 0 {
+            return 0;
+        }
+        let at = (there - 1) * width;
+        if names::same(names::name(library, name_at(m, at)), bytes) {
+            return there;
+        }
+        let next = links[at] as usize;
+        if there <= next {
+            return 0;
+        }
+        here = next;
+    }
+}
+
+// What `find` does on any numbers.
+fn find_by_cells(
+    library: &[u8],
+    m: &[u64],
+    width: usize,
+    link: usize,
+    key: u64,
+    name: Part,
+) -> usize
+    ensures { λ r. ⌜ r ≡ followed (now (library .entry)) width (now (m .entry)) key name link ⌝ }
+{
+    let bytes = names::name(library, name);
     let mut here = link;
     while here != 0 {
-        let tag = tag_at(m, width, rows, here - 1);
+        let tag = tag_at(m, width, here - 1);
         if is_tagged(library, tag, key, bytes) {
             return here;
         }
@@ -126,6 +185,20 @@ pub fn find(library: &[u8], m: &[u64], width: usize, link: usize, key: u64, name
         here = tag.next;
     }
     0
+}
+
+// Follows the links of a bucket from `link` on, to the first row with this key and name; gives the link to that row, or
+// 0. A link that does not lead to an earlier row ends the search, so that the loop ends on any numbers.
+pub fn find(library: &[u8], m: &[u64], width: usize, link: usize, key: u64, name: Part) -> usize
+    ensures { λ r. ⌜ r ≡ followed (now (library .entry)) width (now (m .entry)) key name link ⌝ }
+{
+    if link == 0 {
+        return 0;
+    }
+    if whole_rows(m, width) < link {
+        return find_by_cells(library, m, width, link, key, name);
+    }
+    find_whole(library, m, width, link, key, name)
 }
 
 // A number of 32 bits after bytes were mixed in.
