@@ -1,5 +1,6 @@
 // Document 01's P1 to P14 and jumps of the MCS-51 manual, run on the functions that they are about. The same values are proved of the definition
 // (crates/run/specs/Examples.antt).
+mod failed;
 mod show;
 
 use crate::show::answer;
@@ -122,6 +123,7 @@ fn main() {
     patterns();
     targets();
     reasons();
+    failed::first_failures();
     sizes();
     masks();
     say(b"P13 ");

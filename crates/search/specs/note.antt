@@ -1,4 +1,4 @@
--- Names are noted.
+-- Names are noted, and whether references hold.
 pub mod NotedNames
 pub mod NotedNameLaws
-pub mod ReferenceLaws
+pub mod ReferLaws

@@ -58,7 +58,7 @@ all-unless p why e k (r ∷ rest) = ap (λ t. t && all p rest) (e r) ∙ go (why
     go (some w) h = refl
 
 -- of references that lead somewhere, among some segments
-pub none-failed : (cells : List ℕ) (segments : List Collected) (leads : Reference → Target) (rs : List Reference)
+none-failed : (cells : List ℕ) (segments : List Collected) (leads : Reference → Target) (rs : List Reference)
     → all (λ r. holdsAt cells segments (r .goal) (leads r)) rs ≡ isNothing (failedFrom (λ r. failure cells segments (r .goal) (leads r)) 0 rs)
 none-failed cells segments leads rs =
     all-unless _ (λ r. failure cells segments (r .goal) (leads r)) (λ r. holds-unless cells segments (r .goal) (leads r)) 0 rs

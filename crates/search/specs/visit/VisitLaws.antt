@@ -18,14 +18,10 @@ use Rattle.segments.specs.Collect.{Collected}
 use Rattle.segments.specs.SegmentLayouts.{referenceLayout, symbolLayout, segmentRowAt}
 use Rattle.segments.specs.recalled.Recall.{rowsOf, recalledBy, recalled}
 use Rattle.search_rules.specs.declared.Asked.{Asked}
-use Rattle.search_rules.specs.declared.Failed.{Failed}
 use Rattle.search_rules.specs.Search.{Match, Placing, positions, matchesOf, allMatches, isValid, holds, notes, symbolAt, symbolsAt}
 use Rattle.search.specs.place.PlacedSymbols.{placingOf}
-use Rattle.search_rules.specs.FailedLaws.{isNothing, none-failed}
-use Rattle.search.specs.targets.Seats.{leads}
-use Rattle.search.specs.failed.Failures.{FailsFirst}
-use Rattle.search.specs.note.NotedNames.{notesOf}
-use Rattle.search.specs.visit.Visits.{holdsIn, KeepsOut, Stored, segmentsIn, segmentAt, placings, notings, segmentBy, matchOf}
+use Rattle.search.specs.note.NotedNames.{notesOf, holdsIn}
+use Rattle.search.specs.visit.Visits.{Stored, segmentsIn, segmentAt, placings, notings, segmentBy, matchOf}
 
 same : {A : Type 0} (b : Bool) (x : A) → (if b then x else x) ≡ x
 same true x = refl
@@ -44,9 +40,9 @@ module _ (cells : List ℕ) (a : Asked) (library : List ℕ) (t : Stored) (n : �
   unfolding notes recalledBy joined
   match-notes = rw known (sym (append-nil (notes cells a (segmentBy cells a library t n row) at)))
 
-  match-holds : holds cells a gs m ≡ all (holdsIn cells (a .rules) at gs) (rowsOf referenceLayout (t .references) (row .references))
+  match-holds : {q : Bool} → q ≡ all (holdsIn cells (a .rules) at gs) (rowsOf referenceLayout (t .references) (row .references)) → holds cells a gs m ≡ q
   unfolding holds recalledBy
-  match-holds = refl
+  match-holds e = sym e
 
   -- its symbols, and that a failed check keeps them out
   one-placed : placings cells a gs (one m) ≡ symbolsAt cells a gs m
@@ -63,33 +59,16 @@ module _ (cells : List ℕ) (a : Asked) (library : List ℕ) (t : Stored) (n : �
   abbrev unless : Bool → List Placing
   unless fails = if fails then [] else map (symbolAt a m) (m .segment .symbols)
 
-  module _ (out : Bool) (o : out ≡ (a .check && not (all (holdsIn cells (a .rules) at gs) (rowsOf referenceLayout (t .references) (row .references))))) where
+  module _ (q out : Bool) (e : q ≡ all (holdsIn cells (a .rules) at gs) (rowsOf referenceLayout (t .references) (row .references))) (o : out ≡ (a .check && not q)) where
     placed-unless : placings cells a gs (one m) ≡ unless out
     unfolding symbolsAt
-    placed-unless = one-placed ∙ ap (λ h. unless (a .check && not h)) match-holds ∙ ap unless (sym o)
+    placed-unless = one-placed ∙ ap (λ h. unless (a .check && not h)) (match-holds e) ∙ ap unless (sym o)
 
     pub match-fails : out ≡ true → [] ≡ placings cells a gs (one m)
     match-fails f = sym (placed-unless ∙ ap unless f)
 
     pub match-passes : out ≡ false → own ≡ placings cells a gs (one m)
     match-passes f = sym (placed-unless ∙ ap unless f ∙ own-symbols)
-
--- whether a check keeps the symbols of a match out: without checking none does, and with it one does exactly if a
--- reference fails
-module _ (cells : List ℕ) (a : Asked) (segments : List ℕ) (n : ℕ) (references : List ℕ) (part : Part) (bytes masks : List ℕ) (at : ℕ) where
-  abbrev held : List ℕ → List ℕ → Bool
-  held kept symbols = all (holdsIn cells (a .rules) at (recalled segments kept symbols bytes masks n)) (rowsOf referenceLayout references part)
-
-  pub out-unchecked : a .check ≡ false → KeepsOut cells a segments n references part bytes masks at false
-  out-unchecked e kept symbols = sym (ap (λ b. b && not (held kept symbols)) e)
-
-  pub out-checked : a .check ≡ true → (f : Failed) → FailsFirst cells (a .rules) at segments n references part bytes masks f → (out : Bool) → out ≡ not (isNothing f)
-      → KeepsOut cells a segments n references part bytes masks at out
-  out-checked e f h out o kept symbols =
-      o
-      ∙ ap (λ x. not (isNothing x)) (h kept symbols)
-      ∙ ap not (sym (none-failed cells (recalled segments kept symbols bytes masks n) (leads cells (a .rules) at) (rowsOf referenceLayout references part)))
-      ∙ sym (ap (λ b. b && not (held kept symbols)) e)
 
 -- a segment with no reference and no symbol leaves nothing, wherever it matches
 no-rows : {R : Type 0} (l : Layout R) (xs : List ℕ) (p : Part) → p .len ≡ 0 → rowsOf l xs p ≡ []

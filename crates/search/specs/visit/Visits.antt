@@ -1,21 +1,16 @@
 -- What matches leave in lent memory: the symbols that they place, and the names that their references note.
 use Prim.Native.Nat.{ℕ}
 use mathlib.Core.Path.{_≡_}
-use mathlib.Core.Bool.{Bool, not, _&&_}
+use mathlib.Core.Bool.{Bool}
 use mathlib.Core.List.{List}
 use lib.ListN.{length}
-use Rattle.lent.specs.declared.part.Part.{Part}
-use Rattle.lent.specs.Lists.{one, joined, all}
-use Rattle.image.specs.declared.fixup.Rules.{Rules}
+use Rattle.lent.specs.Lists.{one, joined}
 use Rattle.segments.specs.declared.SegmentNumber.{SegmentNumber}
 use Rattle.segments.specs.declared.SegmentRow.{SegmentRow}
-use Rattle.segments.specs.declared.Reference.{Reference}
 use Rattle.segments.specs.Collect.{Collected}
-use Rattle.segments.specs.SegmentLayouts.{referenceLayout}
-use Rattle.segments.specs.recalled.Recall.{rowsOf, recalledBy, recalledAt, recalled}
+use Rattle.segments.specs.recalled.Recall.{recalledBy, recalledAt, recalled}
 use Rattle.search_rules.specs.declared.Asked.{Asked}
-use Rattle.search_rules.specs.Search.{Match, Placing, Noting, matchesOf, allMatches, isValid, holdsAt, notes, symbolsAt}
-use Rattle.search.specs.targets.Seats.{leads}
+use Rattle.search_rules.specs.Search.{Match, Placing, Noting, matchesOf, allMatches, isValid, notes, symbolsAt}
 use Rattle.search.specs.place.PlacedSymbols.{Places}
 use Rattle.search.specs.note.NotedNames.{Notes}
 use Rattle.search.specs.declared.visit.Fills.{Fills}
@@ -38,10 +33,6 @@ segmentsIn t n = recalled (t .segments) (t .references) (t .symbols) (t .bytes) 
 abbrev pub segmentAt : Stored → ℕ → Collected
 segmentAt t i = recalledAt (t .segments) (t .references) (t .symbols) (t .bytes) (t .masks) i
 
--- a reference of a match at a position holds among some segments
-abbrev pub holdsIn : List ℕ → Rules → ℕ → List Collected → Reference → Bool
-holdsIn cells rules position gs r = holdsAt cells gs (r .goal) (leads cells rules position r)
-
 -- what some matches place and note
 module _ (cells : List ℕ) (a : Asked) (gs : List Collected) where
   abbrev pub placings : List Match → List Placing
@@ -49,13 +40,6 @@ module _ (cells : List ℕ) (a : Asked) (gs : List Collected) where
 
   abbrev pub notings : List Match → List Noting
   notings ms = joined (λ m. notes cells a (m .segment) (m .position)) ms
-
--- a match at a place keeps its symbols out: references are checked, and one of those in a part of the rows does not hold
--- among the segments that are stored
-abbrev pub KeepsOut : List ℕ → Asked → List ℕ → ℕ → List ℕ → Part → List ℕ → List ℕ → ℕ → Bool → Type 0
-KeepsOut cells a segments n references part bytes masks at r =
-    (stored symbols : List ℕ)
-    → r ≡ (a .check && not (all (holdsIn cells (a .rules) at (recalled segments stored symbols bytes masks n)) (rowsOf referenceLayout references part)))
 
 -- matches are visited: symbols are placed in an image of cells, and names noted
 pub record Visits (cells : List ℕ) (a : Asked) (library : List ℕ) (gs : List Collected) (ms : List Match)

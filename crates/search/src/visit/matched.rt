@@ -1,51 +1,22 @@
-// One match: its references note names, and then its symbols are placed, unless a check keeps them out.
+// One match: its references are gone over in file order, and then its symbols are placed.
 ghost use mathlib.Core.Path.{_≡_};
+ghost use mathlib.Core.Bool.{_&&_, not};
 ghost use Rattle.image.specs.View.{view};
-ghost use Rattle.search.specs.visit.Visits.{stored, KeepsOut, VisitsMatch};
-use crate::failed::first_failed;
-use crate::failed::is_failed;
-use crate::note::references::note_references;
+ghost use Rattle.search.specs.visit.Visits.{stored, VisitsMatch};
+use crate::note::refer::refer_all;
 use crate::place::place_symbols;
 use crate::visit::Fills;
 use image::Stretch;
-use lent::part::Part;
 use search_rules::Asked;
 use segments::SegmentNumber;
 use segments::SegmentRow;
 use tables::fill::Fill;
 
-// Whether a match at `at` places no symbols: references are checked, and one in a part of the rows fails. Without checking
-// none is looked at.
-fn keeps_out(
-    image: &[u8],
-    s: Stretch,
-    asked: Asked,
-    segments: &[u64],
-    n: usize,
-    references: &[u64],
-    part: Part,
-    bytes: &[u8],
-    masks: &[u8],
-    at: usize,
-) -> bool
-    ensures { λ r. ⌜ KeepsOut (view (now (image .entry)) s) asked (now (segments .entry)) n (now (references .entry)) part (now (bytes .entry)) (now (masks .entry)) at r ⌝ }
+// Whether a match places no symbols: references are checked, and one does not hold.
+fn keeps_out(check: bool, holds: bool) -> bool
+    ensures { λ r. ⌜ r ≡ (check && not holds) ⌝ }
 {
-    let rules = asked.rules;
-    if !asked.check {
-        return false;
-    }
-    is_failed(first_failed(
-        image,
-        s,
-        rules,
-        at,
-        segments,
-        n,
-        references,
-        part,
-        bytes,
-        masks,
-    ))
+    check && !holds
 }
 
 // How far the two lists of the search are filled.
@@ -56,8 +27,8 @@ fn fills(placed: Fill, noted: Fill) -> Fills
 }
 
 // Goes over one match, of the segment `number`, whose row is `row`, at the place `at`. With checking on, a reference
-// that fails keeps the symbols of the match out; the names that its references noted stay. The other parameters are those
-// of `search_all`.
+// that does not hold keeps the symbols of the match out; the names that its references noted stay. The other parameters
+// are those of `search_all`.
 pub fn visit_match(
     image: &[u8],
     s: Stretch,
@@ -85,31 +56,25 @@ pub fn visit_match(
     let rules = asked.rules;
     let before = f.placed;
     let started = f.noted;
-    let reached = note_references(
+    let referred = refer_all(
         image,
         s,
         rules,
         at,
         valid,
         library,
-        references,
-        row.references,
-        noted,
-        goals,
-        started,
-    );
-    if keeps_out(
-        image,
-        s,
-        asked,
         segments,
         n,
         references,
         row.references,
         bytes,
         masks,
-        at,
-    ) {
+        noted,
+        goals,
+        started,
+    );
+    let reached = referred.fill;
+    if keeps_out(asked.check, referred.holds) {
         return fills(before, reached);
     }
     let filled = place_symbols(
