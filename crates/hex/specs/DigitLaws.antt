@@ -1,0 +1,54 @@
+-- Digits there and back, and a text that begins with them. Assumes nothing.
+use Prim.Native.Nat.{ℕ, zero, suc, _+_, _-_, _*_, _/_, _%_, _≤_, _<_}
+use mathlib.Core.Path.{_≡_, refl, sym, ap, _∙_}
+use mathlib.Core.Bool.{Bool, true, false, _&&_}
+use mathlib.Core.List.{List, [], _∷_, _++_}
+use native.Mathlib.Decide.{decLt}
+use native.Mathlib.Nat.{add-zero, mod-lt, mod-eq-of-lt, div-add-mod'}
+use native.Mathlib.Omega.{arith}
+use borrow.Author.Tests.{eqb-true, lt-ltb}
+use lib.Dec.{eqb, ltb}
+use lib.ListN.{length, getD, drop, List·getD-eq-default}
+use lib.Seq.{getD-drop, drop-drop}
+use Rattle.lent.specs.Lists.{all, from, joined, total}
+use Rattle.lent.specs.ListLaws.{every}
+use Rattle.hex.specs.Digits.{digitValue, digitAt, isDigitAt, byteAt, bytesAt, areDigits, sum, digit, twoDigits, allDigits}
+
+-- all elements of a list are bytes
+abbrev pub Bytes : List ℕ → Type 0
+Bytes xs = (k : ℕ) → getD xs k 0 < 256
+
+-- a digit that was written is read as its number
+digit-back : (n : ℕ) → n < 16 → digitValue (digit n) ≡ n
+unfolding all from digitValue digit
+digit-back n h = eqb-true (digitValue (digit n)) n (every (λ k. eqb (digitValue (digit k)) k) 0 16 test n (omega arith) (omega arith))
+  where
+    test : all (λ k. eqb (digitValue (digit k)) k) (from 0 16) ≡ true
+    test = refl
+
+-- what the digits at a place stand for is a byte
+pub byte-below : (text : List ℕ) (at : ℕ) → byteAt text at < 256
+unfolding byteAt
+byte-below text at = omega (arith, mod-lt (digitAt text at) {m = 16} (omega arith), mod-lt (digitAt text (at + 1)) {m = 16} (omega arith))
+
+pub bytes-length : (text : List ℕ) (at n : ℕ) → length (bytesAt text at n) ≡ n
+unfolding bytesAt
+bytes-length text at zero = refl
+bytes-length text at (suc n) = ap suc (bytes-length text (at + 2) n)
+
+pub bytes-below : (text : List ℕ) (at n : ℕ) → Bytes (bytesAt text at n)
+unfolding bytesAt
+bytes-below text at zero k = omega arith
+bytes-below text at (suc n) zero = byte-below text at
+bytes-below text at (suc n) (suc k) = bytes-below text (at + 2) n k
+
+-- a text that goes on with a character at a place
+pub record Fronted (text : List ℕ) (at x : ℕ) (rest : List ℕ) : Type 0 where
+  pub here : getD text at 0 ≡ x
+  pub next : drop (at + 1) text ≡ rest
+
+pub fronted : (text : List ℕ) (at x : ℕ) (rest : List ℕ) → drop at text ≡ x ∷ rest → Fronted text at x rest
+fronted text at x rest e = record {
+  here = ap (λ k. getD text k 0) (sym (add-zero at)) ∙ sym (getD-drop at text 0 0) ∙ ap (λ l. getD l 0 0) e;
+  next = sym (drop-drop 1 at text) ∙ ap (drop 1) e;
+}
