@@ -52,3 +52,39 @@ fronted text at x rest e = record {
   here = ap (λ k. getD text k 0) (sym (add-zero at)) ∙ sym (getD-drop at text 0 0) ∙ ap (λ l. getD l 0 0) e;
   next = sym (drop-drop 1 at text) ∙ ap (drop 1) e;
 }
+
+-- a text that goes on with the digits of bytes: they are read back, and the text goes on behind them
+pub record Read (text : List ℕ) (at : ℕ) (bytes rest : List ℕ) : Type 0 where
+  pub back : bytesAt text at (length bytes) ≡ bytes
+  pub digits : areDigits text at (length bytes) ≡ true
+  pub next : drop (at + 2 * length bytes) text ≡ rest
+
+record Two (text : List ℕ) (at b : ℕ) (rest : List ℕ) : Type 0 where
+  byte : byteAt text at ≡ b
+  high : isDigitAt text at ≡ true
+  low : isDigitAt text (at + 1) ≡ true
+  behind : drop (at + 2) text ≡ rest
+
+two-read : (text : List ℕ) (at b : ℕ) (rest : List ℕ) → b < 256 → drop at text ≡ twoDigits b ++ rest → Two text at b rest
+unfolding byteAt digitAt
+two-read text at b rest h e =
+    let f = fronted text at (digit (b / 16)) (digit (b % 16) ∷ rest) e in
+    let g = fronted text (at + 1) (digit (b % 16)) rest (f .next) in
+    let x : digitAt text at ≡ b / 16 = ap digitValue (f .here) ∙ digit-back (b / 16) (omega arith) in
+    let y : digitAt text (at + 1) ≡ b % 16 = ap digitValue (g .here) ∙ digit-back (b % 16) (omega arith) in
+    let two : at + 2 ≡ at + 1 + 1 = omega arith in
+    record {
+      byte = omega (arith, x, y);
+      high = lt-ltb (digitAt text at) 16 (omega (arith, x));
+      low = lt-ltb (digitAt text (at + 1)) 16 (omega (arith, y));
+      behind = ap (λ k. drop k text) two ∙ g .next;
+    }
+
+pub digits-read : (bytes text : List ℕ) (at : ℕ) (rest : List ℕ) → Bytes bytes → drop at text ≡ allDigits bytes ++ rest → Read text at bytes rest
+unfolding joined bytesAt areDigits
+digits-read [] text at rest h e = record { back = refl; digits = refl; next = ap (λ k. drop k text) (add-zero at) ∙ e }
+digits-read (b ∷ bytes) text at rest h e =
+    let t = two-read text at b (allDigits bytes ++ rest) (h 0) e in
+    let r = digits-read bytes text (at + 2) rest (λ k. h (suc k)) (t .behind) in
+    let more : at + 2 * suc (length bytes) ≡ at + 2 + 2 * length bytes = omega arith in
+    record { back = rw (t .byte, r .back); digits = rw (t .high, t .low, r .digits); next = ap (λ k. drop k text) more ∙ r .next }

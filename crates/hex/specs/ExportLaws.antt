@@ -54,7 +54,7 @@ abbrev pub head : ℕ → ℕ → ℕ → List ℕ
 head kind address size = size ∷ address / 256 ∷ address % 256 ∷ kind ∷ []
 
 module _ (kind address : ℕ) (bytes : List ℕ) where
-  abbrev first : List ℕ
+  abbrev pub first : List ℕ
   first = head kind address (length bytes)
 
   -- what its bytes sum to before the check byte, as its two parts
@@ -65,7 +65,7 @@ module _ (kind address : ℕ) (bytes : List ℕ) where
   unfolding total
   whole-is = omega arith
 
-  pieces : one 0x3A ++ (allDigits first ++ (allDigits bytes ++ (twoDigits (checksum whole) ++ one 0x0A))) ≡ recordLine kind address bytes
+  pub pieces : one 0x3A ++ (allDigits first ++ (allDigits bytes ++ (twoDigits (checksum whole) ++ one 0x0A))) ≡ recordLine kind address bytes
   unfolding recordLine joined
   pieces =
       let check = checksum (sum (body kind address bytes)) in

@@ -186,37 +186,5 @@ module _ (text : List ℕ) (at : ℕ) where
   unfolding recordAt
   of-line h e = rw (lt-leb (length text) at h, e)
 
--- a data record lies in the text and in the memory, and the next line is further on
-pub record Lies (text : List ℕ) (at address size next : ℕ) : Type 0 where
-  pub line : Whole text at size (sumAt text at) next
-  pub sums : sumAt text at % 256 ≡ 0
-  pub kind : kindAt text at ≡ 0
-  pub addressed : address ≡ addressAt text at
-  pub fits : address + size ≤ 65536
-
-abbrev pub Found : List ℕ → ℕ → Step → Type 0
-Found text at (Step.Data address size next) = Lies text at address size next
-Found text at Step.End = Unit
-Found text at (Step.Bad r) = Unit
-
-found : (text : List ℕ) (at : ℕ) → Found text at (recordAt text at)
-unfolding recordAt
-found text at = chosen (Found text at) (leb (length text) at) (λ e. tt) (λ e. go (lineAt text at) refl)
-  where
-    go : (l : Line) → lineAt text at ≡ l → Found text at (stepOf text at l)
-    go Line.Bad e = tt
-    go (Line.Whole size s next) e =
-        let w = whole-line text at e in
-        chosen (Found text at) (not (eqb (s % 256) 0)) (λ q. tt) λ q₁.
-        chosen (Found text at) (eqb (kindAt text at) 1) (λ q. tt) λ q₂.
-        chosen (Found text at) (not (eqb (kindAt text at) 0)) (λ q. tt) λ q₃.
-        chosen (Found text at) (ltb 0x10000 (addressAt text at + size)) (λ q. tt) λ q₄. record {
-          line = record { parts = w .parts; sizes = w .sizes; sums = refl; nexts = w .nexts };
-          sums = rw (← w .sums) (eqb-true (s % 256) 0 (not-false (eqb (s % 256) 0) q₁));
-          kind = eqb-true (kindAt text at) 0 (not-false (eqb (kindAt text at) 0) q₃);
-          addressed = refl;
-          fits = ltb-false 0x10000 (addressAt text at + size) q₄;
-        }
-
-pub found-at : (text : List ℕ) (at : ℕ) {t : Step} → recordAt text at ≡ t → Found text at t
-found-at text at e = subst (Found text at) e (found text at)
+pub bad-line : (text : List ℕ) (at : ℕ) → lineAt text at ≡ Line.Bad → Parts text at → ⊥
+bad-line text at e p = let q = sym (line-whole text at p) ∙ e in let z : _≡_ {A = ℕ} 0 1 = cc in omega arith

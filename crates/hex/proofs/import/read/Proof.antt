@@ -11,7 +11,7 @@ use borrow.Author.Tests.{not-true, not-false}
 use lib.ListN.{length}
 use Rattle.hex.specs.declared.record.Step.the-variants.{Data}
 use Rattle.hex.specs.Record.{recordAt}
-use Rattle.hex.specs.RecordLaws.{Lies, found-at}
+use Rattle.hex.specs.RecordCases.{Lies, found-at}
 use Rattle.hex.specs.Import.{walk, endAfter}
 use Rattle.hex.specs.ImportLaws.{walk-at, walk-twice, walk-on, end-most}
 use Rattle.hex.specs.Cells.{memoryIn}
@@ -95,10 +95,10 @@ lies : (c : In) → Lies (textOf c) (place c) (addressOf c) (sizeOf c) (nextOf c
 lies c = found-at (textOf c) (place c) (step c)
 
 add-take : tie.Need-add-take Inv-loop μ-loop
-add-take c = omega (arith, lies c .line .parts .room)
+add-take c = omega (arith, lies c .good .parts .room)
 
 take-requires : tie.Need-take-requires Inv-loop μ-loop
-take-requires c κs = let d = c .before in let l = c .before .before .before .before .before .loop in omega (arith, lies d .line .parts .room, lies d .line .sizes, lies d .fits, l .inv .long)
+take-requires c κs = let d = c .before in let l = c .before .before .before .before .before .loop in omega (arith, lies d .good .parts .room, lies d .sizes, lies d .fits, l .inv .long)
 
 same-length-3 : tie.Need-same-length-3 Inv-loop μ-loop
 same-length-3 c = search needs
@@ -117,7 +117,7 @@ end-after-requires : tie.Need-end-after-requires Inv-loop μ-loop
 end-after-requires c κs = let d = c .before .before .before .before .before in omega (arith, lies d .fits)
 
 loop-less : tie.Need-loop-less Inv-loop μ-loop
-loop-less c = let d = c .before .before .before .before .before .before in omega (arith, lies d .line .parts .room, lies d .line .nexts)
+loop-less c = let d = c .before .before .before .before .before .before in omega (arith, lies d .good .parts .room, lies d .nexts)
 
 loop-again : tie.Need-loop-again Inv-loop μ-loop
 loop-again c = let d = c .before .before .before .before .before .before in
@@ -129,7 +129,7 @@ loop-again c = let d = c .before .before .before .before .before .before in
       long = search needs;
       within = omega (arith, e .ensures, lies d .fits, end-most 65536 (l .end) (addressOf d) (sizeOf d) (l .inv .within) (lies d .fits));
       fuel = l .inv .fuel - 1;
-      enough = omega (arith, lies d .line .parts .room, lies d .line .nexts, l .inv .enough);
+      enough = omega (arith, lies d .good .parts .room, lies d .nexts, l .inv .enough);
       same = ap (λ m. walk (a .text .now) (l .inv .fuel - 1) (nextOf d) m (e .result)) (noted .1)
           ∙ ap (walk (a .text .now) (l .inv .fuel - 1) (nextOf d) (given (addressOf d) (bytesAt (a .text .now) (l .at + 9) (sizeOf d)) (memoryIn (l .cells)))) (e .ensures)
           ∙ sym (walk-on (a .text .now) (l .inv .fuel) (l .at) (memoryIn (l .cells)) (l .end) (addressOf d) (sizeOf d) (nextOf d) (omega arith) (step d) (noted .0))
