@@ -8,33 +8,29 @@ use native.Mathlib.Decide.{decLt}
 use native.Mathlib.Nat.{mod-eq-of-lt}
 use native.Mathlib.Numerals.{add-one, sub-one}
 use native.Mathlib.Omega.{arith}
-use borrow.Author.Tests.{eqb-true, eqb-false, eq-eqb, ne-eqb, lt-ltb, le-ltb, le-leb, lt-leb}
+use borrow.Author.Tests.{not-true, not-false, eq-eqb, ne-eqb, lt-ltb, le-ltb, le-leb, lt-leb}
+use lib.Bits.{bitOr}
 use lib.Dec.{ltb, leb, eqb}
 use lib.ListN.{length, getD, set, replicate, length-set, length-replicate}
 use lib.Seq.{sets, getD-set-same, getD-set-other}
 use Rattle.lent.specs.Choice.{if_then_else_}
 use Rattle.lent.specs.Lists.{one, any, from}
-use Rattle.lent.specs.ChoiceLaws.{chosen}
 use Rattle.lent.specs.ListLaws.{from-turn}
+use Rattle.lent.specs.RunLaws.{or-none}
 use Rattle.hex.specs.Digits.{byteAt, bytesAt}
 use Rattle.hex.specs.DigitLaws.{Bytes, bytes-length, bytes-below}
 use Rattle.hex.specs.Import.{Memory, nothing, given, isGiven, anyGiven, byteOr, imageOf}
 use Rattle.hex.specs.Cells.{noCells, cellByte, byteIn, memoryIn, imageIn, taken}
 
--- one byte more is noted; a byte that was given before; no byte is left
-module _ (text cells : List ℕ) (k to : ℕ) where
-  pub taken-more : (n : ℕ) → 0 < n → getD cells to 0 ≡ 0
-      → taken (set cells to (256 + byteAt text k)) (to + 1) (bytesAt text (k + 2) (n - 1)) ≡ taken cells to (bytesAt text k n)
+-- one byte more is noted; no byte is left
+module _ (text cells : List ℕ) (seen k to : ℕ) where
+  pub taken-more : (n : ℕ) → 0 < n
+      → taken (bitOr seen (getD cells to 0)) (set cells to (256 + byteAt text k)) (to + 1) (bytesAt text (k + 2) (n - 1)) ≡ taken seen cells to (bytesAt text k n)
   unfolding taken bytesAt
-  taken-more zero h e = absurd (omega arith)
-  taken-more (suc n) h e = rw (sub-one, eq-eqb (getD cells to 0) 0 e)
+  taken-more zero h = absurd (omega arith)
+  taken-more (suc n) h = rw sub-one
 
-  pub taken-stops : (n : ℕ) → 0 < n → (getD cells to 0 ≡ 0 → ⊥) → _≡_ {A = Bool × List ℕ} (false, cells) (taken cells to (bytesAt text k n))
-  unfolding taken bytesAt
-  taken-stops zero h e = absurd (omega arith)
-  taken-stops (suc n) h e = rw (ne-eqb (getD cells to 0) 0 e)
-
-  pub taken-all : (n : ℕ) → n ≤ 0 → _≡_ {A = Bool × List ℕ} (true, cells) (taken cells to (bytesAt text k n))
+  pub taken-all : (n : ℕ) → n ≤ 0 → _≡_ {A = Bool × List ℕ} (eqb seen 0, cells) (taken seen cells to (bytesAt text k n))
   unfolding taken bytesAt
   taken-all zero h = refl
   taken-all (suc n) h = absurd (omega arith)
@@ -146,52 +142,56 @@ unfolding any from
 any-same p q a zero h = refl
 any-same p q a (suc n) h = rw (h a (omega arith), any-same p q (a + 1) n (λ k l. h k (omega arith)))
 
--- what noting bytes comes to: all are given and none was before, or one was
-abbrev pub Took : List ℕ → ℕ → List ℕ → Bool × List ℕ → Type 0
-Took cells address bytes (true, after) =
-    (anyGiven (memoryIn cells) address (length bytes) ≡ false) × (memoryIn after ≡ given address bytes (memoryIn cells))
-Took cells address bytes (false, after) = anyGiven (memoryIn cells) address (length bytes) ≡ true
+-- what noting bytes comes to: all are given, and it is told whether nothing was seen before and none of them was given
+pub record Took (seen : ℕ) (cells : List ℕ) (address : ℕ) (bytes : List ℕ) (p : Bool × List ℕ) : Type 0 where
+  pub free : p .0 ≡ (eqb seen 0 && not (anyGiven (memoryIn cells) address (length bytes)))
+  pub noted : memoryIn (p .1) ≡ given address bytes (memoryIn cells)
 
-pub took : (bytes cells : List ℕ) (address : ℕ) → Bytes bytes → address + length bytes ≤ length cells → Took cells address bytes (taken cells address bytes)
+pub took : (bytes : List ℕ) (seen : ℕ) (cells : List ℕ) (address : ℕ) → Bytes bytes → address + length bytes ≤ length cells
+    → Took seen cells address bytes (taken seen cells address bytes)
 unfolding taken anyGiven any from memoryIn
-took [] cells address bs h = (refl, sym (given-nothing address (memoryIn cells)))
-took (b ∷ bytes) cells address bs h =
-    chosen (Took cells address (b ∷ bytes)) (eqb (getD cells address 0) 0)
-    (λ e. more e (taken after (address + 1) bytes) (took bytes after (address + 1) (λ k. bs (suc k)) (omega (arith, length-set cells address (256 + b)))))
-    (λ e. rw (given-here e))
+took [] seen cells address bs h = record { free = nothing-more (eqb seen 0); noted = sym (given-nothing address (memoryIn cells)) }
   where
-    after : List ℕ
-    after = set cells address (256 + b)
-
-    given-here : eqb (getD cells address 0) 0 ≡ false → isGiven (memoryIn cells address) ≡ true
-    given-here e = rw e
-
-    free-here : eqb (getD cells address 0) 0 ≡ true → isGiven (memoryIn cells address) ≡ false
-    free-here e = rw e
-
-    same : anyGiven (memoryIn after) (address + 1) (length bytes) ≡ anyGiven (memoryIn cells) (address + 1) (length bytes)
-    same = any-same (λ k. isGiven (memoryIn after k)) (λ k. isGiven (memoryIn cells k)) (address + 1) (length bytes)
-        (λ k l. ap isGiven (other-cell cells address (256 + b) k (λ e. omega arith)))
-
-    more : eqb (getD cells address 0) 0 ≡ true → (p : Bool × List ℕ) → Took after (address + 1) bytes p → Took cells address (b ∷ bytes) p
-    more e (true, last) t = (
-      rw (free-here e) (sym same ∙ t .0),
-      t .1 ∙ ap (given (address + 1) bytes) (one-cell cells address b (omega arith) (bs 0)) ∙ given-more address b bytes (memoryIn cells),
-    )
-    more e (false, last) t = rw (free-here e) (sym same ∙ t)
+    nothing-more : (t : Bool) → t ≡ (t && true)
+    nothing-more true = refl
+    nothing-more false = refl
+took (b ∷ bytes) seen cells address bs h =
+    let cell = getD cells address 0 in
+    let after = set cells address (256 + b) in
+    let t = took bytes (bitOr seen cell) after (address + 1) (λ k. bs (suc k)) (omega (arith, length-set cells address (256 + b))) in
+    let same : anyGiven (memoryIn after) (address + 1) (length bytes) ≡ anyGiven (memoryIn cells) (address + 1) (length bytes) =
+    any-same (λ k. isGiven (memoryIn after k)) (λ k. isGiven (memoryIn cells k)) (address + 1) (length bytes)
+    (λ k l. ap isGiven (other-cell cells address (256 + b) k (λ e. omega arith))) in
+    record {
+      free = t .free
+          ∙ ap (λ u. eqb (bitOr seen cell) 0 && not u) same
+          ∙ ap (λ u. u && not (anyGiven (memoryIn cells) (address + 1) (length bytes))) (or-none seen cell)
+          ∙ one-more (eqb seen 0) (eqb cell 0) (anyGiven (memoryIn cells) (address + 1) (length bytes)) cell;
+      noted = t .noted ∙ ap (given (address + 1) bytes) (one-cell cells address b (omega arith) (bs 0)) ∙ given-more address b bytes (memoryIn cells);
+    }
+  where
+    one-more : (s c u : Bool) (n : ℕ) → ((s && c) && not u) ≡ (s && not (isGiven (if c then none else some (n % 256)) || u))
+    one-more true true u n = refl
+    one-more true false u n = refl
+    one-more false true u n = refl
+    one-more false false u n = refl
 
 -- the bytes of a record, by what noting them answered
 module _ (text : List ℕ) (k : ℕ) (cells : List ℕ) (address size : ℕ) (fits : address + size ≤ length cells) where
-  took-at : {r : Bool} {last : List ℕ} → _≡_ {A = Bool × List ℕ} (taken cells address (bytesAt text k size)) (r, last)
-      → Took cells address (bytesAt text k size) (r, last)
+  took-at : {r : Bool} {last : List ℕ} → _≡_ {A = Bool × List ℕ} (taken 0 cells address (bytesAt text k size)) (r, last)
+      → Took 0 cells address (bytesAt text k size) (r, last)
   took-at e =
-      subst (Took cells address (bytesAt text k size)) e
-      (took (bytesAt text k size) cells address (bytes-below text k size) (omega (arith, bytes-length text k size)))
+      subst (Took 0 cells address (bytesAt text k size)) e
+      (took (bytesAt text k size) 0 cells address (bytes-below text k size) (omega (arith, bytes-length text k size)))
 
-  pub all-noted : {r : Bool} {last : List ℕ} → _≡_ {A = Bool × List ℕ} (r, last) (taken cells address (bytesAt text k size)) → r ≡ true
+  free-is : {r : Bool} {last : List ℕ} → _≡_ {A = Bool × List ℕ} (r, last) (taken 0 cells address (bytesAt text k size))
+      → r ≡ not (anyGiven (memoryIn cells) address size)
+  free-is e = rw (bytes-length text k size) at (took-at (sym e) .free)
+
+  pub all-noted : {r : Bool} {last : List ℕ} → _≡_ {A = Bool × List ℕ} (r, last) (taken 0 cells address (bytesAt text k size)) → r ≡ true
       → (anyGiven (memoryIn cells) address size ≡ false) × (memoryIn last ≡ given address (bytesAt text k size) (memoryIn cells))
-  all-noted {r} {last} e t = rw (bytes-length text k size) at (took-at (sym e ∙ ap (λ x. (x, last)) t))
+  all-noted e t = (not-true (anyGiven (memoryIn cells) address size) (sym (free-is e) ∙ t), took-at (sym e) .noted)
 
-  pub one-given : {r : Bool} {last : List ℕ} → _≡_ {A = Bool × List ℕ} (r, last) (taken cells address (bytesAt text k size)) → r ≡ false
+  pub one-given : {r : Bool} {last : List ℕ} → _≡_ {A = Bool × List ℕ} (r, last) (taken 0 cells address (bytesAt text k size)) → r ≡ false
       → anyGiven (memoryIn cells) address size ≡ true
-  one-given {r} {last} e t = rw (bytes-length text k size) at (took-at (sym e ∙ ap (λ x. (x, last)) t))
+  one-given e t = not-false (anyGiven (memoryIn cells) address size) (sym (free-is e) ∙ t)

@@ -1,9 +1,10 @@
 -- The memory of an import as the code keeps it: a cell for each address, 0 where nothing was given, else 256 and the byte.
 use Prim.Native.Nat.{ℕ, _+_, _%_, _≤_}
 use mathlib.Core.Path.{_≡_}
-use mathlib.Core.Bool.{Bool, true, false}
+use mathlib.Core.Bool.{Bool}
 use mathlib.Core.List.{List, [], _∷_, map}
 use mathlib.Core.Option.{Option, none, some}
+use lib.Bits.{bitOr}
 use lib.Dec.{eqb}
 use lib.ListN.{length, getD, set, replicate}
 use Rattle.lent.specs.Choice.{if_then_else_}
@@ -30,10 +31,10 @@ memoryIn cells k = cellByte (getD cells k 0)
 unfoldable pub imageIn : List ℕ → ℕ → List ℕ
 imageIn cells end = map (λ k. byteIn (getD cells k 0)) (from 0 end)
 
--- bytes are noted from an address on, up to one that was given before
-unfoldable pub taken : List ℕ → ℕ → List ℕ → Bool × List ℕ
-taken cells address [] = (true, cells)
-taken cells address (b ∷ bytes) = if eqb (getD cells address 0) 0 then taken (set cells address (256 + b)) (address + 1) bytes else (false, cells)
+-- bytes are noted from an address on, with what stood in their cells; then, whether nothing stood there
+unfoldable pub taken : ℕ → List ℕ → ℕ → List ℕ → Bool × List ℕ
+taken seen cells address [] = (eqb seen 0, cells)
+taken seen cells address (b ∷ bytes) = taken (bitOr seen (getD cells address 0)) (set cells address (256 + b)) (address + 1) bytes
 
 -- what an answer and the cells come to
 abbrev pub madeIn : Answer → List ℕ → Made

@@ -7,9 +7,11 @@ use native.Mathlib.Decide.{decLt}
 use native.Mathlib.Nat.{add-zero, mod-lt, mod-eq-of-lt, div-add-mod'}
 use native.Mathlib.Omega.{arith}
 use borrow.Author.Tests.{eqb-true, lt-ltb}
+use lib.Bits.{bitOr}
 use lib.Dec.{eqb, ltb}
 use lib.ListN.{length, getD, drop, List·getD-eq-default}
 use lib.Seq.{getD-drop, drop-drop}
+use Rattle.lent.specs.Choice.{if_then_else_}
 use Rattle.lent.specs.Lists.{all, from, joined, total}
 use Rattle.lent.specs.ListLaws.{every}
 use Rattle.hex.specs.Digits.{digitValue, digitAt, isDigitAt, byteAt, bytesAt, areDigits, sum, digit, twoDigits, allDigits}
@@ -88,3 +90,20 @@ digits-read (b ∷ bytes) text at rest h e =
     let r = digits-read bytes text (at + 2) rest (λ k. h (suc k)) (t .behind) in
     let more : at + 2 * suc (length bytes) ≡ at + 2 + 2 * length bytes = omega arith in
     record { back = rw (t .byte, r .back); digits = rw (t .high, t .low, r .digits); next = ap (λ k. drop k text) more ∙ r .next }
+
+-- the value of a character as the code finds it: two ranges, each told by one test
+abbrev pub figure : ℕ → ℕ
+figure c = (c + 208) % 256
+
+abbrev pub letter : ℕ → ℕ
+letter c = (bitOr c 32 + 159) % 256
+
+pub value-by : (c : ℕ) → c < 256 → (if ltb (figure c) 10 then figure c else if ltb (letter c) 6 then letter c + 10 else 16) ≡ digitValue c
+unfolding all from digitValue
+value-by c h = eqb-true (by c) (digitValue c) (every (λ k. eqb (by k) (digitValue k)) 0 256 test c (omega arith) (omega arith))
+  where
+    by : ℕ → ℕ
+    by k = if ltb (figure k) 10 then figure k else if ltb (letter k) 6 then letter k + 10 else 16
+
+    test : all (λ k. eqb (by k) (digitValue k)) (from 0 256) ≡ true
+    test = refl

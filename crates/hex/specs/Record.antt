@@ -25,9 +25,9 @@ addressAt text at = 256 * byteAt text (at + 3) + byteAt text (at + 5)
 abbrev pub kindAt : List ℕ → ℕ → ℕ
 kindAt text at = byteAt text (at + 7)
 
--- the sum of all bytes of the record, its check byte included
+-- the sum of all bytes of the record, its check byte included, modulo 256
 abbrev pub sumAt : List ℕ → ℕ → ℕ
-sumAt text at = sum (bytesAt text (at + 1) (5 + sizeAt text at))
+sumAt text at = sum (bytesAt text (at + 1) (5 + sizeAt text at)) % 256
 
 -- where its digits end
 abbrev pub digitsEnd : List ℕ → ℕ → ℕ
@@ -58,7 +58,7 @@ lineAt text at =
 abbrev pub stepOf : List ℕ → ℕ → Line → Step
 stepOf text at Line.Bad = Step.Bad BadText
 stepOf text at (Line.Whole size sum next) =
-    if not (eqb (sum % 256) 0) then Step.Bad WrongSum
+    if not (eqb sum 0) then Step.Bad WrongSum
     else if eqb (kindAt text at) 1 then Step.End
     else if not (eqb (kindAt text at) 0) then Step.Bad OtherType
     else if ltb 0x10000 (addressAt text at + size) then Step.Bad PastEnd
@@ -68,6 +68,6 @@ stepOf text at (Line.Whole size sum next) =
 unfoldable pub recordAt : List ℕ → ℕ → Step
 recordAt text at = if leb (length text) at then Step.Bad NoEndRecord else stepOf text at (lineAt text at)
 
--- the sum of n bytes from a place on, if all their characters are digits: what the code computes
+-- the sum of n bytes from a place on, modulo 256, if all their characters are digits: what the code computes
 abbrev pub sumOf : List ℕ → ℕ → ℕ → Sum
-sumOf text at n = if areDigits text at n then Of (sum (bytesAt text at n)) else NoDigit
+sumOf text at n = if areDigits text at n then Of (sum (bytesAt text at n) % 256) else NoDigit

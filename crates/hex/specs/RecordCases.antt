@@ -21,7 +21,7 @@ use Rattle.hex.specs.declared.record.Step.the-variants as Step
 pub record Good (text : List ℕ) (at : ℕ) : Type 0 where
   pub within : at < length text
   pub parts : Parts text at
-  pub sums : sumAt text at % 256 ≡ 0
+  pub sums : sumAt text at ≡ 0
 
 -- a data record at these numbers
 pub record Lies (text : List ℕ) (at address size next : ℕ) : Type 0 where
@@ -35,7 +35,7 @@ pub record Lies (text : List ℕ) (at address size next : ℕ) : Type 0 where
 -- the faults that a record has by itself; a byte given twice, and those of the buffer, are none of them
 abbrev pub Faulty : List ℕ → ℕ → HexRefusal → Type 0
 Faulty text at BadText = (at < length text) × (Parts text at → ⊥)
-Faulty text at WrongSum = (at < length text) × Parts text at × (sumAt text at % 256 ≡ 0 → ⊥)
+Faulty text at WrongSum = (at < length text) × Parts text at × (sumAt text at ≡ 0 → ⊥)
 Faulty text at OtherType = Good text at × (kindAt text at ≡ 1 → ⊥) × (kindAt text at ≡ 0 → ⊥)
 Faulty text at PastEnd = Good text at × (kindAt text at ≡ 0) × (65536 < addressAt text at + sizeAt text at)
 Faulty text at NoEndRecord = length text ≤ at
@@ -56,12 +56,12 @@ found text at = chosen (Found text at) (leb (length text) at) (leb-true (length 
     go h Line.Bad e = (h, bad-line text at e)
     go h (Line.Whole size s next) e =
         let w = whole-line text at e in
-        chosen (Found text at) (not (eqb (s % 256) 0))
-        (λ q. (h, w .parts, λ z. eqb-false (s % 256) 0 (not-true (eqb (s % 256) 0) q) (ap (λ n. n % 256) (w .sums) ∙ z))) λ q₁.
+        chosen (Found text at) (not (eqb s 0))
+        (λ q. (h, w .parts, λ z. eqb-false s 0 (not-true (eqb s 0) q) (w .sums ∙ z))) λ q₁.
         let good : Good text at = record {
           within = h;
           parts = w .parts;
-          sums = rw (← w .sums) (eqb-true (s % 256) 0 (not-false (eqb (s % 256) 0) q₁));
+          sums = rw (← w .sums) (eqb-true s 0 (not-false (eqb s 0) q₁));
         } in
         chosen (Found text at) (eqb (kindAt text at) 1) (λ q. (good, eqb-true (kindAt text at) 1 q)) λ q₂.
         chosen (Found text at) (not (eqb (kindAt text at) 0))
@@ -88,13 +88,13 @@ module _ (text : List ℕ) (at : ℕ) where
 
   faulty-is : (r : HexRefusal) → Faulty text at r → recordAt text at ≡ Step.Bad r
   faulty-is BadText f = of-line text at (f .0) (line-bad text at (f .1))
-  faulty-is WrongSum f = of-line text at (f .0) (line-whole text at (f .1)) ∙ rw (ne-eqb (sumAt text at % 256) 0 (f .2))
+  faulty-is WrongSum f = of-line text at (f .0) (line-whole text at (f .1)) ∙ rw (ne-eqb (sumAt text at) 0 (f .2))
   faulty-is OtherType f =
-      of-good (f .0) (rw (eq-eqb (sumAt text at % 256) 0 (f .0 .sums), ne-eqb (kindAt text at) 1 (f .1), ne-eqb (kindAt text at) 0 (f .2)))
+      of-good (f .0) (rw (eq-eqb (sumAt text at) 0 (f .0 .sums), ne-eqb (kindAt text at) 1 (f .1), ne-eqb (kindAt text at) 0 (f .2)))
   faulty-is PastEnd f =
       of-good (f .0)
       (rw (
-        eq-eqb (sumAt text at % 256) 0 (f .0 .sums),
+        eq-eqb (sumAt text at) 0 (f .0 .sums),
         ne-eqb (kindAt text at) 1 (λ e. omega (arith, e, f .1)),
         eq-eqb (kindAt text at) 0 (f .1),
         lt-ltb 0x10000 (addressAt text at + sizeAt text at) (f .2),
@@ -109,12 +109,12 @@ module _ (text : List ℕ) (at : ℕ) where
       of-good (l .good)
       (rw (
         ← l .nexts,
-        eq-eqb (sumAt text at % 256) 0 (l .good .sums),
+        eq-eqb (sumAt text at) 0 (l .good .sums),
         ne-eqb (kindAt text at) 1 (λ e. omega (arith, e, l .kind)),
         eq-eqb (kindAt text at) 0 (l .kind),
         ← l .sizes,
         ← l .addressed,
         le-ltb 0x10000 (address + size) (l .fits),
       ))
-  found-is Step.End f = of-good (f .0) (rw (eq-eqb (sumAt text at % 256) 0 (f .0 .sums), eq-eqb (kindAt text at) 1 (f .1)))
+  found-is Step.End f = of-good (f .0) (rw (eq-eqb (sumAt text at) 0 (f .0 .sums), eq-eqb (kindAt text at) 1 (f .1)))
   found-is (Step.Bad r) f = faulty-is r f

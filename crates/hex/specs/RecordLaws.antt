@@ -1,17 +1,19 @@
 -- Laws of lines and records. Assumes nothing.
-use Prim.Native.Nat.{ℕ, zero, suc, _+_, _-_, _*_, _%_, _≤_, _<_}
+use Prim.Native.Nat.{ℕ, zero, suc, _+_, _-_, _*_, _/_, _%_, _≤_, _<_}
 use mathlib.Core.Path.{_≡_, refl, sym, ap, subst, _∙_}
 use mathlib.Core.Bool.{Bool, true, false, _&&_, not}
 use mathlib.Core.List.{List, []}
-use native.Mathlib.Nat.{add-zero}
+use native.Mathlib.Nat.{add-mod, add-mod-mod}
 use native.Mathlib.Numerals.{sub-one}
 use native.Mathlib.Omega.{arith}
 use borrow.Author.Tests.{ltb-true, leb-true, eqb-true, lt-ltb, le-ltb, le-leb, lt-leb, eq-eqb, ne-eqb, ltb-false, not-true, not-false}
+use lib.Bits.{bitOr}
 use lib.Dec.{ltb, leb, eqb}
 use lib.ListN.{length, getD}
 use Rattle.lent.specs.Choice.{if_then_else_}
-use Rattle.lent.specs.ChoiceLaws.{chosen, both}
+use Rattle.lent.specs.ChoiceLaws.{chosen, both, same-test}
 use Rattle.lent.specs.Lists.{total}
+use Rattle.lent.specs.RunLaws.{or-none}
 use Rattle.hex.specs.Digits.{digitAt, isDigitAt, byteAt, bytesAt, areDigits, sum}
 use Rattle.hex.specs.Record.{sizeAt, addressAt, kindAt, sumAt, digitsEnd, endingAt, isRecord, lineAt, stepOf, recordAt, sumOf}
 use Rattle.hex.specs.declared.HexRefusal.the-variants.{NoEndRecord}
@@ -22,63 +24,76 @@ use Rattle.hex.specs.declared.line.Line.the-variants as Line
 use Rattle.hex.specs.declared.record.Step.{Step}
 use Rattle.hex.specs.declared.record.Step.the-variants as Step
 
--- bytes that were summed before
-abbrev pub added : ℕ → Sum → Sum
-added s (Of t) = Of (s + t)
-added s NoDigit = NoDigit
+-- with bytes that were summed before, and what is left of characters among theirs that are no digits
+abbrev pub summed : ℕ → Sum → Sum
+summed s (Of t) = Of ((s + t) % 256)
+summed s NoDigit = NoDigit
 
--- the sum of the bytes that are left: none; a character that is no digit; one byte more
+abbrev pub added : ℕ → ℕ → Sum → Sum
+added others s t = if eqb others 0 then summed s t else NoDigit
+
+pub added-none : (text : List ℕ) (at n : ℕ) → added 0 0 (sumOf text at n) ≡ sumOf text at n
+added-none text at n = go (areDigits text at n)
+  where
+    go : (t : Bool) → summed 0 (if t then Of (sum (bytesAt text at n) % 256) else NoDigit) ≡ (if t then Of (sum (bytesAt text at n) % 256) else NoDigit)
+    go true = ap Of (omega arith)
+    go false = refl
+
+-- a digit leaves nothing of its value's upper half
+none-left : (d : ℕ) → eqb (d / 16) 0 ≡ ltb d 16
+none-left d =
+    same-test (eqb (d / 16) 0) (ltb d 16)
+    (λ e. lt-ltb d 16 (omega (arith, eqb-true (d / 16) 0 e)))
+    (λ e. eq-eqb (d / 16) 0 (omega (arith, ltb-true d 16 e)))
+
+-- one byte more is summed; no byte is left
 module _ (text : List ℕ) (at : ℕ) where
-  pub sum-none : (s n : ℕ) → n ≤ 0 → Of s ≡ added s (sumOf text at n)
+  abbrev pub leftOf : ℕ → ℕ
+  leftOf others = bitOr others (bitOr (digitAt text at / 16) (digitAt text (at + 1) / 16))
+
+  left-of : (others : ℕ) → eqb (leftOf others) 0 ≡ (eqb others 0 && (isDigitAt text at && isDigitAt text (at + 1)))
+  left-of others =
+      or-none others (bitOr (digitAt text at / 16) (digitAt text (at + 1) / 16))
+      ∙ ap (λ t. eqb others 0 && t) (or-none (digitAt text at / 16) (digitAt text (at + 1) / 16)
+      ∙ rw (none-left (digitAt text at), none-left (digitAt text (at + 1))))
+
+  pub sum-more : (others s n : ℕ) → 0 < n
+      → added (leftOf others) ((s + byteAt text at) % 256) (sumOf text (at + 2) (n - 1)) ≡ added others s (sumOf text at n)
   unfolding areDigits bytesAt total
-  sum-none s zero h = rw (add-zero s)
-  sum-none s (suc n) h = absurd (omega arith)
-
-  pub sum-first : (n : ℕ) → 0 < n → 15 < digitAt text at → sumOf text at n ≡ NoDigit
-  unfolding areDigits
-  sum-first zero h l = absurd (omega arith)
-  sum-first (suc n) h l = rw (le-ltb (digitAt text at) 16 (omega arith))
-
-  pub sum-second : (n : ℕ) → 0 < n → 15 < digitAt text (at + 1) → sumOf text at n ≡ NoDigit
-  unfolding areDigits
-  sum-second zero h l = absurd (omega arith)
-  sum-second (suc n) h l = rw (le-ltb (digitAt text (at + 1)) 16 (omega arith)) (go (isDigitAt text at))
+  sum-more others s zero h = absurd (omega arith)
+  sum-more others s (suc n) h =
+      rw (sub-one, left-of others) (go (eqb others 0) (isDigitAt text at) (isDigitAt text (at + 1)) (areDigits text (at + 2) n))
     where
-      go : (t : Bool) → (if t && false && areDigits text (at + 2) n then Of (sum (bytesAt text at (suc n))) else NoDigit) ≡ NoDigit
-      go true = refl
-      go false = refl
+      rest : ℕ
+      rest = sum (bytesAt text (at + 2) n)
 
-  pub sum-more : (n : ℕ) → 0 < n → digitAt text at ≤ 15 → digitAt text (at + 1) ≤ 15 → sumOf text at n ≡ added (byteAt text at) (sumOf text (at + 2) (n - 1))
+      go : (o t u v : Bool) → (if o && (t && u) then summed ((s + byteAt text at) % 256) (if v then Of (rest % 256) else NoDigit) else NoDigit)
+          ≡ (if o then summed s (if t && u && v then Of ((byteAt text at + rest) % 256) else NoDigit) else NoDigit)
+      go true true true true =
+          let grouped : s + byteAt text at + rest ≡ s + (byteAt text at + rest) = omega arith in
+          ap Of (sym (add-mod (s + byteAt text at) rest 256) ∙ ap (λ n. n % 256) grouped ∙ sym (add-mod-mod s (byteAt text at + rest) 256))
+      go true true true false = refl
+      go true true false v = refl
+      go true false u v = refl
+      go false t u v = refl
+
+  pub sum-all : (others s n : ℕ) → s < 256 → n ≤ 0 → added others s (sumOf text at n) ≡ (if eqb others 0 then Of s else NoDigit)
   unfolding areDigits bytesAt total
-  sum-more zero h l m = absurd (omega arith)
-  sum-more (suc n) h l m =
-      rw (sub-one, lt-ltb (digitAt text at) 16 (omega arith), lt-ltb (digitAt text (at + 1)) 16 (omega arith)) (go (areDigits text (at + 2) n))
-    where
-      go : (t : Bool) → (if t then Of (byteAt text at + sum (bytesAt text (at + 2) n)) else NoDigit)
-          ≡ added (byteAt text at) (if t then Of (sum (bytesAt text (at + 2) n)) else NoDigit)
-      go true = refl
-      go false = refl
-
-pub added-twice : (a b : ℕ) (s : Sum) → added (a + b) s ≡ added a (added b s)
-added-twice a b (Of t) = ap Of (omega arith)
-added-twice a b NoDigit = refl
-
-pub added-none : (s : Sum) → added 0 s ≡ s
-added-none (Of t) = ap Of (omega arith)
-added-none NoDigit = refl
+  sum-all others s zero l h = let same : (s + 0 % 256) % 256 ≡ s = omega arith in rw same
+  sum-all others s (suc n) l h = absurd (omega arith)
 
 -- what a sum says of its digits
 pub no-digits : (text : List ℕ) (at n : ℕ) → sumOf text at n ≡ NoDigit → areDigits text at n ≡ false
 no-digits text at n e = go (areDigits text at n) e
   where
-    go : (t : Bool) → (if t then Of (sum (bytesAt text at n)) else NoDigit) ≡ NoDigit → t ≡ false
+    go : (t : Bool) → (if t then Of (sum (bytesAt text at n) % 256) else NoDigit) ≡ NoDigit → t ≡ false
     go true q = let z : _≡_ {A = ℕ} 0 1 = cc in absurd (omega arith)
     go false q = refl
 
-pub all-digits : (text : List ℕ) (at n : ℕ) {s : ℕ} → sumOf text at n ≡ Of s → (areDigits text at n ≡ true) × (s ≡ sum (bytesAt text at n))
+pub all-digits : (text : List ℕ) (at n : ℕ) {s : ℕ} → sumOf text at n ≡ Of s → (areDigits text at n ≡ true) × (s ≡ sum (bytesAt text at n) % 256)
 all-digits text at n {s} e = go (areDigits text at n) e
   where
-    go : (t : Bool) → (if t then Of (sum (bytesAt text at n)) else NoDigit) ≡ Of s → (t ≡ true) × (s ≡ sum (bytesAt text at n))
+    go : (t : Bool) → (if t then Of (sum (bytesAt text at n) % 256) else NoDigit) ≡ Of s → (t ≡ true) × (s ≡ sum (bytesAt text at n) % 256)
     go true q = (refl, cc)
     go false q = let z : _≡_ {A = ℕ} 0 1 = cc in absurd (omega arith)
 

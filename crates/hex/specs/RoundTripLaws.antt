@@ -121,10 +121,10 @@ module _ (text : List ℕ) (at kind address : ℕ) (bytes rest : List ℕ) (e : 
   unfolding sums
   count = omega (arith, size-back, length-append bytes (one (checksum (sum (body kind address bytes)))))
 
-  pub sum-back : sumAt text at % 256 ≡ 0
+  pub sum-back : sumAt text at ≡ 0
   unfolding sums
   sum-back =
-      let s : sumAt text at ≡ sum (body kind address bytes) + checksum (sum (body kind address bytes)) =
+      let s : sum (bytesAt text (at + 1) (5 + sizeAt text at)) ≡ sum (body kind address bytes) + checksum (sum (body kind address bytes)) =
       ap (λ n. sum (bytesAt text (at + 1) n)) count ∙ ap sum (all .back) ∙ sum-last (body kind address bytes) (checksum (sum (body kind address bytes))) in
       rw s (omega arith)
 
@@ -159,7 +159,7 @@ module _ (text : List ℕ) (at kind address : ℕ) (bytes rest : List ℕ) (e : 
   pub data-back : kind ≡ 0 → address + length bytes ≤ 65536 → recordAt text at ≡ Step.Data address (length bytes) (at + 12 + 2 * length bytes)
   data-back k h =
       line-back (λ q. omega arith)
-      (rw (eq-eqb (sumAt text at % 256) 0 sum-back, kind-back, address-back, ne-eqb kind 1 (λ q. omega arith), eq-eqb kind 0 k, le-ltb 0x10000 (address + length bytes) h))
+      (rw (eq-eqb (sumAt text at) 0 sum-back, kind-back, address-back, ne-eqb kind 1 (λ q. omega arith), eq-eqb kind 0 k, le-ltb 0x10000 (address + length bytes) h))
 
   pub end-back : kind ≡ 1 → length bytes ≡ 0 → recordAt text at ≡ Step.End
-  end-back k h = line-back (λ q. h) (rw (eq-eqb (sumAt text at % 256) 0 sum-back, kind-back, eq-eqb kind 1 k))
+  end-back k h = line-back (λ q. h) (rw (eq-eqb (sumAt text at) 0 sum-back, kind-back, eq-eqb kind 1 k))

@@ -6,42 +6,39 @@ ghost use Rattle.hex.specs.Record.{sumOf, endingAt, lineAt};
 use crate::digits::byte_at;
 use crate::digits::value;
 
-// The sum of bytes, or that some character is no digit.
+// The sum of bytes modulo 256, or that some character is no digit.
 pub enum Sum {
-    Of(usize),
+    Of(u8),
     NoDigit,
 }
 
-// A line that is a record: how many data bytes it has, the sum of all its bytes, and where the next line begins.
+// A line that is a record: how many data bytes it has, the sum of all its bytes modulo 256, and where the next line begins.
 pub enum Line {
-    Whole {
-        size: usize,
-        sum: usize,
-        next: usize,
-    },
+    Whole { size: usize, sum: u8, next: usize },
     Bad,
 }
 
-// The sum of n bytes from a place on.
+// The sum of n bytes from a place on. The loop goes on past a character that is no digit, so that the compiler can take
+// many characters at once.
 fn sum_of(text: &[u8], at: usize, n: usize) -> Sum
-    requires { ⌜ (at + 2 * n ≤ length (now text)) × (n ≤ 260) ⌝ }
+    requires { ⌜ at + 2 * n ≤ length (now text) ⌝ }
     ensures { λ r. ⌜ r ≡ sumOf (now (text .entry)) at n ⌝ }
 {
-    let mut sum: usize = 0;
+    let mut sum: u8 = 0;
+    let mut others: u8 = 0;
     let mut k = at;
     let mut left = n;
     while 0 < left {
-        if 15 < value(text[k]) {
-            return Sum::NoDigit;
-        }
-        if 15 < value(text[k + 1]) {
-            return Sum::NoDigit;
-        }
-        sum += byte_at(text, k) as usize;
+        others = others | (value(text[k]) / 16 | value(text[k + 1]) / 16);
+        sum = ((sum as u16 + byte_at(text, k) as u16) % 256) as u8;
         k += 2;
         left -= 1;
     }
-    Sum::Of(sum)
+    if others == 0 {
+        Sum::Of(sum)
+    } else {
+        Sum::NoDigit
+    }
 }
 
 // How many bytes end a line at a place: none at the text's end, one for LF, two for CR LF; 3 where the line goes on.

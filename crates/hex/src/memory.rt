@@ -15,24 +15,23 @@ pub fn nothing() -> [u16; 65536]
     [0u16; 65536]
 }
 
-// Notes the bytes of a data record, whose digits begin at a place of the text; at a byte that was given before it stops
-// and answers false.
+// Notes the bytes of a data record, whose digits begin at a place of the text, and answers whether none of them was
+// given before. The loop goes on past one that was, so that the compiler can take many bytes at once.
 pub fn take(text: &[u8], at: usize, address: usize, size: usize, cells: &mut [u16]) -> bool
     requires { ⌜ (at + 2 * size ≤ length (now text)) × (address + size ≤ length (now cells)) ⌝ }
-    ensures { λ r. ⌜ (r, now (cells .exit)) ≡ taken (now (cells .entry)) address (bytesAt (now (text .entry)) at size) ⌝ }
+    ensures { λ r. ⌜ (r, now (cells .exit)) ≡ taken 0 (now (cells .entry)) address (bytesAt (now (text .entry)) at size) ⌝ }
 {
+    let mut seen: u16 = 0;
     let mut k = at;
     let mut to = address;
     let end = address + size;
     while to < end {
-        if cells[to] != 0 {
-            return false;
-        }
+        seen = seen | cells[to];
         cells[to] = 256 + byte_at(text, k) as u16;
         k += 2;
         to += 1;
     }
-    true
+    seen == 0
 }
 
 // The byte of a cell: FFh where none was given.

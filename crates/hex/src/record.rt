@@ -27,7 +27,7 @@ pub fn record_at(text: &[u8], at: usize) -> Step
     match line::line_at(text, at) {
         Line::Bad => Step::Bad(HexRefusal::BadText),
         Line::Whole { size, sum, next } => {
-            if sum % 256 != 0 {
+            if sum != 0 {
                 return Step::Bad(HexRefusal::WrongSum);
             }
             let kind = byte_at(text, at + 7);
