@@ -40,16 +40,26 @@ def cases(rng, texts, images):
                 yield job, *case(job, given, room)
 
 
+def told(found):
+    """What the program has to say."""
+    by_number = Counter(number for _, number, _ in found)
+    refused = "".join(f", refused with {n} {k}" for n, k in sorted(by_number.items()) if n)
+    exports = sum(job == EXPORT for job, _, _ in found)
+    return (f"{len(found)} of {len(found)} recorded cases agree: done {by_number[0]}{refused}; "
+            f"exports, of which each that was done came back: {exports}\n")
+
+
 def main():
     words = argparse.ArgumentParser(description=__doc__)
     words.add_argument("--seed", type=int, default=1)
     words.add_argument("--texts", type=int, default=700, help="random texts")
     words.add_argument("--images", type=int, default=400, help="random images")
-    words.add_argument("--out", type=Path, required=True)
+    words.add_argument("--out", type=Path, required=True, help="the crate's folder: data/cases and stdout are written")
     asked = words.parse_args()
     rng = random.Random(asked.seed)
     found = list(cases(rng, asked.texts, asked.images))
-    asked.out.write_bytes(b"hex\x01" + b"".join(bytes_ for _, _, bytes_ in found))
+    (asked.out / "data" / "cases").write_bytes(b"hex\x01" + b"".join(bytes_ for _, _, bytes_ in found))
+    (asked.out / "stdout").write_text(told(found))
     for job, name in ((IMPORT, "import"), (EXPORT, "export")):
         by_number = Counter(number for j, number, _ in found if j == job)
         print(name, sum(by_number.values()), "cases:", ", ".join(f"{n}: {k}" for n, k in sorted(by_number.items())))

@@ -1,6 +1,6 @@
 """HEX texts and images: those gone through one by one, at the edges of the rules, and random ones. The same seed gives the
 same."""
-from model.hex import exported, record_line
+from model.hex import record_line
 
 END = b":00000001FF\n"
 
@@ -134,6 +134,8 @@ def some_image(rng, most=400):
 def random_texts(rng, n):
     for _ in range(n):
         text = varied(rng, pieces(rng, some_image(rng, 160), rng.random() < 0.4))
+        if rng.random() < 0.1:
+            text = text[:text.rfind(b":")]
         yield damaged(rng, text) if rng.random() < 0.6 else text
 
 
@@ -149,15 +151,8 @@ def images(rng, n):
         yield b"\xFF" * size
     for byte in range(256):
         yield bytes([byte])
+    yield bytes(0x10000)
+    yield bytes(0x10001)
     for _ in range(n):
         yield some_image(rng)
 
-
-def long_images(rng):
-    """Images about the limit of 65,536 bytes."""
-    for size in (0xFFEF, 0xFFF0, 0xFFFF, 0x10000):
-        yield bytes(rng.randrange(256) for _ in range(size))
-
-
-def text_of(image):
-    return exported(image)[1]
