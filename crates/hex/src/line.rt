@@ -29,8 +29,10 @@ fn sum_of(text: &[u8], at: usize, n: usize) -> Sum
     let mut k = at;
     let mut left = n;
     while 0 < left {
-        others = others | (value(text[k]) / 16 | value(text[k + 1]) / 16);
-        sum = ((sum as u16 + byte_at(text, k) as u16) % 256) as u8;
+        let high = value(text[k]);
+        let low = value(text[k + 1]);
+        others = others | (high / 16 | low / 16);
+        sum = ((sum as u16 + (16 * (high % 16) + low % 16) as u16) % 256) as u8;
         k += 2;
         left -= 1;
     }

@@ -11,17 +11,17 @@ use Rattle.hex.proofs.digits.value.Tie as tie
 add-figure : tie.Need-add-figure
 add-figure c = search needs
 
-cast-letter : tie.Need-cast-letter
-cast-letter c = omega (arith, or-add-and (c .args .c) 32)
-
-add-letter : tie.Need-add-letter
-add-letter c = omega (arith, or-add-and (c .args .c) 32)
-
 cast-result : tie.Need-cast-result
 cast-result c = search needs
 
 returns : tie.Need-returns
 returns c = let x = c .before .args .c in rw (lt-ltb (figure x) 10 (c .if1 .taken)) at (value-by x (omega arith))
+
+cast-letter : tie.Need-cast-letter
+cast-letter c = omega (arith, or-add-and (c .before .args .c) 32)
+
+add-letter : tie.Need-add-letter
+add-letter c = omega (arith, or-add-and (c .before .args .c) 32)
 
 cast-result-2 : tie.Need-cast-result-2
 cast-result-2 c = search needs
@@ -40,10 +40,10 @@ value-spec =
     tie.close
     (tie.spec
     add-figure
-    cast-letter
-    add-letter
     cast-result
     returns
+    cast-letter
+    add-letter
     cast-result-2
     add-result
     returns-2

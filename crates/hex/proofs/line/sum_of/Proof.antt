@@ -7,7 +7,6 @@ use borrow.Author.Needs.{needs}
 use borrow.Author.Tests.{eq-eqb, ne-eqb}
 use lib.Bits.{bitOr}
 use Rattle.hex.specs.Digits.{digitAt, byteAt}
-use Rattle.hex.specs.DigitLaws.{byte-below}
 use Rattle.hex.specs.Record.{sumOf}
 use Rattle.hex.specs.RecordLaws.{added, added-none, sum-more, sum-all}
 use Rattle.hex.proofs.line.sum_of.Statement.{statement}
@@ -45,17 +44,20 @@ value-requires-2 c κs = search needs
 cast-sum : tie.Need-cast-sum Inv-loop μ-loop
 cast-sum c = omega arith
 
-byte-at-requires : tie.Need-byte-at-requires Inv-loop μ-loop
-byte-at-requires c κs = omega arith
-
-cast-sum-2 : tie.Need-cast-sum-2 Inv-loop μ-loop
-cast-sum-2 c = search needs
+mul-sum : tie.Need-mul-sum Inv-loop μ-loop
+mul-sum c = omega arith
 
 add-sum : tie.Need-add-sum Inv-loop μ-loop
-add-sum c = omega (arith, c .byte-at .ensures, byte-below (c .before .before .before .before .before .before .before .before .args .text .now) (c .before .before .before .before .before .before .loop .k))
+add-sum c = omega arith
+
+cast-sum-2 : tie.Need-cast-sum-2 Inv-loop μ-loop
+cast-sum-2 c = omega arith
+
+add-sum-2 : tie.Need-add-sum-2 Inv-loop μ-loop
+add-sum-2 c = omega arith
 
 cast-sum-3 : tie.Need-cast-sum-3 Inv-loop μ-loop
-cast-sum-3 c = search needs
+cast-sum-3 c = omega arith
 
 add-k : tie.Need-add-k Inv-loop μ-loop
 add-k c = omega arith
@@ -67,17 +69,16 @@ loop-less : tie.Need-loop-less Inv-loop μ-loop
 loop-less c = omega arith
 
 loop-again : tie.Need-loop-again Inv-loop μ-loop
-unfolding digitAt
-loop-again c = let a = c .before .before .before .before .before .before .before .before .args in
-    let l = c .before .before .before .before .before .before .loop in
+unfolding byteAt digitAt
+loop-again c = let a = c .before .before .before .before .before .before .before .args in
+    let l = c .before .before .before .before .before .loop in
     let rest = sumOf (a .text .now) (l .k + 2) (l .left - 1) in
     record {
       place = omega arith;
       small = omega arith;
-      same = ap (λ b. added (bitOr (l .others) (bitOr (c .before .before .before .value .result / 16) (c .before .value2 .result / 16))) ((l .sum + b) % 256) rest) (c .byte-at .ensures)
-          ∙ ap (λ d. added (bitOr (l .others) (bitOr (d / 16) (c .before .value2 .result / 16))) ((l .sum + byteAt (a .text .now) (l .k)) % 256) rest) (c .before .before .before .value .ensures)
-          ∙ ap (λ d. added (bitOr (l .others) (bitOr (digitAt (a .text .now) (l .k) / 16) (d / 16))) ((l .sum + byteAt (a .text .now) (l .k)) % 256) rest) (c .before .value2 .ensures)
-          ∙ sum-more (a .text .now) (l .k) (l .others) (l .sum) (l .left) (c .before .before .before .before .before .loop-test .taken) ∙ l .inv .same;
+      same = ap (λ d. added (bitOr (l .others) (bitOr (d / 16) (c .value2 .result / 16))) ((l .sum + (16 * (d % 16) + c .value2 .result % 16)) % 256) rest) (c .before .before .value .ensures)
+          ∙ ap (λ d. added (bitOr (l .others) (bitOr (digitAt (a .text .now) (l .k) / 16) (d / 16))) ((l .sum + (16 * (digitAt (a .text .now) (l .k) % 16) + d % 16)) % 256) rest) (c .value2 .ensures)
+          ∙ sum-more (a .text .now) (l .k) (l .others) (l .sum) (l .left) (c .before .before .before .before .loop-test .taken) ∙ l .inv .same;
     }
 
 returns : tie.Need-returns Inv-loop μ-loop
@@ -99,9 +100,10 @@ sum-of-spec =
     shared-slice-read-value-2
     value-requires-2
     cast-sum
-    byte-at-requires
-    cast-sum-2
+    mul-sum
     add-sum
+    cast-sum-2
+    add-sum-2
     cast-sum-3
     add-k
     sub-left
