@@ -17,7 +17,9 @@ ROOM = 70000
 
 
 def rooms(rng, size):
-    """As much as is needed, one byte less, nothing, more."""
+    """As much as is needed, one byte less, nothing, more; no more than the program has."""
+    if size > ROOM:
+        return [ROOM, 0]
     return [size, ROOM if rng.random() < 0.1 else size + rng.randrange(1, 9), *([size - 1, 0] if size and rng.random() < 0.2 else [])]
 
 

@@ -1,6 +1,6 @@
 -- What an answer tells: 2 and 9 exactly in their cases, a refusal by its number, and the buffer untouched by every refusal.
 -- Assumes nothing.
-use Prim.Native.Nat.{ℕ, _≤_, _<_}
+use Prim.Native.Nat.{ℕ, _<_}
 use mathlib.Core.Path.{_≡_, refl, sym, ap, _∙_}
 use mathlib.Core.Logic.{_↔_}
 use mathlib.Core.Bool.{Bool, true, false}

@@ -1,16 +1,15 @@
 -- Cells and the memory that they stand for. Assumes nothing.
-use Prim.Native.Nat.{ℕ, zero, suc, _+_, _-_, _*_, _%_, _≤_, _<_}
+use Prim.Native.Nat.{ℕ, zero, suc, _+_, _-_, _%_, _≤_, _<_}
 use mathlib.Core.Path.{_≡_, refl, sym, ap, subst, fun-ext, _∙_}
 use mathlib.Core.Bool.{Bool, true, false, _&&_, _||_, not}
 use mathlib.Core.List.{List, [], _∷_, map}
 use mathlib.Core.Option.{none, some}
 use native.Mathlib.Decide.{decLt}
-use native.Mathlib.Nat.{mod-eq-of-lt}
 use native.Mathlib.Numerals.{add-one, sub-one}
 use native.Mathlib.Omega.{arith}
-use borrow.Author.Tests.{not-true, not-false, eq-eqb, ne-eqb, lt-ltb, le-ltb, le-leb, lt-leb}
+use borrow.Author.Tests.{not-true, not-false, ne-eqb, lt-ltb, le-ltb, le-leb, lt-leb}
 use lib.Bits.{bitOr}
-use lib.Dec.{ltb, leb, eqb}
+use lib.Dec.{leb, eqb}
 use lib.ListN.{length, getD, set, replicate, length-set, length-replicate}
 use lib.Seq.{sets, getD-set-same, getD-set-other}
 use Rattle.lent.specs.Choice.{if_then_else_}
@@ -19,8 +18,8 @@ use Rattle.lent.specs.ListLaws.{from-turn}
 use Rattle.lent.specs.RunLaws.{or-none}
 use Rattle.hex.specs.Digits.{byteAt, bytesAt}
 use Rattle.hex.specs.DigitLaws.{Bytes, bytes-length, bytes-below}
-use Rattle.hex.specs.Import.{Memory, nothing, given, isGiven, anyGiven, byteOr, imageOf}
-use Rattle.hex.specs.Cells.{noCells, cellByte, byteIn, memoryIn, imageIn, taken}
+use Rattle.hex.specs.Import.{Memory, nothing, given, isGiven, anyGiven}
+use Rattle.hex.specs.Cells.{noCells, byteIn, memoryIn, imageIn, taken}
 
 -- one byte more is noted; no byte is left
 module _ (text cells : List ℕ) (seen k to : ℕ) where

@@ -1,20 +1,19 @@
 -- Digits there and back, and a text that begins with them. Assumes nothing.
-use Prim.Native.Nat.{ℕ, zero, suc, _+_, _-_, _*_, _/_, _%_, _≤_, _<_}
+use Prim.Native.Nat.{ℕ, zero, suc, _+_, _*_, _/_, _%_, _<_}
 use mathlib.Core.Path.{_≡_, refl, sym, ap, _∙_}
-use mathlib.Core.Bool.{Bool, true, false, _&&_}
+use mathlib.Core.Bool.{true}
 use mathlib.Core.List.{List, [], _∷_, _++_}
-use native.Mathlib.Decide.{decLt}
-use native.Mathlib.Nat.{add-zero, mod-lt, mod-eq-of-lt, div-add-mod'}
+use native.Mathlib.Nat.{add-zero, mod-lt}
 use native.Mathlib.Omega.{arith}
 use borrow.Author.Tests.{eqb-true, lt-ltb}
 use lib.Bits.{bitOr}
 use lib.Dec.{eqb, ltb}
-use lib.ListN.{length, getD, drop, List·getD-eq-default}
+use lib.ListN.{length, getD, drop}
 use lib.Seq.{getD-drop, drop-drop}
 use Rattle.lent.specs.Choice.{if_then_else_}
-use Rattle.lent.specs.Lists.{all, from, joined, total}
+use Rattle.lent.specs.Lists.{all, from, joined}
 use Rattle.lent.specs.ListLaws.{every}
-use Rattle.hex.specs.Digits.{digitValue, digitAt, isDigitAt, byteAt, bytesAt, areDigits, sum, digit, twoDigits, allDigits}
+use Rattle.hex.specs.Digits.{digitValue, digitAt, isDigitAt, byteAt, bytesAt, areDigits, digit, twoDigits, allDigits}
 
 -- all elements of a list are bytes
 abbrev pub Bytes : List ℕ → Type 0

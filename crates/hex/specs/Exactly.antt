@@ -1,6 +1,6 @@
 -- Each number exactly in its case and order, and the image exactly that of the records: what a text imports as, in words.
 -- Assumes nothing.
-use Prim.Native.Nat.{ℕ, zero, suc, _+_, _-_, _*_, _≤_, _<_}
+use Prim.Native.Nat.{ℕ, zero, suc, _+_, _-_, _≤_, _<_}
 use mathlib.Core.Path.{_≡_, refl, sym, ap, subst, _∙_}
 use mathlib.Core.Logic.{_↔_}
 use mathlib.Core.Bool.{Bool, true, false, _||_}
@@ -9,13 +9,12 @@ use mathlib.Core.Option.{Option, none, some}
 use native.Mathlib.Decide.{decLt}
 use native.Mathlib.Omega.{arith}
 use lib.ListN.{length}
-use Rattle.lent.specs.Choice.{if_then_else_}
 use Rattle.lent.specs.ChoiceLaws.{chosen}
 use Rattle.lent.specs.Lists.{any, from}
 use Rattle.hex.specs.Outcome.{Made, made, refused}
 use Rattle.hex.specs.Digits.{bytesAt}
 use Rattle.hex.specs.Record.{sizeAt, addressAt, kindAt, digitsEnd, endingAt, recordAt}
-use Rattle.hex.specs.RecordCases.{Good, Lies, Faulty, Found, found-at, found-is}
+use Rattle.hex.specs.RecordCases.{Good, Lies, Faulty, found-at, found-is}
 use Rattle.hex.specs.Import.{Memory, nothing, given, isGiven, anyGiven, endAfter, imageOf, after, walk, imported}
 use Rattle.hex.specs.ImportLaws.{walk-at, walk-twice, walk-on}
 use Rattle.hex.specs.declared.HexRefusal.{HexRefusal}

@@ -8,13 +8,13 @@ use native.Mathlib.Nat.{zero-add}
 use native.Mathlib.Numerals.{sub-one}
 use native.Mathlib.Omega.{arith}
 use borrow.Author.Tests.{le-leb, lt-leb}
-use lib.Dec.{leb, eqb}
+use lib.Dec.{eqb}
 use lib.ListN.{length, getD, drop}
 use lib.Seq.{sets, sets-eq}
 use Rattle.lent.specs.Choice.{if_then_else_}
 use Rattle.lent.specs.ChoiceLaws.{chosen}
 use Rattle.lent.specs.Lists.{from}
-use Rattle.hex.specs.Outcome.{Made, made, refused, stored}
+use Rattle.hex.specs.Outcome.{made, refused, stored}
 use Rattle.hex.specs.Digits.{bytesAt}
 use Rattle.hex.specs.Record.{recordAt}
 use Rattle.hex.specs.Import.{Memory, given, anyGiven, endAfter, byteOr, imageOf, after, walk, imported}

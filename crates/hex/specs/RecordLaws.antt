@@ -1,12 +1,12 @@
 -- Laws of lines and records. Assumes nothing.
 use Prim.Native.Nat.{ℕ, zero, suc, _+_, _-_, _*_, _/_, _%_, _≤_, _<_}
-use mathlib.Core.Path.{_≡_, refl, sym, ap, subst, _∙_}
+use mathlib.Core.Path.{_≡_, refl, sym, ap, _∙_}
 use mathlib.Core.Bool.{Bool, true, false, _&&_, not}
-use mathlib.Core.List.{List, []}
+use mathlib.Core.List.{List}
 use native.Mathlib.Nat.{add-mod, add-mod-mod}
 use native.Mathlib.Numerals.{sub-one}
 use native.Mathlib.Omega.{arith}
-use borrow.Author.Tests.{ltb-true, leb-true, eqb-true, lt-ltb, le-ltb, le-leb, lt-leb, eq-eqb, ne-eqb, ltb-false, not-true, not-false}
+use borrow.Author.Tests.{ltb-true, leb-true, eqb-true, lt-ltb, le-ltb, le-leb, lt-leb, eq-eqb, ltb-false, not-true}
 use lib.Bits.{bitOr}
 use lib.Dec.{ltb, leb, eqb}
 use lib.ListN.{length, getD}
@@ -15,7 +15,7 @@ use Rattle.lent.specs.ChoiceLaws.{chosen, both, same-test}
 use Rattle.lent.specs.Lists.{total}
 use Rattle.lent.specs.RunLaws.{or-none}
 use Rattle.hex.specs.Digits.{digitAt, isDigitAt, byteAt, bytesAt, areDigits, sum}
-use Rattle.hex.specs.Record.{sizeAt, addressAt, kindAt, sumAt, digitsEnd, endingAt, isRecord, lineAt, stepOf, recordAt, sumOf}
+use Rattle.hex.specs.Record.{sizeAt, kindAt, sumAt, digitsEnd, endingAt, isRecord, lineAt, stepOf, recordAt, sumOf}
 use Rattle.hex.specs.declared.HexRefusal.the-variants.{NoEndRecord}
 use Rattle.hex.specs.declared.line.Sum.{Sum}
 use Rattle.hex.specs.declared.line.Sum.the-variants.{Of, NoDigit}

@@ -1,20 +1,17 @@
 -- Importing what was exported gives the image back, for every image. Assumes nothing.
 use Prim.Native.Nat.{ℕ, zero, suc, _+_, _-_, _*_, _≤_, _<_, min}
 use mathlib.Core.Path.{_≡_, refl, sym, ap, _∙_}
-use mathlib.Core.Bool.{true, false}
-use mathlib.Core.List.{List, [], _∷_, _++_, append-assoc, append-nil}
+use mathlib.Core.List.{List, [], _++_, append-assoc, append-nil}
 use native.Mathlib.Decide.{decLt}
 use native.Mathlib.Omega.{arith}
-use borrow.Author.Tests.{eq-eqb, ne-eqb}
-use lib.Dec.{eqb}
+use borrow.Author.Tests.{ne-eqb}
 use lib.ListN.{length, getD, take, drop, length-take, List·getD-eq-default}
 use lib.Seq.{getD-take, getD-drop}
-use Rattle.lent.specs.Choice.{if_then_else_}
 use Rattle.lent.specs.Lists.{joined, from}
-use Rattle.hex.specs.Outcome.{Made, made, refused}
+use Rattle.hex.specs.Outcome.{made}
 use Rattle.hex.specs.Digits.{bytesAt}
 use Rattle.hex.specs.DigitLaws.{Bytes}
-use Rattle.hex.specs.Import.{Memory, nothing, given, endAfter, imageOf, walk, imported}
+use Rattle.hex.specs.Import.{given, endAfter, imageOf, walk, imported}
 use Rattle.hex.specs.ImportLaws.{walk-at, walk-on}
 use Rattle.hex.specs.Export.{recordLine, lineOf, records, textOf, exported}
 use Rattle.hex.specs.ExportLaws.{linesFrom, endLine, part-length, text-length, exports, exports-not}

@@ -1,7 +1,6 @@
 -- A line that was exported is read as the record that it was made of. Assumes nothing.
-use Prim.Native.Nat.{ℕ, zero, suc, _+_, _-_, _*_, _/_, _%_, _≤_, _<_}
-use mathlib.Core.Path.{_≡_, refl, sym, ap, _∙_}
-use mathlib.Core.Bool.{true}
+use Prim.Native.Nat.{ℕ, zero, suc, _+_, _*_, _/_, _%_, _≤_, _<_}
+use mathlib.Core.Path.{_≡_, sym, ap, _∙_}
 use mathlib.Core.List.{List, [], _∷_, _++_, append-assoc}
 use native.Mathlib.Omega.{arith}
 use borrow.Author.Tests.{eq-eqb, ne-eqb, le-ltb, lt-leb}
@@ -9,10 +8,10 @@ use lib.ListN.{length, getD, drop, length-append, length-drop}
 use Rattle.lent.specs.Lists.{one, joined, total}
 use Rattle.hex.specs.Digits.{byteAt, bytesAt, areDigits, sum, twoDigits, allDigits}
 use Rattle.hex.specs.DigitLaws.{Bytes, Fronted, fronted, Read, digits-read}
-use Rattle.hex.specs.Record.{sizeAt, addressAt, kindAt, sumAt, digitsEnd, endingAt, lineAt, stepOf, recordAt}
+use Rattle.hex.specs.Record.{sizeAt, addressAt, kindAt, sumAt, digitsEnd, endingAt, stepOf, recordAt}
 use Rattle.hex.specs.RecordLaws.{Parts, line-whole, of-line}
 use Rattle.hex.specs.Export.{body, checksum, recordLine}
-use Rattle.hex.specs.ExportLaws.{head, first, whole, pieces}
+use Rattle.hex.specs.ExportLaws.{first, whole, pieces}
 use Rattle.hex.specs.declared.line.Line.the-variants as Line
 use Rattle.hex.specs.declared.record.Step.{Step}
 use Rattle.hex.specs.declared.record.Step.the-variants as Step

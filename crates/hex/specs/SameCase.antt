@@ -1,12 +1,11 @@
 -- Small and capital letters import alike. Assumes nothing.
-use Prim.Native.Nat.{ℕ, zero, suc, _+_, _≤_, _<_}
+use Prim.Native.Nat.{ℕ, zero, suc, _+_, _<_}
 use mathlib.Core.Path.{_≡_, refl, sym, ap, _∙_}
-use mathlib.Core.Bool.{Bool, true, false, _&&_, false≢true}
+use mathlib.Core.Bool.{true, _&&_}
 use mathlib.Core.List.{List, map}
 use mathlib.Core.Option.{none}
-use native.Mathlib.Decide.{decLt}
 use native.Mathlib.Omega.{arith}
-use borrow.Author.Tests.{eqb-true, eq-eqb, leb-true}
+use borrow.Author.Tests.{eqb-true, leb-true}
 use lib.Dec.{eqb, leb}
 use lib.ListN.{length, getD, length-map, List·getD-map}
 use Rattle.lent.specs.Choice.{if_then_else_}
@@ -18,7 +17,7 @@ use Rattle.hex.specs.declared.record.Step.{Step}
 use Rattle.hex.specs.declared.record.Step.the-variants as Step
 use Rattle.hex.specs.declared.line.Line.{Line}
 use Rattle.hex.specs.declared.line.Line.the-variants as Line
-use Rattle.hex.specs.Outcome.{Made, refused}
+use Rattle.hex.specs.Outcome.{refused}
 use Rattle.hex.specs.Digits.{digitValue, digitAt, byteAt, bytesAt, areDigits}
 use Rattle.hex.specs.Record.{endingAt, isRecord, lineAt, stepOf, recordAt}
 use Rattle.hex.specs.Import.{Memory, given, anyGiven, endAfter, after, walk, imported}

@@ -1,5 +1,4 @@
 -- `value` meets its contract: two ranges, each told by one test. Assumes nothing.
-use mathlib.Core.Path.{sym, _∙_}
 use native.Mathlib.Omega.{arith}
 use borrow.Author.Tests.{lt-ltb, le-ltb}
 use lib.Bits.{or-add-and}

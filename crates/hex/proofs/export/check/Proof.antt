@@ -1,5 +1,4 @@
 -- `check` meets its contract. Assumes nothing.
-use native.Mathlib.Omega.{arith}
 use mathlib.Core.Path.{sym, ap}
 use Prim.Native.Nat.{_-_, _%_}
 use native.Mathlib.Nat.{add-mod}

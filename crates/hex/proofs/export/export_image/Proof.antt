@@ -3,7 +3,6 @@ use Prim.Native.Nat.{_+_, _*_, _/_}
 use Rattle.hex.specs.declared.Answer.the-variants.{Done}
 use mathlib.Core.Path.{sym, ap, _∙_}
 use native.Mathlib.Omega.{arith}
-use borrow.Author.Tests.{le-leb, lt-leb}
 use lib.ListN.{length}
 use Rattle.hex.specs.Outcome.{stored}
 use Rattle.hex.specs.Export.{textOf}
@@ -32,7 +31,8 @@ add-size-3 : tie.Need-add-size-3
 add-size-3 c = search needs
 
 returns-2 : tie.Need-returns-2
-returns-2 c = let a = c .before .before .before .before .args in no-room (textOf (a .image .now)) (a .out .now) (omega (arith, c .if2 .taken, text-length (a .image .now))) ∙ ap (λ m. stored m (a .out .now)) (sym (exports (a .image .now) (c .before .if1 .left)))
+returns-2 c = let a = c .before .before .before .before .args in no-room (textOf (a .image .now)) (a .out .now)
+    (omega (arith, c .if2 .taken, text-length (a .image .now))) ∙ ap (λ m. stored m (a .out .now)) (sym (exports (a .image .now) (c .before .if1 .left)))
 
 put-all-requires : tie.Need-put-all-requires
 put-all-requires c κs = (c .before .if2 .left, c .before .before .if1 .left)

@@ -1,6 +1,6 @@
 -- `put_bytes` meets its contract: the bytes that are left complete digits and sum. Assumes nothing.
 use Prim.Native.Nat.{ℕ, _+_, _*_, _-_, _≤_}
-use mathlib.Core.Path.{_≡_, refl, sym, ap, _∙_}
+use mathlib.Core.Path.{_≡_, refl, ap, _∙_}
 use mathlib.Core.List.{List}
 use native.Mathlib.Omega.{arith}
 use borrow.Author.Needs.{needs}
@@ -25,6 +25,10 @@ Inv-loop out₀ at bytes total₀ to₀ i₀ out total to i = Turn out₀ at byt
 abbrev μ-loop : tie.MeasureT-loop
 μ-loop out₀ at bytes total₀ to₀ i₀ out total to i = length bytes - i
 
+-- The ladder: places of the code that the answers cite, each as it is seen from a later place.
+abbrev at-in-loop : tie.After-shared-slice-known3 Inv-loop μ-loop → tie.In-loop Inv-loop μ-loop
+at-in-loop c = c .before .before .before .before .before .before
+
 loop-holds : tie.Need-loop-holds Inv-loop μ-loop
 loop-holds c = record { within = omega arith; place = omega arith; most = omega arith; long = refl; summed = omega arith; same = refl }
 
@@ -38,10 +42,10 @@ shared-slice-read-total : tie.Need-shared-slice-read-total Inv-loop μ-loop
 shared-slice-read-total c = omega arith
 
 cast-total : tie.Need-cast-total Inv-loop μ-loop
-cast-total c = omega (arith, c .shared-slice-known3 .given (c .before .before .before .before .before .before .before .loop .i))
+cast-total c = omega (arith, c .shared-slice-known3 .given (at-in-loop c .before .loop .i))
 
 add-total : tie.Need-add-total Inv-loop μ-loop
-add-total c = omega (arith, c .shared-slice-known3 .given (c .before .before .before .before .before .before .before .loop .i))
+add-total c = omega (arith, c .shared-slice-known3 .given (at-in-loop c .before .loop .i))
 
 add-to : tie.Need-add-to Inv-loop μ-loop
 add-to c = omega arith
@@ -53,22 +57,26 @@ loop-less : tie.Need-loop-less Inv-loop μ-loop
 loop-less c = omega arith
 
 loop-again : tie.Need-loop-again Inv-loop μ-loop
-loop-again c = let a = c .before .before .before .before .before .before .before .before .before .before .args in
-    let l = c .before .before .before .before .before .before .before .loop in
+loop-again c =
+    let in-loop = at-in-loop c in
+    let a = in-loop .before .before .before .before .args in
+    let l = in-loop .before .loop in
     record {
       within = omega arith;
       place = omega arith;
       most = omega (arith, c .shared-slice-known3 .given (l .i));
       long = search needs;
-      summed = omega (arith, l .inv .summed, sum-more (a .bytes .now) (l .i) (c .before .before .before .before .before .before .loop-test .taken));
-      same = ap (λ o. sets o (l .to + 2) (allDigits (drop (l .i + 1) (a .bytes .now)))) (c .before .before .before .put-byte .ensures) ∙ digits-more (a .bytes .now) (l .out) (l .to) (l .i) (c .before .before .before .before .before .before .loop-test .taken) ∙ l .inv .same;
+      summed = omega (arith, l .inv .summed, sum-more (a .bytes .now) (l .i) (in-loop .loop-test .taken));
+      same = ap (λ o. sets o (l .to + 2) (allDigits (drop (l .i + 1) (a .bytes .now)))) (c .before .before .before .put-byte .ensures) ∙ digits-more
+          (a .bytes .now) (l .out) (l .to) (l .i) (in-loop .loop-test .taken) ∙ l .inv .same;
     }
 
 same-length : tie.Need-same-length Inv-loop μ-loop
 same-length c = c .before .loop .inv .long
 
 returns : tie.Need-returns Inv-loop μ-loop
-returns c = let a = c .before .before .before .before .args in let l = c .before .loop in (omega (arith, l .inv .summed, sum-all (a .bytes .now) (l .i) (c .loop-test .left)), digits-all (a .bytes .now) (l .out) (l .to) (l .i) (c .loop-test .left) ∙ l .inv .same)
+returns c = let a = c .before .before .before .before .args in let l = c .before .loop in
+    (omega (arith, l .inv .summed, sum-all (a .bytes .now) (l .i) (c .loop-test .left)), digits-all (a .bytes .now) (l .out) (l .to) (l .i) (c .loop-test .left) ∙ l .inv .same)
 
 pub put-bytes-spec : {M : Type 1} → statement M
 put-bytes-spec =

@@ -1,9 +1,8 @@
 -- `ending_at` meets its contract. Assumes nothing.
 use mathlib.Core.Path.{_≡_}
 use Prim.Native.Nat.{_+_}
-use lib.ListN.{getD}
+use lib.ListN.{getD, List·getD-eq-default}
 use borrow.Author.Tests.{le-leb, lt-leb, eq-eqb, ne-eqb}
-use lib.ListN.{List·getD-eq-default}
 use native.Mathlib.Omega.{arith}
 use Rattle.hex.specs.Record.{endingAt}
 use borrow.Author.Needs.{needs}
@@ -33,7 +32,9 @@ sub-if4 c = search needs
 
 returns-4 : tie.Need-returns-4
 unfolding endingAt
-returns-4 c = let a = c .before .before .before .before .before .before .args in let past : getD (a .text .now) (a .at + 1) 0 ≡ 0 = List·getD-eq-default (a .text .now) 0 (omega arith) in simp (lt-leb _ _ (c .before .before .before .before .before .if1 .left), ne-eqb _ _ (c .before .before .before .if2 .left), eq-eqb _ _ (c .before .if3 .left), past)
+returns-4 c = let a = c .before .before .before .before .before .before .args in let past : getD (a .text .now) (a .at + 1) 0 ≡ 0 =
+    List·getD-eq-default (a .text .now) 0 (omega arith) in simp
+    (lt-leb _ _ (c .before .before .before .before .before .if1 .left), ne-eqb _ _ (c .before .before .before .if2 .left), eq-eqb _ _ (c .before .if3 .left), past)
 
 add-if5 : tie.Need-add-if5
 add-if5 c = search needs
@@ -43,11 +44,23 @@ shared-slice-read-if5 c = search needs
 
 returns-5 : tie.Need-returns-5
 unfolding endingAt
-returns-5 c = simp (lt-leb _ _ (c .before .before .before .before .before .before .before .if1 .left), ne-eqb _ _ (c .before .before .before .before .before .if2 .left), eq-eqb _ _ (c .before .before .before .if3 .left), eq-eqb _ _ (c .if5 .taken))
+returns-5 c = simp (
+  lt-leb _ _ (c .before .before .before .before .before .before .before .if1 .left),
+  ne-eqb _ _
+      (c .before .before .before .before .before .if2 .left),
+  eq-eqb _ _ (c .before .before .before .if3 .left),
+  eq-eqb _ _ (c .if5 .taken),
+)
 
 returns-6 : tie.Need-returns-6
 unfolding endingAt
-returns-6 c = simp (lt-leb _ _ (c .before .before .before .before .before .before .before .if1 .left), ne-eqb _ _ (c .before .before .before .before .before .if2 .left), eq-eqb _ _ (c .before .before .before .if3 .left), ne-eqb _ _ (c .if5 .left))
+returns-6 c = simp (
+  lt-leb _ _ (c .before .before .before .before .before .before .before .if1 .left),
+  ne-eqb _ _
+      (c .before .before .before .before .before .if2 .left),
+  eq-eqb _ _ (c .before .before .before .if3 .left),
+  ne-eqb _ _ (c .if5 .left),
+)
 
 pub ending-at-spec : {M : Type 1} → statement M
 ending-at-spec =

@@ -4,11 +4,20 @@ use Prim.Native.Nat.{_+_, _*_}
 use mathlib.Core.Bool.{false≢true}
 use native.Mathlib.Omega.{arith}
 use Rattle.hex.specs.Record.{sizeAt, endingAt, sumOf}
-use Rattle.hex.specs.Digits.{areDigits}
-use Rattle.hex.specs.RecordLaws.{Parts, no-digits, ending-most, line-bad, line-is}
+use Rattle.hex.specs.RecordLaws.{no-digits, ending-most, line-bad, line-is}
 use borrow.Author.Needs.{needs}
 use Rattle.hex.proofs.line.line_at.Statement.{statement}
 use Rattle.hex.proofs.line.line_at.Tie as tie
+
+-- The ladder: places of the code that the answers cite, each as it is seen from a later place.
+abbrev at-entry : tie.After-byte-at → tie.Start
+at-entry c = c .before .before .before .before .before
+
+abbrev after-byte-at : tie.After-ending-at → tie.After-byte-at
+after-byte-at c = c .before .before .before .before .before .before
+
+abbrev after-ending-at : tie.Else6 → tie.After-ending-at
+after-ending-at c = c .before .before .before .before
 
 shared-slice-read-if1 : tie.Need-shared-slice-read-if1
 shared-slice-read-if1 c = search needs
@@ -38,7 +47,7 @@ add-if3 : tie.Need-add-if3
 add-if3 c = search needs
 
 returns-3 : tie.Need-returns-3
-returns-3 c = let a = c .before .before .before .before .before .before .args in sym (line-bad (a .text .now) (a .at) (λ p. omega (arith, p .room, c .before .byte-at .ensures)))
+returns-3 c = let a = at-entry (c .before) .args in sym (line-bad (a .text .now) (a .at) (λ p. omega (arith, p .room, c .before .byte-at .ensures)))
 
 add-end : tie.Need-add-end
 add-end c = search needs
@@ -68,14 +77,24 @@ ending-at-requires : tie.Need-ending-at-requires
 ending-at-requires c κs = search needs
 
 returns-4 : tie.Need-returns-4
-returns-4 c = let a = c .before .before .before .before .before .before .before .before .before .before .before .before .args in sym (line-bad (a .text .now) (a .at) (λ p. omega (arith, p .ends, c .before .ending-at .ensures, ap (λ n. endingAt (a .text .now) (a .at + 11 + 2 * n)) (c .before .before .before .before .before .before .before .byte-at .ensures))))
+returns-4 c =
+    let byte-at = after-byte-at (c .before) in
+    let a = at-entry byte-at .args in sym (line-bad (a .text .now) (a .at)
+    (λ p. omega (arith, p .ends, c .before .ending-at .ensures, ap (λ n. endingAt (a .text .now) (a .at + 11 + 2 * n)) (byte-at .byte-at .ensures))))
 
 add-next : tie.Need-add-next
-add-next c = omega (arith, c .before .ending-at .ensures, ending-most (c .before .before .before .before .before .before .before .before .before .before .before .before .args .text .now) (c .before .before .before .before .before .before .before .before .before .before .before .before .args .at + 11 + 2 * c .before .before .before .before .before .before .before .byte-at .result))
+add-next c =
+    let byte-at = after-byte-at (c .before) in
+    let entry = at-entry byte-at in
+    omega (arith, c .before .ending-at .ensures, ending-most (entry .args .text .now) (entry .args .at + 11 + 2 * byte-at .byte-at .result))
 
 returns-5 : tie.Need-returns-5
-returns-5 c = let a = c .before .before .before .before .before .before .before .before .before .before .before .before .before .args in
-    line-is (a .text .now) (a .at) (c .before .before .before .before .before .before .before .before .byte-at .ensures) (sym (c .before .before .before .before .before .before .sum-of .ensures) ∙ c .before .before .before .before .sum .given .1) (c .before .before .ending-at .ensures) (c .before .before .before .before .before .before .before .before .before .before .if1 .left) (omega arith) (c .before .if4 .left) (λ k. c .if5 .taken)
+returns-5 c =
+    let byte-at = after-byte-at (c .before .before) in
+    let a = at-entry byte-at .args in
+    line-is (a .text .now) (a .at) (byte-at .byte-at .ensures)
+    (sym (c .before .before .before .before .before .before .sum-of .ensures) ∙ c .before .before .before .before .sum .given .1)
+    (c .before .before .ending-at .ensures) (byte-at .before .before .if1 .left) (omega arith) (c .before .if4 .left) (λ k. c .if5 .taken)
 
 add-byte-at-2 : tie.Need-add-byte-at-2
 add-byte-at-2 c = search needs
@@ -84,14 +103,25 @@ byte-at-requires-2 : tie.Need-byte-at-requires-2
 byte-at-requires-2 c κs = search needs
 
 returns-6 : tie.Need-returns-6
-returns-6 c = let a = c .before .before .before .before .before .before .before .before .before .before .before .before .before .before .before .args in sym (line-bad (a .text .now) (a .at) (λ p. c .before .before .if5 .left (omega (arith, c .before .before .before .before .before .before .before .before .before .before .byte-at .ensures, p .sound (sym (c .before .byte-at2 .ensures) ∙ c .if6 .taken)))))
+returns-6 c =
+    let byte-at = after-byte-at (c .before .before .before .before) in
+    let a = at-entry byte-at .args in sym (line-bad (a .text .now) (a .at)
+    (λ p. c .before .before .if5 .left (omega (arith, byte-at .byte-at .ensures, p .sound (sym (c .before .byte-at2 .ensures) ∙ c .if6 .taken)))))
 
 returns-7 : tie.Need-returns-7
-returns-7 c = let a = c .before .before .before .before .before .before .before .before .before .args in sym (line-bad (a .text .now) (a .at) (λ p. false≢true (sym (no-digits (a .text .now) (a .at + 1) (5 + sizeAt (a .text .now) (a .at)) (ap (λ n. sumOf (a .text .now) (a .at + 1) (5 + n)) (sym (c .before .before .before .before .byte-at .ensures)) ∙ sym (c .before .before .sum-of .ensures) ∙ c .enum-told .given .1)) ∙ p .digits)))
+returns-7 c = let a = at-entry (c .before .before .before .before) .args in sym
+    (line-bad (a .text .now) (a .at) (λ p. false≢true
+    (sym (no-digits (a .text .now) (a .at + 1) (5 + sizeAt (a .text .now) (a .at))
+    (ap (λ n. sumOf (a .text .now) (a .at + 1) (5 + n)) (sym (c .before .before .before .before .byte-at .ensures)) ∙ sym (c .before .before .sum-of .ensures) ∙ c .enum-told .given .1)) ∙ p .digits)))
 
 returns-8 : tie.Need-returns-8
-returns-8 c = let a = c .before .before .before .before .before .before .before .before .before .before .before .before .before .before .before .args in
-    line-is (a .text .now) (a .at) (c .before .before .before .before .before .before .before .before .before .before .byte-at .ensures) (sym (c .before .before .before .before .before .before .before .before .sum-of .ensures) ∙ c .before .before .before .before .before .before .sum .given .1) (c .before .before .before .before .ending-at .ensures) (c .before .before .before .before .before .before .before .before .before .before .before .before .if1 .left) (omega arith) (c .before .before .before .if4 .left) (λ k. absurd (c .if6 .left (c .before .byte-at2 .ensures ∙ k)))
+returns-8 c =
+    let ending-at = after-ending-at c in
+    let byte-at = after-byte-at ending-at in
+    let a = at-entry byte-at .args in
+    line-is (a .text .now) (a .at) (byte-at .byte-at .ensures)
+    (sym (ending-at .before .before .before .before .sum-of .ensures) ∙ ending-at .before .before .sum .given .1) (ending-at .ending-at .ensures)
+    (byte-at .before .before .if1 .left) (omega arith) (c .before .before .before .if4 .left) (λ k. absurd (c .if6 .left (c .before .byte-at2 .ensures ∙ k)))
 
 pub line-at-spec : {M : Type 1} → statement M
 line-at-spec =

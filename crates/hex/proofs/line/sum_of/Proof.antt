@@ -82,10 +82,12 @@ loop-again c = let a = c .before .before .before .before .before .before .before
     }
 
 returns : tie.Need-returns Inv-loop μ-loop
-returns c = let a = c .before .before .before .before .args in let l = c .before .before .loop in sym (sum-all (a .text .now) (l .k) (l .others) (l .sum) (l .left) (l .inv .small) (c .before .loop-test .left) ∙ rw (eq-eqb (l .others) 0 (c .if1 .taken))) ∙ l .inv .same
+returns c = let a = c .before .before .before .before .args in let l = c .before .before .loop in sym
+    (sum-all (a .text .now) (l .k) (l .others) (l .sum) (l .left) (l .inv .small) (c .before .loop-test .left) ∙ rw (eq-eqb (l .others) 0 (c .if1 .taken))) ∙ l .inv .same
 
 returns-2 : tie.Need-returns-2 Inv-loop μ-loop
-returns-2 c = let a = c .before .before .before .before .args in let l = c .before .before .loop in sym (sum-all (a .text .now) (l .k) (l .others) (l .sum) (l .left) (l .inv .small) (c .before .loop-test .left) ∙ rw (ne-eqb (l .others) 0 (c .if1 .left))) ∙ l .inv .same
+returns-2 c = let a = c .before .before .before .before .args in let l = c .before .before .loop in sym
+    (sum-all (a .text .now) (l .k) (l .others) (l .sum) (l .left) (l .inv .small) (c .before .loop-test .left) ∙ rw (ne-eqb (l .others) 0 (c .if1 .left))) ∙ l .inv .same
 
 pub sum-of-spec : {M : Type 1} → statement M
 sum-of-spec =

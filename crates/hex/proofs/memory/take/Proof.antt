@@ -1,6 +1,6 @@
 -- `take` meets its contract: noting what is left completes what noting all would do. Assumes nothing.
 use Prim.Native.Nat.{ℕ, _+_, _*_, _-_, _≤_}
-use mathlib.Core.Path.{_≡_, refl, sym, ap, _∙_}
+use mathlib.Core.Path.{_≡_, refl, ap, _∙_}
 use mathlib.Core.List.{List}
 use native.Mathlib.Omega.{arith}
 use borrow.Author.Needs.{needs}
@@ -82,7 +82,8 @@ same-length : tie.Need-same-length Inv-loop μ-loop
 same-length c = c .before .loop .inv .long
 
 returns : tie.Need-returns Inv-loop μ-loop
-returns c = let a = c .before .before .before .before .args in let l = c .before .loop in taken-all (a .text .now) (l .cells) (l .seen) (l .k) (l .to) (a .address + a .size - l .to) (omega arith) ∙ l .inv .same
+returns c = let a = c .before .before .before .before .args in let l = c .before .loop in taken-all (a .text .now) (l .cells) (l .seen) (l .k)
+    (l .to) (a .address + a .size - l .to) (omega arith) ∙ l .inv .same
 
 pub take-spec : {M : Type 1} → statement M
 take-spec =
