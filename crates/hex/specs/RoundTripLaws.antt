@@ -152,7 +152,8 @@ module _ (text : List ℕ) (at kind address : ℕ) (bytes rest : List ℕ) (e : 
   line-back sound q =
       let next : digitsEnd text at + endingAt text (digitsEnd text at) ≡ at + 12 + 2 * length bytes = omega (arith, end-is, ending-back) in
       of-line text at (omega (arith, goes-on text (at + 11 + 2 * length bytes) 0x0A rest line-end))
-      (line-whole text at (parts-back sound) ∙ ap (λ n. Line.Whole n (sumAt text at) (digitsEnd text at + endingAt text (digitsEnd text at))) size-back ∙ ap (Line.Whole (length bytes) (sumAt text at)) next)
+      (line-whole text at (parts-back sound) ∙ ap (λ n. Line.Whole n (sumAt text at) (digitsEnd text at + endingAt text (digitsEnd text at)))
+      size-back ∙ ap (Line.Whole (length bytes) (sumAt text at)) next)
       ∙ q
 
   pub data-back : kind ≡ 0 → address + length bytes ≤ 65536 → recordAt text at ≡ Step.Data address (length bytes) (at + 12 + 2 * length bytes)

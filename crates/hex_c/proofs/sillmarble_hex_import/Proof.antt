@@ -23,7 +23,9 @@ same-length-2 : tie.Need-same-length-2
 same-length-2 c = search needs
 
 returns : tie.Need-returns
-returns c = handed-is (c .before .before .before .before .before .before .before .before .before .before .before .before .before .args .counts .now) (c .number-of .ensures) (c .before .before .before .before .before .size-of .ensures) (c .before .before .before .put-size .ensures) (c .before .before .before .before .before .before .before .before .import-text .ensures)
+returns c = handed-is (c .before .before .before .before .before .before .before .before .before .before .before .before .before .args .counts .now)
+    (c .number-of .ensures) (c .before .before .before .before .before .size-of .ensures) (c .before .before .before .put-size .ensures)
+    (c .before .before .before .before .before .before .before .before .import-text .ensures)
 
 pub sillmarble-hex-import-spec : {M : Type 1} → statement M
 sillmarble-hex-import-spec =
