@@ -1,6 +1,6 @@
 #!/bin/sh
-# run.sh OUT: builds the static library and both examples for x86-64, runs them on the files of examples/ and on one that is refused, and compares what they
-# print with what `./sillmarble list` prints. Left: OUT/example-c, OUT/example-rs. The last line is 'N passed, 0 failed', and then the status is 0.
+# run.sh OUT: builds the static libraries and the examples for x86-64, runs them on the files of examples/ and on one that is refused, and compares what they
+# print with what `./sillmarble list`, `hex` and `unhex` print. Left: OUT/example-c, OUT/example-rs, OUT/hex-c. The last line is 'N passed, 0 failed', and then the status is 0.
 # README.md names what has to be installed. On another machine than x86-64 Debian's emulator runs them (a program of Rust's ends that of the kit, QEMU 8.2.2, as it
 # starts), and Rust's standard library for x86-64 is unpacked under OUT; nothing is installed.
 set -eu
@@ -9,11 +9,15 @@ root=$(cd "$(dirname "$0")/.." && pwd)
 mkdir -p "$1"
 out=$(cd "$1" && pwd)
 cd "$root"
-rt staticlib libfind_c >"$out/staticlib.log" 2>&1 || { cat "$out/staticlib.log"; exit 1; }
+for each in libfind_c hex_c; do
+    rt staticlib "$each" >"$out/staticlib.log" 2>&1 || { cat "$out/staticlib.log"; exit 1; }
+done
 library=$root/target/staticlib/liblibfind_c.a
+hex=$root/target/staticlib/libhex_c.a
 
 build_here() {
     cc -O2 -std=c99 -Wall -Wextra -o "$out/example-c" callers/example.c "$library"
+    cc -O2 -std=c99 -Wall -Wextra -o "$out/hex-c" callers/hex.c "$hex"
     rustc -O --edition 2021 -o "$out/example-rs" -L "native=$root/target/staticlib" -l static=libfind_c callers/example.rs
 }
 
@@ -21,6 +25,7 @@ build_here() {
 build_across() {
     target=x86_64-unknown-linux-gnu
     x86_64-linux-gnu-gcc -O2 -std=c99 -Wall -Wextra -static -o "$out/example-c" callers/example.c "$library"
+    x86_64-linux-gnu-gcc -O2 -std=c99 -Wall -Wextra -static -o "$out/hex-c" callers/hex.c "$hex"
     if [ ! -d "$out/std/usr" ]; then
         mkdir -p "$out/std"
         (cd "$out/std" && apt-get download libstd-rust-dev:amd64 && dpkg -x libstd-rust-dev_*_amd64.deb .)
@@ -59,7 +64,25 @@ try() { # EXAMPLE IMAGE LIBRARY RULES
     fi
 }
 
+# The same of the example for HEX: a job of it, the command that does that, and a file.
+try_hex() { # JOB COMMAND FILE
+    was=0 got=0
+    ./sillmarble "$2" "$3" >"$out/was" 2>"$out/was.err" || was=$?
+    $emulator "$out/hex-c" "$1" "$3" >"$out/got" 2>"$out/got.err" || got=$?
+    if [ "$was" -eq "$got" ] && cmp -s "$out/was" "$out/got" && [ "$(sed 's/:.*//' "$out/was.err")" = "$(cat "$out/got.err")" ]; then
+        passed=$((passed + 1))
+    else
+        failed=$((failed + 1))
+        echo "failed: hex-c $1 $3 (status $got and $was)"
+    fi
+}
+
 ./sillmarble list examples/aid.img examples/routines.lib >"$out/was"
+./sillmarble hex examples/aid.img >"$out/aid.hex"
+try_hex export hex examples/aid.img
+try_hex import unhex "$out/aid.hex"
+# an image is no text: refusal 20
+try_hex import unhex examples/aid.img
 for example in example-c example-rs; do
     for rules in found documented; do
         try "$example" examples/aid.img examples/routines.lib "$rules"

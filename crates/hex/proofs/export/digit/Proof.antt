@@ -1,0 +1,23 @@
+-- `digit` meets its contract. Assumes nothing.
+use borrow.Author.Tests.{lt-ltb, le-ltb}
+use Rattle.hex.specs.Digits.{digit}
+use borrow.Author.Needs.{needs}
+use Rattle.hex.proofs.export.digit.Statement.{statement}
+use Rattle.hex.proofs.export.digit.Tie as tie
+
+add-result : tie.Need-add-result
+add-result c = search needs
+
+add-result-2 : tie.Need-add-result-2
+add-result-2 c = search needs
+
+returns : tie.Need-returns
+unfolding digit
+returns c = rw (lt-ltb (c .before .args .n) 10 (c .if1 .taken))
+
+returns-2 : tie.Need-returns-2
+unfolding digit
+returns-2 c = rw (le-ltb (c .before .args .n) 10 (c .if1 .left))
+
+pub digit-spec : {M : Type 1} → statement M
+digit-spec = tie.close (tie.spec add-result add-result-2 returns returns-2)
