@@ -1,7 +1,7 @@
 #!/usr/bin/env python3
 """Holds what the model computes against the written definition: the checker computes the number, the counts and all eight
-lists of some of the runs that record.py makes of a seed, rule set 1, withheld stretches and too little lent included. Each is a
-theorem that holds by computation alone.
+lists of some of the runs that record.py makes of a seed, rule set 1, withheld stretches and too little lent included; and, where they
+come to a search, of each match the first reference that fails, and why. Each is a theorem that holds by computation alone.
 
 The status is 0 if all are proved, 1 if one is not, and 2 if the checker fails for another reason."""
 import argparse
@@ -19,22 +19,32 @@ BATCH = 20
 LONGEST_IMAGE, LONGEST_LIBRARY, MOST_NUMBERS = 30, 250, 300
 
 
+def reasons(c):
+    """Why matches fail, once for each that does."""
+    return [each[1] for each in c.stages.listing.found.failed if each] if c.stages.listing else []
+
+
 def chosen(seed, count):
-    """Short ones, of every kind and number that has some."""
+    """Short ones, of every kind, number and reasons of failure that has some."""
     rng = random.Random(seed)
     short = [run for run in generate(rng) if len(run.image) <= LONGEST_IMAGE and len(run.library) <= LONGEST_LIBRARY]
     small = [c for c in recorded(rng, list(map(Stages, short))) if sum(c.lent) <= MOST_NUMBERS]
     rng.shuffle(small)
     turn, order = Counter(), []
     for c in small:
-        turn[c.run.kind, c.outcome.number] += 1
-        order.append((turn[c.run.kind, c.outcome.number], len(order), c))
+        sort = c.run.kind, c.outcome.number, frozenset(reasons(c))
+        turn[sort] += 1
+        order.append((turn[sort], len(order), c))
     return [c for _, _, c in sorted(order, key=lambda each: each[:2])[:count]]
 
 
 def stated(number, c):
+    """Two theorems for a case: what the run comes to, and which references fail first."""
     before = [[each] * n for each, n in zip(BEFORE, c.lent)]
-    return number, template.computed_by_model(number, c.run, before, c.outcome)
+    found = [(2 * number, template.computed_by_model(2 * number, c.run, before, c.outcome))]
+    if c.stages.listing:
+        found.append((2 * number + 1, template.failed_by_model(2 * number + 1, c.run, c.stages.listing.found.failed)))
+    return found
 
 
 def differing(definition, cases):
@@ -43,7 +53,7 @@ def differing(definition, cases):
     with tempfile.TemporaryDirectory() as place:
         folder = checker.scratch(definition, f"{place}/scratch")
         for i in range(0, len(cases), BATCH):
-            batch = [stated(n, cases[n]) for n in range(i, min(i + BATCH, len(cases)))]
+            batch = [each for n in range(i, min(i + BATCH, len(cases))) for each in stated(n, cases[n])]
             found.update(checker.check(folder, [(i // BATCH, batch)], 1, template.LITTLE))
     return found
 
@@ -61,10 +71,13 @@ def main():
         print(f"the checker says neither yes nor no:\n{why}", file=sys.stderr)
         return 2
     for n, words in found.items():
-        print(f"the model says {cases[n].outcome}, and the definition something else: {cases[n].run.shown()}\n  {words}")
+        c = cases[n // 2]
+        print(f"the model says {c.stages.listing.found.failed if n % 2 else c.outcome}, and the definition something else: {c.run.shown()}\n  {words}")
+    why = Counter(each for c in cases for each in reasons(c))
     numbers = Counter(c.outcome.number for c in cases)
     print(f"seed {given.seed}: {len(cases)} runs, by number {dict(sorted(numbers.items()))}, {sum(c.run.rules == 1 for c in cases)} of rule set 1, "
-          f"{sum(c.run.stretch[1] > 0 for c in cases)} with a stretch; {len(found)} differ from the definition")
+          f"{sum(c.run.stretch[1] > 0 for c in cases)} with a stretch; matches that fail, by reason {dict(sorted(why.items()))}; "
+          f"{len(found)} differ from the definition")
     return 1 if found else 0
 
 

@@ -1,5 +1,6 @@
 // Document 01's P1 to P14 and jumps of the MCS-51 manual, run on the functions that they are about. The same values are proved of the definition
 // (crates/run/specs/Examples.antt).
+mod failed;
 mod show;
 
 use crate::show::answer;
@@ -47,8 +48,25 @@ fn targets() {
     both_rules(b"P8", 0x0010, Kind::Relative, 0xfe, 0);
     both_rules(b"P9", 0, Kind::Relative, 0xfe, 0);
     say(b"P10");
-    target(b"\x00\x00\x00\x12", Rules::AsFound, 3, Kind::Word);
-    target(b"\x00\x00\x00\x12\x34", Rules::AsFound, 3, Kind::Word);
+    target(b"\x00\x00\x00\x12", NOTHING, Rules::AsFound, 3, Kind::Word);
+    target(
+        b"\x00\x00\x00\x12\x34",
+        NOTHING,
+        Rules::AsFound,
+        3,
+        Kind::Word,
+    );
+    say(b"\n");
+}
+
+// Why a reference has no target (W-208): a withheld byte; a withheld last byte, which a Word also passes.
+fn reasons() {
+    let last = Stretch { start: 1, len: 1 };
+    say(b"Withheld");
+    target(b"\x12\x34", last, Rules::Documented, 0, Kind::Relative);
+    target(b"\x12\x34", last, Rules::Documented, 0, Kind::Word);
+    target(b"\x12\x34", last, Rules::Documented, 1, Kind::Relative);
+    target(b"\x12\x34", last, Rules::Documented, 1, Kind::Word);
     say(b"\n");
 }
 
@@ -104,6 +122,8 @@ fn description(name: &[u8]) {
 fn main() {
     patterns();
     targets();
+    reasons();
+    failed::first_failures();
     sizes();
     masks();
     say(b"P13 ");

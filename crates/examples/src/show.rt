@@ -53,22 +53,25 @@ pub fn matches(text: &[u8], image: &[u8], s: Stretch, bytes: &[u8], masks: &[u8]
 }
 
 // Where a reference with no offset leads, nothing being withheld.
-pub fn target(image: &[u8], rules: Rules, pos: usize, kind: Kind) {
-    let nothing = Stretch { start: 0, len: 0 };
-    match image::fixup::find_target(image, nothing, rules, pos, kind, 0) {
+pub fn target(image: &[u8], s: Stretch, rules: Rules, pos: usize, kind: Kind) {
+    match image::fixup::find_target(image, s, rules, pos, kind, 0) {
         Target::At(t) => {
             say(b" 0x");
             io::print_hex(STDOUT_FILENO, t, 4);
         }
-        Target::Nowhere => {
-            say(b" no target");
+        Target::PastEnd => {
+            say(b" past the end");
+        }
+        Target::Withheld => {
+            say(b" withheld");
         }
     }
 }
 
 fn by_both_rules(image: &[u8; 2048], pos: usize, kind: Kind) {
-    target(image, Rules::AsFound, pos, kind);
-    target(image, Rules::Documented, pos, kind);
+    let nothing = Stretch { start: 0, len: 0 };
+    target(image, nothing, Rules::AsFound, pos, kind);
+    target(image, nothing, Rules::Documented, pos, kind);
     say(b"\n");
 }
 

@@ -1,8 +1,9 @@
 // References out of a pattern: their kinds, and the targets to which the bytes of the image lead.
 ghost use mathlib.Core.Path.{_≡_};
-ghost use Prim.Native.Nat.{_<_};
+ghost use Prim.Native.Nat.{_+_, _<_};
+ghost use lib.Dec.{ltb};
 ghost use Rattle.image.specs.View.{view, cellAt};
-ghost use Rattle.image.specs.fixup.Target.{signed as signedOf, topBits, addr16 as addr16Of, reads, readable as readableIn, leadsTo, counted as countedBy, target};
+ghost use Rattle.image.specs.fixup.Target.{signed as signedOf, topBits, addr16 as addr16Of, reads, leadsTo, counted as countedBy, target};
 ghost use Rattle.image.specs.fixup.AddressLaws.{page11};
 use crate::Stretch;
 
@@ -19,10 +20,12 @@ pub enum Kind {
     Inblock,
 }
 
-// The target of a reference: an address, or none where its bytes can't be read.
+// The target of a reference: an address; or none, since its bytes pass the image's end, or, where they do not, since one
+// of them is withheld.
 pub enum Target {
     At(u64),
-    Nowhere,
+    PastEnd,
+    Withheld,
 }
 
 // A byte as a number of 64 bits.
@@ -80,17 +83,17 @@ fn addr11(rules: Rules, next: u64, a: u8, b: u8) -> u64
     (page << 11) | low
 }
 
-// Whether n bytes at `pos` lie within the image and share no byte with the stretch.
-fn readable(image: &[u8], s: Stretch, pos: usize, n: usize) -> bool
-    ensures { λ r. ⌜ r ≡ readableIn (view (now (image .entry)) s) pos n ⌝ }
+// Whether n bytes at `pos` pass the end of an image of `end` bytes. No sum is taken, which could wrap.
+fn passes(end: usize, pos: usize, n: usize) -> bool
+    ensures { λ r. ⌜ r ≡ ltb end (pos + n) ⌝ }
 {
-    if image.len() < n {
-        return false;
+    if end < n {
+        return true;
     }
-    if image.len() - n < pos {
-        return false;
+    if end - n < pos {
+        return true;
     }
-    crate::is_apart(s, pos, n)
+    false
 }
 
 // The byte of the image at a place, 0 past the end.
@@ -130,9 +133,9 @@ fn counted(rules: Rules, t: u64) -> u64
     }
 }
 
-// The target of a reference that reads at `pos`: none if its bytes pass the image's end or touch the stretch, else the
-// address that the bytes give, less the fixup's offset, where the difference wraps at 64 bits, as the program counter
-// holds it.
+// The target of a reference that reads at `pos`: none if its bytes pass the image's end, or, where they do not, touch the
+// stretch; else the address that the bytes give, less the fixup's offset, where the difference wraps at 64 bits, as the
+// program counter holds it.
 pub fn find_target(
     image: &[u8],
     s: Stretch,
@@ -143,12 +146,16 @@ pub fn find_target(
 ) -> Target
     ensures { λ r. ⌜ r ≡ target (view (now (image .entry)) s) rules pos kind offset ⌝ }
 {
-    if readable(image, s, pos, width(kind)) {
-        let a = byte_at(image, pos);
-        let b = byte_at(image, pos + 1);
-        let led = leads_to(rules, pos as u64, kind, a, b);
-        let t = std::num::wrapping_sub_u64(led, offset);
-        return Target::At(counted(rules, t));
+    let n = width(kind);
+    if passes(image.len(), pos, n) {
+        return Target::PastEnd;
     }
-    Target::Nowhere
+    if !crate::is_apart(s, pos, n) {
+        return Target::Withheld;
+    }
+    let a = byte_at(image, pos);
+    let b = byte_at(image, pos + 1);
+    let led = leads_to(rules, pos as u64, kind, a, b);
+    let t = std::num::wrapping_sub_u64(led, offset);
+    Target::At(counted(rules, t))
 }

@@ -50,12 +50,15 @@ fn bears_out(
     ensures { λ b. ⌜ b ≡ bearsOut (isFound (now (library .entry)) 8 (now (placed .entry)) (now (positions .entry))) (view (now (image .entry)) s) rules base r ⌝ }
 {
     let goal = r.goal;
-    let Target::At(t) = target_of(image, s, rules, base, r) else {
-        return true;
-    };
-    match goal {
-        Goal::Segment(_) => true,
-        Goal::Name(name) => is_found(library, PLACED_WIDTH, placed, positions, t, name),
+    match target_of(image, s, rules, base, r) {
+        Target::PastEnd => true,
+        Target::Withheld => true,
+        Target::At(t) => {
+            let Goal::Name(name) = goal else {
+                return true;
+            };
+            is_found(library, PLACED_WIDTH, placed, positions, t, name)
+        }
     }
 }
 

@@ -16,7 +16,7 @@ use Rattle.image.specs.declared.fixup.Rules.{Rules}
 use Rattle.image.specs.declared.fixup.Rules.the-variants.{AsFound, Documented}
 use Rattle.image.specs.declared.fixup.Kind.{Kind}
 use Rattle.image.specs.declared.fixup.Kind.the-variants.{Relative, Word, Inblock}
-use Rattle.image.specs.fixup.Target.{addressIn, kindNumber, readable, target}
+use Rattle.image.specs.fixup.Target.{addressIn, kindNumber, shown, target}
 use Rattle.omf51.specs.Reader.{repeat}
 use Rattle.omf51.specs.Record.{frameAt, expected, recordOf}
 use Rattle.omf51.specs.Entry.{ending, segmentSize, definitionOf, definitionAt, fixupAt}
@@ -95,7 +95,7 @@ table =
     ∷ []
 
 pub all-hold : map (λ e. e .computed) table ≡ map (λ e. e .result) table
-unfolding table matches matchesAt all keep from readable target masksOf fold describe description oneOf placeOf same numbered view
+unfolding table matches matchesAt all keep from shown target masksOf fold describe description oneOf placeOf same numbered view
 all-hold = refl
 
 -- The whole printed case.
@@ -145,7 +145,7 @@ outcome = record {
 pub whole : (run image library settings lent ≡ outcome)
     × (printed library (stages image library settings .lines)
     ≡ text "Address | Name                 | Description\n0x0001    ?C?LADD                long (32-bit) addition\n")
-unfolding leading keep joined fold any all placeOf from numbered insert sorted total same before view matchesAt matches readable target
+unfolding leading keep joined fold any all placeOf from numbered insert sorted total same before view matchesAt matches shown target
     repeat frameAt expected recordOf ending definitionOf definitionAt fixupAt definitionsAt fixupsAt sectionAt sectionsAt moduleAt libraryAt file
     kept named fixupRefusal contentRefusal tests collectRefusal masksOf ored merged filled referencesOf symbolsOf keptSegment absoluteSegment
     moduleSegments collect segmentRowsFrom segmentNumbers referenceNumbers symbolNumbers patternBytes patternMasks positionsOf allMatches isValid

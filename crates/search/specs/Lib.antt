@@ -5,6 +5,7 @@ pub mod Outcome
 pub mod EndLaws
 pub mod OneOutcome
 pub mod byte_index
+pub mod failed
 pub mod matches
 pub mod note
 pub mod place

@@ -1,6 +1,7 @@
 // The search of an image for segments that are stored in lent memory.
 pub mod byte_index;
 pub mod entry;
+pub mod failed;
 pub mod fill;
 pub mod matches;
 pub mod note;

@@ -27,10 +27,10 @@ pub fn target_of(image: &[u8], s: Stretch, rules: Rules, position: usize, r: Ref
     let place = r.place;
     let kind = r.kind;
     if image.len() < position {
-        return Target::Nowhere;
+        return Target::PastEnd;
     }
     if image.len() - position < place {
-        return Target::Nowhere;
+        return Target::PastEnd;
     }
     find_target(image, s, rules, position + place, kind, r.offset as u64)
 }

@@ -14,7 +14,7 @@ use Rattle.lent.specs.Members.{_among_, of-joined}
 use Rattle.lent.specs.Parts.{bytesOf, sameName}
 use Rattle.tables.specs.by_name.NamedLaws.{same-equal}
 use Rattle.image.specs.declared.fixup.Target.{Target}
-use Rattle.image.specs.declared.fixup.Target.the-variants.{At, Nowhere}
+use Rattle.image.specs.declared.fixup.Target.the-variants.{At, PastEnd, Withheld}
 use Rattle.segments.specs.declared.Goal.{Goal}
 use Rattle.segments.specs.declared.Goal.the-variants as Goal
 use Rattle.segments.specs.declared.Reference.{Reference}
@@ -122,7 +122,8 @@ module _ (library cells : List ℕ) (a : Asked) (segments : List Collected) wher
     where
       by-reference : (m : Match) → m among allMatches cells segments → (r : Reference) → r among m .segment .references
           → (goal : Goal) → r .goal ≡ goal → (t : Target) → targetOf cells a (m .position) r ≡ t → n among noteAt (isValid a (m .segment)) goal t → Said n
-      by-reference m j r k goal e Nowhere f l = absurd (List·Memᴰ·not-nil l)
+      by-reference m j r k goal e PastEnd f l = absurd (List·Memᴰ·not-nil l)
+      by-reference m j r k goal e Withheld f l = absurd (List·Memᴰ·not-nil l)
       by-reference m j r k (Goal.Segment number) e (At t) f l = absurd (List·Memᴰ·not-nil l)
       by-reference m j r k (Goal.Name name) e (At t) f l =
           let q = List·Memᴰ·eq-of-singleton l in

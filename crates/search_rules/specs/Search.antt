@@ -1,7 +1,8 @@
 -- The matches of all segments, the symbols that they place, and the names that their references note.
 use Prim.Native.Nat.{ℕ, _+_}
 use mathlib.Core.Bool.{Bool, true, false, not, _&&_, _||_}
-use mathlib.Core.List.{List, [], _++_, map}
+use mathlib.Core.List.{List, [], _∷_, _++_, map}
+use mathlib.Core.Option.{Option, none, some}
 use lib.Dec.{eqb, leb}
 use lib.ListN.{length, getD}
 use Rattle.lent.specs.declared.part.Part.{Part}
@@ -10,7 +11,7 @@ use Rattle.lent.specs.Lists.{one, keep, joined, fold, any, all, isIn, numbered}
 use Rattle.lent.specs.Parts.{sameName}
 use Rattle.image.specs.Match.{matches}
 use Rattle.image.specs.declared.fixup.Target.{Target}
-use Rattle.image.specs.declared.fixup.Target.the-variants.{At, Nowhere}
+use Rattle.image.specs.declared.fixup.Target.the-variants.{At, PastEnd, Withheld}
 use Rattle.image.specs.fixup.Target.{target}
 use Rattle.segments.specs.declared.SegmentNumber.{SegmentNumber}
 use Rattle.segments.specs.declared.Goal.{Goal}
@@ -19,6 +20,10 @@ use Rattle.segments.specs.declared.Reference.{Reference}
 use Rattle.segments.specs.declared.Symbol.{Symbol}
 use Rattle.segments.specs.Collect.{Collected}
 use Rattle.search_rules.specs.declared.Asked.{Asked}
+use Rattle.search_rules.specs.declared.Why.{Why}
+use Rattle.search_rules.specs.declared.Why.the-variants as Why
+use Rattle.search_rules.specs.declared.Failed.{Failed}
+use Rattle.search_rules.specs.declared.Failed.the-variants as Failed
 
 -- a match: a segment with its number, and the position at which it matches
 pub record Match : Type 0 where
@@ -67,7 +72,8 @@ targetOf cells a position r = target cells (a .rules) (position + r .place) (r .
 -- a reference without a target does not hold; a reference to a segment holds if that segment matches at the target; a
 -- reference to a name holds
 abbrev pub holdsAt : List ℕ → List Collected → Goal → Target → Bool
-holdsAt cells segments goal Nowhere = false
+holdsAt cells segments goal PastEnd = false
+holdsAt cells segments goal Withheld = false
 holdsAt cells segments (Goal.Segment number) (At t) = isIn (positionsOf cells segments number) t
 holdsAt cells segments (Goal.Name name) (At t) = true
 
@@ -76,9 +82,32 @@ unfoldable pub holds : List ℕ → Asked → List Collected → Match → Bool
 holds cells a segments m =
     all (λ r. holdsAt cells segments (r .goal) (targetOf cells a (m .position) r)) (m .segment .references)
 
+-- why a reference fails: its bytes pass the image's end, or one of them is withheld, or its segment does not match at the
+-- target; a reference to a name that has a target does not fail
+abbrev pub failure : List ℕ → List Collected → Goal → Target → Option Why
+failure cells segments goal PastEnd = some Why.PastEnd
+failure cells segments goal Withheld = some Why.Withheld
+failure cells segments (Goal.Segment number) (At t) = if isIn (positionsOf cells segments number) t then none else some Why.NoMatch
+failure cells segments (Goal.Name name) (At t) = none
+
+-- the first of some references that fails, in their order, which are numbered from k on
+abbrev pub failed : ℕ → Option Why → Failed → Failed
+failed k none later = later
+failed k (some why) later = Failed.Reference k why
+
+unfoldable pub failedFrom : (Reference → Option Why) → ℕ → List Reference → Failed
+failedFrom why k [] = Failed.Nothing
+failedFrom why k (r ∷ rest) = failed k (why r) (failedFrom why (k + 1) rest)
+
+-- the first reference of a match, in file order, that fails, and why
+unfoldable pub firstFailed : List ℕ → Asked → List Collected → Match → Failed
+firstFailed cells a segments m =
+    failedFrom (λ r. failure cells segments (r .goal) (targetOf cells a (m .position) r)) 0 (m .segment .references)
+
 -- what a reference notes: nothing without a target, or if its goal is a segment; else the name at the target
 abbrev pub noteAt : Bool → Goal → Target → List Noting
-noteAt valid goal Nowhere = []
+noteAt valid goal PastEnd = []
+noteAt valid goal Withheld = []
 noteAt valid (Goal.Segment number) (At t) = []
 noteAt valid (Goal.Name name) (At t) = one (record { target = t; name = name; valid = valid })
 

@@ -15,7 +15,7 @@ use Rattle.image.specs.declared.Seat.the-variants.{Anywhere, Only}
 use Rattle.image.specs.Match.{matchesAt, tried, matches}
 use Rattle.image.specs.declared.fixup.Rules.{Rules}
 use Rattle.image.specs.declared.fixup.Target.{Target}
-use Rattle.image.specs.declared.fixup.Target.the-variants.{At, Nowhere}
+use Rattle.image.specs.declared.fixup.Target.the-variants.{At, PastEnd, Withheld}
 use Rattle.segments.specs.declared.Goal.{Goal}
 use Rattle.segments.specs.declared.Goal.the-variants as Goal
 use Rattle.segments.specs.declared.Reference.{Reference}
@@ -71,7 +71,8 @@ all-searched cells segments number g at i j =
 
 -- a reference that holds has a target, and a segment reference leads to a match of that segment
 abbrev pub Held : List ℕ → List Collected → Goal → Target → Type 0
-Held cells segments goal Nowhere = ⊥
+Held cells segments goal PastEnd = ⊥
+Held cells segments goal Withheld = ⊥
 Held cells segments (Goal.Segment number) (At t) = isIn (positionsOf cells segments number) t ≡ true
 Held cells segments (Goal.Name name) (At t) = Unit
 
@@ -81,7 +82,8 @@ unfolding holds
 holds-each cells a segments m e r i = held (r .goal) (targetOf cells a (m .position) r) (of-all _ (m .segment .references) e i)
   where
     held : (goal : Goal) (t : Target) → holdsAt cells segments goal t ≡ true → Held cells segments goal t
-    held goal Nowhere h = false≢true h
+    held goal PastEnd h = false≢true h
+    held goal Withheld h = false≢true h
     held (Goal.Segment number) (At t) h = h
     held (Goal.Name name) (At t) h = tt
 

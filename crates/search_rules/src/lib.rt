@@ -10,6 +10,20 @@ pub struct Asked {
     pub minimum: usize,
 }
 
+// Why a reference of a match fails: its bytes pass the image's end; one of them is withheld; the segment to which it refers
+// does not match at its target.
+pub enum Why {
+    PastEnd,
+    Withheld,
+    NoMatch,
+}
+
+// The first reference of a match that fails, by its number among the references of the match, from 0 on; or none does.
+pub enum Failed {
+    Nothing,
+    Reference { number: usize, why: Why },
+}
+
 // How many numbers the row of a placed symbol has.
 pub const PLACED_WIDTH: usize = 8;
 

@@ -8,7 +8,7 @@ COUNTS = ("segments", "references", "symbols", "pattern", "placed", "noted", "li
 # The crates whose specs/ hold the definition, each before those that use it.
 CRATES = ("lent", "tables", "image", "omf51", "segments", "search_rules", "describe", "listing_rules", "run")
 
-IMPORTS = """use Prim.Native.Nat.{ℕ, zero, suc}
+IMPORTS = """use Prim.Native.Nat.{ℕ, zero, suc, _+_, _*_}
 use mathlib.Core.Path.{_≡_, refl}
 use mathlib.Core.Bool.{Bool, true, false}
 use mathlib.Core.List.{List, [], _∷_, map}
@@ -21,7 +21,14 @@ use Rattle.run.specs.declared.Settings.{Settings}
 use Rattle.run.specs.declared.Counts.{Counts}
 use Rattle.run.specs.declared.Answer.{Answer}
 use Rattle.run.specs.declared.Answer.the-variants.{Done, Refused}
-use Rattle.run.specs.Run.{Lent, Outcome, numberOf, countsOf}
+use Rattle.run.specs.Run.{Lent, Outcome, askedOf, numberOf, countsOf}
+use Rattle.image.specs.View.{view as viewOf}
+use Rattle.omf51.specs.File.{file as fileOf, modulesIn}
+use Rattle.segments.specs.Collect.{collect as collectAll}
+use Rattle.search_rules.specs.declared.Why.the-variants as Why
+use Rattle.search_rules.specs.declared.Failed.{Failed}
+use Rattle.search_rules.specs.declared.Failed.the-variants as Failed
+use Rattle.search_rules.specs.Search.{allMatches as matchesIn, firstFailed as firstOf}
 """
 
 # How many numbers are lent for the rows of a stage, and for the pattern memory. Much lent memory takes
@@ -101,6 +108,18 @@ caseLeftIn o = record { number = numberOf (o .answer); counts = countsOf (o .ans
 
 abbrev caseLeft : List ℕ → List ℕ → Settings → Lent → CaseLeft
 caseLeft image library s l = caseLeftIn (run image library s l)
+
+abbrev caseWhy : Failed → ℕ
+caseWhy Failed.Nothing = 0
+caseWhy (Failed.Reference number Why.PastEnd) = 3 * number + 1
+caseWhy (Failed.Reference number Why.Withheld) = 3 * number + 2
+caseWhy (Failed.Reference number Why.NoMatch) = 3 * number + 3
+
+abbrev caseFailed : List ℕ → List ℕ → Settings → List ℕ
+caseFailed image library s =
+    let cells = viewOf image (s .stretch) in
+    let gs = collectAll (askedOf s .rules) library (modulesIn (fileOf library)) in
+    map (λ m. caseWhy (firstOf cells (askedOf s) gs m)) (matchesIn cells gs)
 """
 
 UNFOLDABLE = re.compile(r"^\s*unfoldable pub (\S+) :", re.MULTILINE)
@@ -159,6 +178,12 @@ def computed_by_model(number, run, before, outcome):
     counts = fields(COUNTS, outcome.counts)
     left = f"record {{ number = {outcome.number}; counts = {counts}; left = {fields(LISTS, map(listing, outcome.lists))} }}"
     return f"pub case-{number} : caseLeft {asked(run)} {fields(LISTS, map(listing, before))}\n    ≡ {left}"
+
+
+def failed_by_model(number, run, failed):
+    """What must be equal to the first failed reference of each match, by the model: 0 for none, else 3 times its number and the reason."""
+    codes = [3 * each[0] + each[1] if each else 0 for each in failed]
+    return f"pub case-{number} : caseFailed {asked(run)}\n    ≡ {listing(codes)}"
 
 
 def uses_and_names(found):

@@ -1,4 +1,4 @@
-"""Document 01's "Matching and references", with document 02's W-202, written from its text and apart from the Rust: where the segments match in an
+"""Document 01's "Matching and references", with document 02's W-202 and W-208, written from its text and apart from the Rust: where the segments match in an
 image, which symbols they place there, which names their references note; and these as rows of numbers."""
 from dataclasses import dataclass
 
@@ -9,6 +9,8 @@ PLACED, NOTED = 8, 6
 # Buckets of keys, and of keys and names together.
 KEYS, NAMES = 65536, 65536
 SUMS = 2 ** 64
+# Why a reference fails (document 02, W-208).
+PAST, WITHHELD, UNMATCHED = 1, 2, 3
 # Addresses that the processor's counter can hold (document 02, W-202).
 COUNTER = 2 ** 16
 LONGEST_IMAGE = 65536
@@ -48,6 +50,8 @@ class Search:
         self.image, self.asked, self.library, self.segments = image, asked, library, segments
         # Both by place and name, in the order of coming.
         self.placed, self.noted = {}, {}
+        # Of each match, in their order, the first reference that fails and why; None where all hold.
+        self.failed = []
         self.found = [list(self.matches(s)) for s in segments]
         for number, s in enumerate(segments):
             for at in self.found[number]:
@@ -66,10 +70,17 @@ class Search:
                 if all((x ^ byte) & mask == 0 for x, byte, mask in zip(window, s.bytes, s.masks)):
                     yield at
 
+    def unread(self, r, pos):
+        """Why the bytes of a reference can't be read: past the image's end goes before withheld; None where they can."""
+        size = 1 if r.kind == RELATIVE else 2
+        if pos + size > len(self.image):
+            return PAST
+        return WITHHELD if self.is_withheld(pos, size) else None
+
     def target(self, r, pos):
         """Where the bytes at a place lead, less the fixup's offset; None where they can't be read. As documented, the program counter wraps."""
         size = 1 if r.kind == RELATIVE else 2
-        if pos + size > len(self.image) or self.is_withheld(pos, size):
+        if self.unread(r, pos):
             return None
         first, second = self.image[pos], self.image[pos + size - 1]
         if r.kind == WORD:
@@ -84,18 +95,22 @@ class Search:
     def is_valid(self, s):
         return sum(mask != 0 for mask in s.masks) >= self.asked.minimum
 
+    def failure(self, r, at):
+        """Why a reference of a match fails; None where it holds."""
+        pos = at + r.place
+        if self.unread(r, pos):
+            return self.unread(r, pos)
+        is_met = not isinstance(r.goal, int) or r.goal < len(self.found) and self.target(r, pos) in self.found[r.goal]
+        return None if is_met else UNMATCHED
+
     def visit(self, number, s, at):
-        """A match: its references in order, which note or hold or fail, and then its symbols."""
-        failed = False
+        """A match: the names that its references note, in order, and then its symbols, unless one that fails keeps them out."""
         for r in s.references:
             target = self.target(r, at + r.place)
-            if target is None:
-                failed = True
-            elif isinstance(r.goal, int):
-                failed |= r.goal >= len(self.found) or target not in self.found[r.goal]
-            else:
+            if target is not None and not isinstance(r.goal, int):
                 self.note(Noted(target, r.goal, self.is_valid(s)))
-        if not (failed and self.asked.check):
+        self.failed.append(next(((n, self.failure(r, at)) for n, r in enumerate(s.references) if self.failure(r, at)), None))
+        if not (self.failed[-1] and self.asked.check):
             for name, offset in s.symbols:
                 self.place(Placed(at + offset, name, self.is_valid(s), number, at))
 

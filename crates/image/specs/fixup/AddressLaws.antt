@@ -1,22 +1,25 @@
 -- Addresses put together by shifts and masks, and wrapping sums, are the definition's. Assumes nothing.
 use Prim.Native.Nat.{ℕ, _+_, _-_, _*_, _/_, _%_, _^_, _≤_, _<_}
-use mathlib.Core.Path.{_≡_, ap, _∙_}
+use mathlib.Core.Path.{_≡_, sym, ap, _∙_}
 use native.Mathlib.Nat.{mod-eq-of-lt}
 use native.Mathlib.Omega.{arith}
 use borrow.Author.Tests.{lt-ltb, le-ltb}
+use lib.ListN.{length}
 use lib.Bits.{bitAnd, bitOr, and-mask, or-shifted}
 use Rattle.image.specs.declared.fixup.Rules.{Rules}
 use Rattle.image.specs.declared.fixup.Rules.the-variants.{AsFound, Documented}
-use mathlib.Core.Bool.{true, false}
+use mathlib.Core.Bool.{true}
 use mathlib.Core.List.{List}
 use Rattle.image.specs.declared.Stretch.{Stretch}
 use Rattle.image.specs.View.{view, cellAt}
 use Rattle.image.specs.ViewLaws.{view-outside}
 use Rattle.image.specs.declared.fixup.Kind.{Kind}
 use Rattle.image.specs.declared.fixup.Kind.the-variants.{Relative, Word, Inblock}
-use Rattle.image.specs.declared.fixup.Target.the-variants.{At, Nowhere}
-use Rattle.image.specs.fixup.Target.{minus, signed, topBits, addr16, leadsTo, counted, reads, readable, target}
-use Rattle.image.specs.fixup.TargetLaws.{Bytes, readable-seen}
+use Rattle.image.specs.declared.fixup.Target.the-variants.{At}
+use Rattle.image.specs.fixup.Target.{minus, signed, topBits, addr16, leadsTo, counted, reads, target}
+use Rattle.image.specs.Window.{isApart}
+use Rattle.image.specs.WindowLaws.{is-apart}
+use Rattle.image.specs.fixup.TargetLaws.{Bytes, target-shown}
 
 -- an address of 11 bits within the page of the place after the instruction, kept to 16 bits
 abbrev pub page11 : ℕ → ℕ → ℕ → ℕ
@@ -66,25 +69,21 @@ module _ (rules : Rules) (pos : ℕ) (kind : Kind) (a b r : ℕ) where
   pub leads-inblock : (next : ℕ) → kind ≡ Inblock → next ≡ (pos + 2) % 2 ^ 64 → r ≡ page11 next (topBits rules a) b → r ≡ leadsTo rules pos kind a b
   leads-inblock next k p e = rw (k, e, p)
 
--- the target of bytes that can be read, which are the image's; and none of those that can't
+-- the target of bytes that can be read, which are the image's
 module _ (image : List ℕ) (s : Stretch) (bytes : Bytes image) (rules : Rules) (pos : ℕ) (offset : ℕ) where
-  byte : (n : ℕ) → readable (view image s) pos n ≡ true → (i : ℕ) → pos ≤ i → i < pos + n → cellAt (view image s) i ≡ cellAt image i
-  byte n e i l m = view-outside image s i (readable-seen image s bytes pos n .0 e .1 i l m)
+  byte : (n : ℕ) → isApart s pos n ≡ true → (i : ℕ) → pos ≤ i → i < pos + n → cellAt (view image s) i ≡ cellAt image i
+  byte n e i l m = view-outside image s i (is-apart s pos n .0 e i l m)
 
-  same-lead : (kind : Kind) → readable (view image s) pos (reads kind) ≡ true
+  same-lead : (kind : Kind) → isApart s pos (reads kind) ≡ true
       → leadsTo rules pos kind (cellAt image pos) (cellAt image (pos + 1)) ≡ leadsTo rules pos kind (cellAt (view image s) pos) (cellAt (view image s) (pos + 1))
   same-lead Relative e = rw (byte 1 e pos (omega arith) (omega arith))
   same-lead Word e = rw (byte 2 e pos (omega arith) (omega arith), byte 2 e (pos + 1) (omega arith) (omega arith))
   same-lead Inblock e = rw (byte 2 e pos (omega arith) (omega arith), byte 2 e (pos + 1) (omega arith) (omega arith))
 
-  pub target-at : (kind : Kind) (a b led r : ℕ) → readable (view image s) pos (reads kind) ≡ true → a ≡ cellAt image pos → b ≡ cellAt image (pos + 1)
+  pub target-at : (kind : Kind) (a b led r : ℕ) → pos + reads kind ≤ length image → isApart s pos (reads kind) ≡ true → a ≡ cellAt image pos → b ≡ cellAt image (pos + 1)
       → led ≡ leadsTo rules pos kind a b → r < 2 ^ 64 → offset < 2 ^ 64 → (r + offset) % 2 ^ 64 ≡ led → At (counted rules r) ≡ target (view image s) rules pos kind offset
-  unfolding target
-  target-at kind a b led r e p q l m o w =
+  target-at kind a b led r fit e p q l m o w =
       let same : led ≡ leadsTo rules pos kind (cellAt (view image s) pos) (cellAt (view image s) (pos + 1)) =
       l ∙ rw (p, q) (same-lead kind e) in
-      rw e (ap (λ x. At (counted rules x)) (minus-wraps led offset r m o w ∙ ap (λ x. minus x offset) same))
-
-  pub target-nowhere : (kind : Kind) → readable (view image s) pos (reads kind) ≡ false → target (view image s) rules pos kind offset ≡ Nowhere
-  unfolding target
-  target-nowhere kind e = rw e
+      ap (λ x. At (counted rules x)) (minus-wraps led offset r m o w ∙ ap (λ x. minus x offset) same)
+      ∙ sym (target-shown image s bytes rules pos kind offset fit e)

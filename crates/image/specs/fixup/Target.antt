@@ -1,10 +1,10 @@
 -- The target of a reference: the address that its bytes in the view give, less the fixup's offset. Sums wrap at 64 bits,
 -- and under rule set 1, as documented, the target at 16.
 use Prim.Native.Nat.{ℕ, _+_, _-_, _*_, _/_, _%_, _^_}
-use mathlib.Core.Bool.{Bool, _&&_}
+use mathlib.Core.Bool.{Bool}
 use mathlib.Core.List.{List}
 use mathlib.Core.Option.{Option, none, some}
-use lib.Dec.{eqb, leb, ltb}
+use lib.Dec.{eqb, ltb}
 use lib.ListN.{length}
 use Rattle.lent.specs.Choice.{if_then_else_}
 use Rattle.lent.specs.Lists.{all, from}
@@ -14,7 +14,7 @@ use Rattle.image.specs.declared.fixup.Rules.the-variants.{AsFound, Docum
 use Rattle.image.specs.declared.fixup.Kind.{Kind}
 use Rattle.image.specs.declared.fixup.Kind.the-variants.{Relative, Word, Inblock}
 use Rattle.image.specs.declared.fixup.Target.{Target}
-use Rattle.image.specs.declared.fixup.Target.the-variants.{At, Nowhere}
+use Rattle.image.specs.declared.fixup.Target.the-variants.{At, PastEnd, Withheld}
 
 -- the rule set of a number: every number but 1 counts as 0 (a run refuses numbers above 1)
 abbrev pub rulesOf : ℕ → Rules
@@ -37,7 +37,8 @@ kindOf n =
 -- the address of a target, if it has one
 abbrev pub addressIn : Target → Option ℕ
 addressIn (At t) = some t
-addressIn Nowhere = none
+addressIn PastEnd = none
+addressIn Withheld = none
 
 -- a sum at 64 bits
 abbrev pub plus : ℕ → ℕ → ℕ
@@ -76,19 +77,23 @@ reads Relative = 1
 reads Word = 2
 reads Inblock = 2
 
--- the n cells at `pos` do not pass the view's end, and none of them is withheld
-unfoldable pub readable : List ℕ → ℕ → ℕ → Bool
-readable cells pos n = leb (pos + n) (length cells) && all (λ i. isByte (cellAt cells (pos + i))) (from 0 n)
+-- the n cells at `pos` pass the view's end
+abbrev pub passes : List ℕ → ℕ → ℕ → Bool
+passes cells pos n = ltb (length cells) (pos + n)
+
+-- none of the n cells at `pos` is withheld
+unfoldable pub shown : List ℕ → ℕ → ℕ → Bool
+shown cells pos n = all (λ i. isByte (cellAt cells (pos + i))) (from 0 n)
 
 -- a target as the program counter holds it: as documented it has 16 bits, as found a target keeps its 64
 abbrev pub counted : Rules → ℕ → ℕ
 counted AsFound t = t
 counted Documented t = t % 65536
 
--- the target of a reference that reads at `pos`: none if its cells can't be read; the fixup's offset is subtracted, and then
--- the program counter wraps
+-- the target of a reference that reads at `pos`. There is none if its cells pass the view's end, or, where they do not, if
+-- one of them is withheld. Else the fixup's offset is subtracted from the address, and then the program counter wraps
 unfoldable pub target : List ℕ → Rules → ℕ → Kind → ℕ → Target
 target cells rules pos kind offset =
-    if readable cells pos (reads kind)
-    then At (counted rules (minus (leadsTo rules pos kind (cellAt cells pos) (cellAt cells (pos + 1))) offset))
-    else Nowhere
+    if passes cells pos (reads kind) then PastEnd
+    else if shown cells pos (reads kind) then At (counted rules (minus (leadsTo rules pos kind (cellAt cells pos) (cellAt cells (pos + 1))) offset))
+    else Withheld

@@ -1,21 +1,22 @@
--- When a reference has a target. Assumes nothing.
+-- When a reference has a target, and why not. Assumes nothing.
 use Prim.Native.Nat.{ℕ, _+_, _-_, _%_, _≤_, _<_, max}
 use mathlib.Core.Path.{_≡_, refl, sym, ap, _∙_}
 use mathlib.Core.Logic.{_↔_, _⊎_, inl, inr}
-use mathlib.Core.Bool.{Bool, true, false, and-eq-true-iff, false≢true}
+use mathlib.Core.Bool.{Bool, true, false, false≢true}
 use mathlib.Core.List.{List}
+use mathlib.Core.Option.{none}
 use native.Mathlib.Decide.{decLe, decLt}
 use native.Mathlib.Omega.{arith}
-use borrow.Author.Tests.{leb-true, le-leb, lt-leb, ltb-true, lt-ltb}
-use lib.Dec.{leb}
+use borrow.Author.Tests.{ltb-true, lt-ltb, le-ltb}
 use lib.ListN.{length}
 use Rattle.lent.specs.Choice.{if_then_else_}
-use Rattle.lent.specs.ChoiceLaws.{both, same-test}
+use Rattle.lent.specs.ChoiceLaws.{same-test}
+use Rattle.lent.specs.FirstOf.{none≢some}
 use Rattle.lent.specs.Lists.{all, from}
 use Rattle.lent.specs.ListLaws.{every, if-every}
 use Rattle.image.specs.declared.Stretch.{Stretch}
 use Rattle.image.specs.View.{view, cellAt, isByte}
-use Rattle.image.specs.ViewLaws.{Inside, view-length, view-inside, view-outside}
+use Rattle.image.specs.ViewLaws.{Inside, Agree, same-view, view-length, view-inside, view-outside}
 use Rattle.image.specs.MatchLaws.{Apart}
 use Rattle.image.specs.Window.{isApart}
 use Rattle.image.specs.WindowLaws.{is-apart}
@@ -23,8 +24,8 @@ use Rattle.image.specs.declared.fixup.Rules.{Rules}
 use Rattle.image.specs.declared.fixup.Rules.the-variants.{AsFound, Documented}
 use Rattle.image.specs.declared.fixup.Kind.{Kind}
 use Rattle.image.specs.declared.fixup.Target.{Target}
-use Rattle.image.specs.declared.fixup.Target.the-variants.{At, Nowhere}
-use Rattle.image.specs.fixup.Target.{rulesOf, minus, leadsTo, counted, reads, readable, target}
+use Rattle.image.specs.declared.fixup.Target.the-variants.{At, PastEnd, Withheld}
+use Rattle.image.specs.fixup.Target.{rulesOf, minus, leadsTo, counted, reads, passes, shown, addressIn, target}
 
 -- rule set 0 is as found, 1 as documented
 pub rules-0 : rulesOf 0 ≡ AsFound
@@ -33,67 +34,55 @@ rules-0 = refl
 pub rules-1 : rulesOf 1 ≡ Documented
 rules-1 = refl
 
+-- bytes that pass the image's end are past it, whatever is withheld
+pub target-past : (image : List ℕ) (s : Stretch) (rules : Rules) (pos : ℕ) (kind : Kind) (offset : ℕ) → length image < pos + reads kind
+    → target (view image s) rules pos kind offset ≡ PastEnd
+unfolding target
+target-past image s rules pos kind offset h = rw (lt-ltb (length (view image s)) (pos + reads kind) (omega (arith, h, view-length image s)))
+
 -- as documented the program counter has 16 bits: no target is above FFFFh
 pub target-within : (cells : List ℕ) (pos : ℕ) (kind : Kind) (offset t : ℕ) → target cells Documented pos kind offset ≡ At t → t < 65536
 unfolding target
-target-within cells pos kind offset t e = go (readable cells pos (reads kind)) e
+target-within cells pos kind offset t e = go (passes cells pos (reads kind)) (shown cells pos (reads kind)) e
   where
     led : ℕ
     led = minus (leadsTo Documented pos kind (cellAt cells pos) (cellAt cells (pos + 1))) offset
 
     address : Target → ℕ
     address (At x) = x
-    address Nowhere = 0
+    address PastEnd = 0
+    address Withheld = 0
 
-    go : (b : Bool) → (if b then At (led % 65536) else Nowhere) ≡ At t → t < 65536
-    go true h = let same : led % 65536 ≡ t = ap address h in omega (arith, same)
-    go false h = let same : 0 ≡ t = ap address h in omega (arith, same)
+    go : (a b : Bool) → (if a then PastEnd else if b then At (led % 65536) else Withheld) ≡ At t → t < 65536
+    go true b h = let same : 0 ≡ t = ap address h in omega (arith, same)
+    go false true h = let same : led % 65536 ≡ t = ap address h in omega (arith, same)
+    go false false h = let same : 0 ≡ t = ap address h in omega (arith, same)
 
 -- an image of bytes
 abbrev pub Bytes : List ℕ → Type 0
 Bytes image = (i : ℕ) → cellAt image i < 256
 
--- n bytes at a place can be read exactly if they do not pass the image's end and share none with the stretch
-pub readable-seen : (image : List ℕ) (s : Stretch) → Bytes image → (pos n : ℕ)
-    → (readable (view image s) pos n ≡ true) ↔ ((pos + n ≤ length image) × Apart pos n s)
-unfolding readable
-readable-seen image s bytes pos n =
+-- of n bytes that do not pass the image's end none is withheld exactly if they share none with the stretch
+pub shown-seen : (image : List ℕ) (s : Stretch) → Bytes image → (pos n : ℕ) → pos + n ≤ length image
+    → (shown (view image s) pos n ≡ true) ↔ Apart pos n s
+unfolding shown
+shown-seen image s bytes pos n fit =
     let cells = view image s in
-    let p : ℕ → Bool = λ i. isByte (cellAt cells (pos + i)) in
-    let iff = and-eq-true-iff (leb (pos + n) (length cells)) (all p (from 0 n)) in
-    let long = view-length image s in (
-      (λ e.
-          let fits : pos + n ≤ length image = omega (arith, leb-true (pos + n) (length cells) (iff .0 e .0), long) in (
-            fits,
-            λ i a b h.
-                let k : pos + (i - pos) ≡ i = omega arith in
-                let byte : cellAt cells i < 256 = rw k at (ltb-true (cellAt cells (pos + (i - pos))) 256 (every p 0 n (iff .0 e .1) (i - pos) (omega arith) (omega arith))) in
-                omega (arith, byte, view-inside image s i (omega (arith, fits)) h),
-          )),
-      (λ h. iff .1 (
-        le-leb (pos + n) (length cells) (omega (arith, h .0, long)),
-        if-every p 0 n (λ k a b. lt-ltb (cellAt cells (pos + k)) 256
-            (rw (view-outside image s (pos + k) (h .1 (pos + k) (omega arith) (omega arith))) (bytes (pos + k)))),
-      )),
+    let p : ℕ → Bool = λ i. isByte (cellAt cells (pos + i)) in (
+      (λ e i a b h.
+          let k : pos + (i - pos) ≡ i = omega arith in
+          let byte : cellAt cells i < 256 = rw k at (ltb-true (cellAt cells (pos + (i - pos))) 256 (every p 0 n e (i - pos) (omega arith) (omega arith))) in
+          omega (arith, byte, view-inside image s i (omega (arith, fit)) h)),
+      (λ h. if-every p 0 n (λ k a b. lt-ltb (cellAt cells (pos + k)) 256
+          (rw (view-outside image s (pos + k) (h (pos + k) (omega arith) (omega arith))) (bytes (pos + k))))),
     )
 
--- the code's answers: past the end, and else by the window
-pub readable-past : (cells : List ℕ) (pos n : ℕ) → length cells < pos + n → readable cells pos n ≡ false
-unfolding readable
-readable-past cells pos n h = rw (lt-leb (pos + n) (length cells) h)
+shown-window : (image : List ℕ) (s : Stretch) → Bytes image → (pos n : ℕ) → pos + n ≤ length image → shown (view image s) pos n ≡ isApart s pos n
+shown-window image s bytes pos n fit =
+    same-test (shown (view image s) pos n) (isApart s pos n)
+    (λ e. is-apart s pos n .1 (shown-seen image s bytes pos n fit .0 e)) (λ e. shown-seen image s bytes pos n fit .1 (is-apart s pos n .0 e))
 
-pub readable-window : (image : List ℕ) (s : Stretch) → Bytes image → (pos n : ℕ) → pos + n ≤ length image → readable (view image s) pos n ≡ isApart s pos n
-readable-window image s bytes pos n l =
-    same-test (readable (view image s) pos n) (isApart s pos n)
-    (λ e. is-apart s pos n .1 (readable-seen image s bytes pos n .0 e .1)) (λ e. readable-seen image s bytes pos n .1 (l, is-apart s pos n .0 e))
-
-pub readable-fits : (image : List ℕ) (s : Stretch) (pos n : ℕ) → readable (view image s) pos n ≡ true → pos + n ≤ length image
-unfolding readable
-readable-fits image s pos n e =
-    let p = both (leb (pos + n) (length (view image s))) _ e in
-    omega (arith, leb-true (pos + n) (length (view image s)) (p .0), view-length image s)
-
--- a reference has no target exactly if its bytes pass the image's end or touch the stretch
+-- one of the n bytes from `at` on is withheld
 abbrev pub Touches : ℕ → ℕ → Stretch → Type 0
 Touches at n s = (i : ℕ) × (at ≤ i) × (i < at + n) × Inside s i
 
@@ -108,36 +97,81 @@ apart-or-touches at n s = go (decLt w (at + n)) (decLt w (s .start + s .len))
     go (yes a) (no b) = inl (λ i l m h. omega (arith, b, h .0, h .1))
     go (no a) b = inl (λ i l m h. omega (arith, a, h .0, h .1))
 
+-- the answers for bytes that do not pass the image's end, by the window; and all three, exactly
 module _ (image : List ℕ) (s : Stretch) (bytes : Bytes image) (rules : Rules) (pos : ℕ) (kind : Kind) (offset : ℕ) where
-  pub no-target : (target (view image s) rules pos kind offset ≡ Nowhere) ↔ ((length image < pos + reads kind) ⊎ Touches pos (reads kind) s)
+  abbrev cells : List ℕ
+  cells = view image s
+
+  abbrev n : ℕ
+  n = reads kind
+
+  abbrev led : ℕ
+  led = counted rules (minus (leadsTo rules pos kind (cellAt cells pos) (cellAt cells (pos + 1))) offset)
+
+  by-window : pos + n ≤ length image → (t : Bool) → isApart s pos n ≡ t → target cells rules pos kind offset ≡ (if t then At led else Withheld)
   unfolding target
-  no-target = (λ e. there (readable (view image s) pos (reads kind)) refl e, back (readable (view image s) pos (reads kind)) refl)
+  by-window h t e = rw (le-ltb (length cells) (pos + n) (omega (arith, h, view-length image s)), shown-window image s bytes pos n h ∙ e)
+
+  pub target-withheld : pos + n ≤ length image → isApart s pos n ≡ false → target cells rules pos kind offset ≡ Withheld
+  target-withheld h e = by-window h false e
+
+  pub target-shown : pos + n ≤ length image → isApart s pos n ≡ true → target cells rules pos kind offset ≡ At led
+  target-shown h e = by-window h true e
+
+  -- the three words tell which it is
+  word : Target → ℕ
+  word (At t) = 0
+  word PastEnd = 1
+  word Withheld = 2
+
+  apart : Apart pos n s → isApart s pos n ≡ true
+  apart h = is-apart s pos n .1 h
+
+  touching : Touches pos n s → isApart s pos n ≡ false
+  touching t = go (isApart s pos n) refl
     where
-      n : ℕ
-      n = reads kind
+      go : (b : Bool) → isApart s pos n ≡ b → b ≡ false
+      go true e = absurd (is-apart s pos n .0 e (t .0) (t .1) (t .2) (t .3))
+      go false e = refl
 
-      led : ℕ
-      led = counted rules (minus (leadsTo rules pos kind (cellAt (view image s) pos) (cellAt (view image s) (pos + 1))) offset)
+  beyond : length image < pos + n → target cells rules pos kind offset ≡ PastEnd
+  beyond h = target-past image s rules pos kind offset h
 
-      can : (readable (view image s) pos n ≡ true) ↔ ((pos + n ≤ length image) × Apart pos n s)
-      can = readable-seen image s bytes pos n
+  -- PAST exactly if the bytes pass the image's end
+  pub past-exactly : (target cells rules pos kind offset ≡ PastEnd) ↔ (length image < pos + n)
+  unfolding word
+  past-exactly = (λ e. go (decLe (pos + n) (length image)) (isApart s pos n) refl (ap word e), beyond)
+    where
+      go : Dec (pos + n ≤ length image) → (t : Bool) → isApart s pos n ≡ t → word (target cells rules pos kind offset) ≡ 1 → length image < pos + n
+      go (no h) t p e = omega (arith, h)
+      go (yes h) true p e = let z : _≡_ {A = ℕ} 0 1 = sym (ap word (target-shown h p)) ∙ e in absurd (omega arith)
+      go (yes h) false p e = let z : _≡_ {A = ℕ} 2 1 = sym (ap word (target-withheld h p)) ∙ e in absurd (omega arith)
 
-      why : Dec (pos + n ≤ length image) → Apart pos n s ⊎ Touches pos n s → readable (view image s) pos n ≡ false
-          → (length image < pos + n) ⊎ Touches pos n s
-      why (no l) a e = inl (omega arith)
-      why (yes l) (inl a) e = absurd (false≢true (sym e ∙ can .1 (l, a)))
-      why (yes l) (inr t) e = inr t
+  -- WITHHELD exactly if they do not, and one of them is withheld
+  pub withheld-exactly : (target cells rules pos kind offset ≡ Withheld) ↔ ((pos + n ≤ length image) × Touches pos n s)
+  unfolding word
+  withheld-exactly = (λ e. go (decLe (pos + n) (length image)) (apart-or-touches pos n s) (ap word e), λ h. target-withheld (h .0) (touching (h .1)))
+    where
+      go : Dec (pos + n ≤ length image) → Apart pos n s ⊎ Touches pos n s → word (target cells rules pos kind offset) ≡ 2 → (pos + n ≤ length image) × Touches pos n s
+      go (no h) t e = let z : _≡_ {A = ℕ} 1 2 = sym (ap word (beyond (omega (arith, h)))) ∙ e in absurd (omega arith)
+      go (yes h) (inl p) e = let z : _≡_ {A = ℕ} 0 2 = sym (ap word (target-shown h (apart p))) ∙ e in absurd (omega arith)
+      go (yes h) (inr t) e = (h, t)
 
-      there : (t : Bool) → readable (view image s) pos n ≡ t → (if t then At led else Nowhere) ≡ Nowhere
-          → (length image < pos + n) ⊎ Touches pos n s
-      there true e p = let z : _≡_ {A = ℕ} 0 1 = cc in absurd (omega arith)
-      there false e p = why (decLe (pos + n) (length image)) (apart-or-touches pos n s) e
+  -- so a reference has no target exactly if its bytes pass the image's end or touch the stretch
+  pub no-target : (addressIn (target cells rules pos kind offset) ≡ none) ↔ ((length image < pos + n) ⊎ Touches pos n s)
+  no-target = (λ e. there (decLe (pos + n) (length image)) (apart-or-touches pos n s) e, λ h. back (decLe (pos + n) (length image)) h)
+    where
+      there : Dec (pos + n ≤ length image) → Apart pos n s ⊎ Touches pos n s → addressIn (target cells rules pos kind offset) ≡ none → (length image < pos + n) ⊎ Touches pos n s
+      there (no h) t e = inl (omega (arith, h))
+      there (yes h) (inr t) e = inr t
+      there (yes h) (inl p) e = absurd (none≢some (sym e ∙ ap addressIn (target-shown h (apart p))))
 
-      never : (length image < pos + n) ⊎ Touches pos n s → readable (view image s) pos n ≡ true → ⊥
-      never (inl l) e = omega (arith, l, can .0 e .0)
-      never (inr t) e = can .0 e .1 (t .0) (t .1) (t .2) (t .3)
+      back : Dec (pos + n ≤ length image) → (length image < pos + n) ⊎ Touches pos n s → addressIn (target cells rules pos kind offset) ≡ none
+      back (no h) q = ap addressIn (beyond (omega (arith, h)))
+      back (yes h) (inl l) = absurd (omega (arith, h, l))
+      back (yes h) (inr t) = ap addressIn (target-withheld h (touching t))
 
-      back : (t : Bool) → readable (view image s) pos n ≡ t → (length image < pos + n) ⊎ Touches pos n s
-          → (if t then At led else Nowhere) ≡ Nowhere
-      back true e h = absurd (never h e)
-      back false e h = refl
+-- THE STRETCH: images of one length that agree outside it give one answer, whichever of the three it is
+pub target-alone : (a b : List ℕ) (s : Stretch) → Agree a b s → (rules : Rules) (pos : ℕ) (kind : Kind) (offset : ℕ)
+    → target (view a s) rules pos kind offset ≡ target (view b s) rules pos kind offset
+target-alone a b s h rules pos kind offset = ap (λ cells. target cells rules pos kind offset) (same-view a b s h)

@@ -9,7 +9,7 @@ use Rattle.lent.specs.Lists.{all}
 use Rattle.lent.specs.Parts.{bytesOf}
 use Rattle.image.specs.declared.fixup.Rules.{Rules}
 use Rattle.image.specs.declared.fixup.Target.{Target}
-use Rattle.image.specs.declared.fixup.Target.the-variants.{At, Nowhere}
+use Rattle.image.specs.declared.fixup.Target.the-variants.{At, PastEnd, Withheld}
 use Rattle.image.specs.fixup.Target.{target}
 use Rattle.segments.specs.declared.Goal.{Goal}
 use Rattle.segments.specs.declared.Goal.the-variants as Goal
@@ -28,7 +28,8 @@ isFound library width m heads key name =
 
 -- what a public reference asks: that its name is at the target; without a target it asks nothing, nor does one to a segment
 abbrev pub asksOf : (ℕ → Part → Bool) → Goal → Target → Bool
-asksOf there goal Nowhere = true
+asksOf there goal PastEnd = true
+asksOf there goal Withheld = true
 asksOf there (Goal.Segment number) (At t) = true
 asksOf there (Goal.Name name) (At t) = there t name
 

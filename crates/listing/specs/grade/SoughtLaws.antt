@@ -12,7 +12,7 @@ use Rattle.lent.specs.declared.part.Part.{Part}
 use Rattle.lent.specs.Choice.{if_then_else_}
 use Rattle.lent.specs.Lists.{all, joined, from}
 use Rattle.image.specs.declared.fixup.Target.{Target}
-use Rattle.image.specs.declared.fixup.Target.the-variants.{At, Nowhere}
+use Rattle.image.specs.declared.fixup.Target.the-variants.{At, PastEnd, Withheld}
 use Rattle.segments.specs.declared.Goal.{Goal}
 use Rattle.segments.specs.declared.Goal.the-variants as Goal
 use Rattle.segments.specs.declared.Reference.{Reference}
@@ -61,7 +61,8 @@ module _ (there : ℕ → Part → Bool) (cells : List ℕ) (a : Asked) (positio
 
   one-asks : (valid : Bool) (goal : Goal) (t : Target) → all asks (noteAt valid goal t) ≡ asksOf there goal t
   unfolding all
-  one-asks valid goal Nowhere = refl
+  one-asks valid goal PastEnd = refl
+  one-asks valid goal Withheld = refl
   one-asks valid (Goal.Segment number) (At t) = refl
   one-asks valid (Goal.Name name) (At t) = and-true (there t name)
 

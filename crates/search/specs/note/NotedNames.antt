@@ -1,5 +1,5 @@
 -- What noting the references of a match leaves in lent memory, and whether they hold.
-use Prim.Native.Nat.{ℕ, _+_}
+use Prim.Native.Nat.{ℕ}
 use mathlib.Core.Path.{_≡_}
 use mathlib.Core.Bool.{Bool, true}
 use mathlib.Core.List.{List}
@@ -7,8 +7,6 @@ use Rattle.lent.specs.declared.part.Part.{Part}
 use Rattle.lent.specs.Lists.{one, joined, all}
 use Rattle.tables.specs.declared.fill.Fill.{Fill}
 use Rattle.image.specs.declared.fixup.Rules.{Rules}
-use Rattle.image.specs.declared.fixup.Target.{Target}
-use Rattle.image.specs.fixup.Target.{target}
 use Rattle.segments.specs.declared.Reference.{Reference}
 use Rattle.segments.specs.SegmentLayouts.{referenceLayout}
 use Rattle.segments.specs.Collect.{Collected}
@@ -17,6 +15,7 @@ use Rattle.segments.specs.recalled.Recall.{rowsOf, recalled}
 use Rattle.search_rules.specs.declared.Noted.{Noted}
 use Rattle.search_rules.specs.Search.{Noting, holdsAt, noteAt, note}
 use Rattle.search_rules.specs.SearchRows.{notedSheet}
+use Rattle.search.specs.targets.Seats.{leads}
 use Rattle.search.specs.declared.note.Referred.{Referred}
 
 -- a noted row that is valid now
@@ -30,16 +29,13 @@ Notes library new m heads f m′ heads′ f′ = Takes notedSheet library (note 
 abbrev pub NotesOne : List ℕ → ℕ → Part → Bool → List ℕ → List ℕ → Fill → List ℕ → List ℕ → Fill → Type 0
 NotesOne library at name valid = Notes library (one (record { target = at; name = name; valid = valid }))
 
--- where a reference of a match at a position leads, what it notes, and what some note and whether they hold
+-- what a reference of a match at a position notes, and whether it holds among some segments
 module _ (cells : List ℕ) (rules : Rules) (position : ℕ) where
-  abbrev pub leads : Reference → Target
-  leads r = target cells rules (position + r .place) (r .kind) (r .offset)
-
   abbrev pub notesOf : Bool → Reference → List Noting
-  notesOf valid r = noteAt valid (r .goal) (leads r)
+  notesOf valid r = noteAt valid (r .goal) (leads cells rules position r)
 
   abbrev pub holdsIn : List Collected → Reference → Bool
-  holdsIn gs r = holdsAt cells gs (r .goal) (leads r)
+  holdsIn gs r = holdsAt cells gs (r .goal) (leads cells rules position r)
 
 -- references are gone over: the names are noted, and the answer is whether they hold among the segments that are stored
 pub record Refers (cells : List ℕ) (rules : Rules) (position : ℕ) (valid : Bool) (library segments : List ℕ) (n : ℕ) (bytes masks : List ℕ) (rs : List Reference)

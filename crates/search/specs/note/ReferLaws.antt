@@ -8,7 +8,8 @@ use Rattle.lent.specs.Lists.{one, joined, all}
 use Rattle.lent.specs.ListLaws.{joined-append, joined-end}
 use Rattle.tables.specs.declared.fill.Fill.{Fill}
 use Rattle.image.specs.declared.fixup.Rules.{Rules}
-use Rattle.image.specs.declared.fixup.Target.the-variants.{At, Nowhere}
+use Rattle.image.specs.declared.fixup.Target.{Target}
+use Rattle.image.specs.declared.fixup.Target.the-variants.{At, PastEnd, Withheld}
 use Rattle.segments.specs.declared.SegmentNumber.{SegmentNumber}
 use Rattle.segments.specs.declared.Goal.the-variants as Goal
 use Rattle.segments.specs.declared.Reference.{Reference}
@@ -18,9 +19,9 @@ use Rattle.tables.specs.by_name.TakeLaws.{takes-none, leads-all, lead-on, all-t
 use Rattle.segments.specs.recalled.Recall.{recalled}
 use Rattle.search_rules.specs.Search.{holdsAt, noteAt, note}
 use Rattle.search_rules.specs.SearchRows.{notedSheet}
-use Rattle.search.specs.targets.Seats.{IsMatch}
+use Rattle.search.specs.targets.Seats.{leads, IsMatch}
 use Rattle.search.specs.declared.note.Referred.{Referred}
-use Rattle.search.specs.note.NotedNames.{NotesOne, leads, notesOf, holdsIn, Refers}
+use Rattle.search.specs.note.NotedNames.{NotesOne, notesOf, holdsIn, Refers}
 
 module _ (cells : List ℕ) (rules : Rules) (position : ℕ) (valid : Bool) (library segments : List ℕ) (n : ℕ) (bytes masks : List ℕ) (r : Reference) where
   -- what the only one notes, and whether it holds
@@ -43,11 +44,18 @@ module _ (cells : List ℕ) (rules : Rules) (position : ℕ) (valid : Bool) (lib
         → Takes notedSheet library (note library) (joined (notesOf cells rules position valid) (one r)) (table m heads f) (table m heads f)
     nothing e = subst (λ xs. Takes notedSheet library (note library) xs (table m heads f) (table m heads f)) (sym e) (takes-none notedSheet library (note library) (table m heads f))
 
-    pub refers-nowhere : leads cells rules position r ≡ Nowhere → Refers-to m heads (record { holds = false; fill = f })
-    refers-nowhere e = record {
-      notes = nothing (one-noted ∙ ap (noteAt valid (r .goal)) e);
-      holds = λ references symbols. sym (one-holds (among references symbols) ∙ ap (holdsAt cells (among references symbols) (r .goal)) e);
+    -- without a target nothing is noted and nothing holds, whichever of the two words it is
+    unled : (t : Target) → leads cells rules position r ≡ t → noteAt valid (r .goal) t ≡ [] → ((gs : List Collected) → holdsAt cells gs (r .goal) t ≡ false)
+        → Refers-to m heads (record { holds = false; fill = f })
+    unled t e none fails = record {
+      notes = nothing (one-noted ∙ ap (noteAt valid (r .goal)) e ∙ none);
+      holds = λ references symbols. sym (one-holds (among references symbols) ∙ ap (holdsAt cells (among references symbols) (r .goal)) e ∙ fails (among references symbols));
     }
+
+    pub refers-nowhere : (t : Target) → leads cells rules position r ≡ t → ((at : ℕ) → t ≡ At at → ⊥) → Refers-to m heads (record { holds = false; fill = f })
+    refers-nowhere (At at) e z = absurd (z at refl)
+    refers-nowhere PastEnd e z = unled PastEnd e refl (λ gs. refl)
+    refers-nowhere Withheld e z = unled Withheld e refl (λ gs. refl)
 
     module _ (t : ℕ) (e : leads cells rules position r ≡ At t) where
       pub refers-segment : (number : SegmentNumber) → r .goal ≡ Goal.Segment number → (found : Bool) → IsMatch cells segments n bytes masks number t found

@@ -15,12 +15,11 @@ use Rattle.lent.specs.Members.{_among_, of-keep}
 use Rattle.lent.specs.Parts.{bytesOf}
 use Rattle.image.specs.declared.Stretch.{Stretch}
 use Rattle.image.specs.View.{view}
-use Rattle.image.specs.ViewLaws.{view-length}
 use Rattle.image.specs.declared.fixup.Rules.{Rules}
 use Rattle.image.specs.declared.fixup.Kind.{Kind}
-use Rattle.image.specs.declared.fixup.Target.the-variants.{Nowhere}
-use Rattle.image.specs.fixup.Target.{reads, target}
-use Rattle.image.specs.fixup.TargetLaws.{readable-past}
+use Rattle.image.specs.declared.fixup.Target.the-variants.{PastEnd}
+use Rattle.image.specs.fixup.Target.{target}
+use Rattle.image.specs.fixup.TargetLaws.{target-past}
 use Rattle.image.specs.declared.Seat.{Seat}
 use Rattle.image.specs.declared.Seat.the-variants.{Anywhere, Only}
 use Rattle.image.specs.Match.{matchesAt, tried, matches}
@@ -71,9 +70,8 @@ module _ (cells bytes masks : List ℕ) (at : ℕ) where
       go false e false q = refl
 
 -- past the image's end there is no target
-pub past-target : (image : List ℕ) (s : Stretch) (rules : Rules) (pos : ℕ) (kind : Kind) (offset : ℕ) → length image < pos → target (view image s) rules pos kind offset ≡ Nowhere
-unfolding target
-past-target image s rules pos kind offset h = rw (readable-past (view image s) pos (reads kind) (omega (arith, view-length image s)))
+pub past-target : (image : List ℕ) (s : Stretch) (rules : Rules) (pos : ℕ) (kind : Kind) (offset : ℕ) → length image < pos → target (view image s) rules pos kind offset ≡ PastEnd
+past-target image s rules pos kind offset h = target-past image s rules pos kind offset (omega (arith, h))
 
 -- the matches of the segment of a number, recalled from rows
 module _ (cells segments references symbols bytes masks : List ℕ) (n : ℕ) where

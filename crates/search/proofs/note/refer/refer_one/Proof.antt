@@ -1,10 +1,26 @@
 -- `refer_one`, case by case. Assumes nothing.
-use mathlib.Core.Path.{sym, _∙_}
+use Prim.Native.Nat.{ℕ}
+use mathlib.Core.Path.{_≡_, sym, _∙_}
+use mathlib.Core.Logic.{inl, inr}
+use mathlib.Core.List.{[], _∷_}
+use native.Mathlib.Omega.{arith}
+use denote.Enum.Declared.{tagOf}
+use types.Run.{OneOf}
 use Rattle.image.specs.View.{view}
+use Rattle.image.specs.declared.fixup.Target.{Target}
+use Rattle.image.specs.declared.fixup.Target.the-variants.{At, PastEnd, Withheld}
+use Rattle.image.proofs.fixup.Target.{the-type}
 use Rattle.search.specs.note.ReferLaws.{refers-nowhere, refers-segment, refers-name}
 use borrow.Author.Needs.{needs}
 use Rattle.search.proofs.note.refer.refer_one.Statement.{statement}
 use Rattle.search.proofs.note.refer.refer_one.Tie as tie
+
+-- a target that is past the end or withheld is no address
+nowhere : (t : Target) → OneOf (1 ∷ 2 ∷ []) (tagOf the-type t) → (at : ℕ) → t ≡ At at → ⊥
+nowhere (At x) (inl z) at e = absurd (omega arith)
+nowhere (At x) (inr z) at e = absurd (omega arith)
+nowhere PastEnd h at e = let z : _≡_ {A = ℕ} 0 1 = cc in absurd (omega arith)
+nowhere Withheld h at e = let z : _≡_ {A = ℕ} 0 1 = cc in absurd (omega arith)
 
 -- The ladder: places of the code that the answers cite, each as it is seen from a later place.
 abbrev at-entry : tie.After-target-of → tie.Start
@@ -15,10 +31,11 @@ after-goal2 c = c .before .before .before .before .before .before .before .befor
 
 returns : tie.Need-returns
 returns c =
-    let a = at-entry (c .before .before) .args in
+    let target-of = c .before in
+    let a = at-entry target-of .args in
     refers-nowhere (view (a .image .now) (a .s)) (a .rules) (a .position) (a .valid) (a .library .now) (a .segments .now) (a .n) (a .bytes .now)
     (a .masks .now) (a .r) (a .noted .now) (a .heads .now) (a .f)
-    (sym (c .before .before .target-of .ensures) ∙ c .enum-told .given .1)
+    (target-of .target-of .result) (sym (target-of .target-of .ensures)) (nowhere (target-of .target-of .result) (c .match .keys2))
 
 returns-2 : tie.Need-returns-2
 returns-2 c =
@@ -45,7 +62,6 @@ refer-one-spec =
     tie.close
     (tie.spec
     (λ c κs. search needs)
-    (λ c. search needs)
     (λ c. search needs)
     returns
     (λ c. search needs)

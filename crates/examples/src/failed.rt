@@ -1,0 +1,59 @@
+// Which reference of a match fails first, and why (W-208): a match at 0 whose references lead to a RET, to a name, and to a
+// name by a word of which the image has one byte.
+use crate::show::number;
+use crate::show::say;
+use image::Stretch;
+use image::fixup::Rules;
+use lent::part::Part;
+use search::failed::first_failed;
+use search_rules::Failed;
+use search_rules::Why;
+
+// Segment 0: one byte of a pattern, which may stand anywhere.
+const SEGMENTS: [u64; 8] = [0, 0, 0, 1, 0, 3, 0, 0];
+// Each row: place, kind, offset, and the goal: segment 0, or a name.
+const REFERENCES: [u64; 18] = [0, 4, 0, 0, 0, 0, 2, 2, 0, 1, 0, 0, 5, 4, 0, 1, 0, 0];
+
+fn reason(why: Why) {
+    match why {
+        Why::PastEnd => say(b" past the end"),
+        Why::Withheld => say(b" withheld"),
+        Why::NoMatch => say(b" no match"),
+    }
+}
+
+fn first(image: &[u8], s: Stretch, count: usize) {
+    let part = Part { at: 0, len: count };
+    match first_failed(
+        image,
+        s,
+        Rules::Documented,
+        0,
+        &SEGMENTS,
+        1,
+        &REFERENCES,
+        part,
+        b"\x22",
+        b"\xff",
+    ) {
+        Failed::Nothing => say(b" none"),
+        Failed::Reference { number: n, why } => {
+            number(n);
+            reason(why);
+        }
+    }
+    say(b";");
+}
+
+pub fn first_failures() {
+    let nothing = Stretch { start: 0, len: 0 };
+    let led = b"\x00\x04\x00\x00\x22\x05";
+    say(b"Fails first:");
+    first(led, nothing, 2);
+    first(led, nothing, 3);
+    first(led, Stretch { start: 2, len: 1 }, 3);
+    first(led, Stretch { start: 5, len: 1 }, 3);
+    first(led, Stretch { start: 4, len: 1 }, 3);
+    first(b"\x00\x03\x00\x00\x22\x05", nothing, 3);
+    say(b"\n");
+}

@@ -1,0 +1,74 @@
+-- One reference, case by case; and references one after another, up to the first that fails. Assumes nothing.
+use Prim.Native.Nat.{ℕ, _+_}
+use mathlib.Core.Path.{_≡_, refl, sym, ap, _∙_}
+use mathlib.Core.Bool.{Bool, true, false, not, false≢true}
+use mathlib.Core.List.{List, [], _∷_}
+use mathlib.Core.Option.{Option, none, some}
+use Rattle.lent.specs.declared.part.Part.{Part}
+use Rattle.lent.specs.Choice.{if_then_else_}
+use Rattle.image.specs.declared.fixup.Rules.{Rules}
+use Rattle.image.specs.declared.fixup.Target.{Target}
+use Rattle.image.specs.declared.fixup.Target.the-variants.{At, PastEnd, Withheld}
+use Rattle.segments.specs.declared.SegmentNumber.{SegmentNumber}
+use Rattle.segments.specs.declared.Goal.{Goal}
+use Rattle.segments.specs.declared.Goal.the-variants as Goal
+use Rattle.segments.specs.declared.Reference.{Reference}
+use Rattle.segments.specs.Collect.{Collected}
+use Rattle.segments.specs.recalled.Recall.{recalled}
+use Rattle.search_rules.specs.declared.Why.{Why}
+use Rattle.search_rules.specs.declared.Why.the-variants as Why
+use Rattle.search_rules.specs.declared.Failed.{Failed}
+use Rattle.search_rules.specs.declared.Failed.the-variants as Failed
+use Rattle.search_rules.specs.Search.{failure, failed, failedFrom}
+use Rattle.search_rules.specs.FailedLaws.{isNothing}
+use Rattle.search.specs.targets.Seats.{leads, IsMatch}
+use Rattle.search.specs.failed.Failures.{whyOf, FailsAt}
+
+module _ (cells : List ℕ) (rules : Rules) (position : ℕ) (segments : List ℕ) (n : ℕ) (bytes masks : List ℕ) (k : ℕ) (r : Reference) where
+  -- without a target, whatever the goal
+  pub fails-past : leads cells rules position r ≡ PastEnd → FailsAt cells rules position segments n bytes masks k r (Failed.Reference k Why.PastEnd)
+  fails-past e stored symbols = sym (ap (λ t. failed k (failure cells (recalled segments stored symbols bytes masks n) (r .goal) t) Failed.Nothing) e)
+
+  pub fails-withheld : leads cells rules position r ≡ Withheld → FailsAt cells rules position segments n bytes masks k r (Failed.Reference k Why.Withheld)
+  fails-withheld e stored symbols = sym (ap (λ t. failed k (failure cells (recalled segments stored symbols bytes masks n) (r .goal) t) Failed.Nothing) e)
+
+  -- with one, by the goal
+  module _ (t : ℕ) (e : leads cells rules position r ≡ At t) where
+    by-goal : (goal : Goal) → r .goal ≡ goal → (q : Failed) → ((stored symbols : List ℕ) → q ≡ failed k (failure cells (recalled segments stored symbols bytes masks n) goal (At t)) Failed.Nothing)
+        → FailsAt cells rules position segments n bytes masks k r q
+    by-goal goal g q h stored symbols = rw (e, g) (h stored symbols)
+
+    pub fails-name : (name : Part) → r .goal ≡ Goal.Name name → FailsAt cells rules position segments n bytes masks k r Failed.Nothing
+    fails-name name g = by-goal (Goal.Name name) g Failed.Nothing (λ stored symbols. refl)
+
+    module _ (number : SegmentNumber) (g : r .goal ≡ Goal.Segment number) (found : Bool) (h : IsMatch cells segments n bytes masks number t found) where
+      abbrev answer : Bool → Failed
+      answer b = failed k (if b then none else some Why.NoMatch) Failed.Nothing
+
+      pub fails-found : found ≡ true → FailsAt cells rules position segments n bytes masks k r Failed.Nothing
+      fails-found f = by-goal (Goal.Segment number) g Failed.Nothing (λ stored symbols. ap answer (sym f ∙ h stored symbols))
+
+      pub fails-unmatched : found ≡ false → FailsAt cells rules position segments n bytes masks k r (Failed.Reference k Why.NoMatch)
+      fails-unmatched f = by-goal (Goal.Segment number) g (Failed.Reference k Why.NoMatch) (λ stored symbols. ap answer (sym f ∙ h stored symbols))
+
+-- a step from one reference to the next, by the code's answer on it
+module _ (why : Reference → Option Why) (k : ℕ) (r : Reference) (rest : List Reference) (f : Failed) (is : f ≡ failed k (why r) Failed.Nothing) (out : Bool) (o : out ≡ not (isNothing f)) where
+  pub first-here : {rs : List Reference} → rs ≡ r ∷ rest → out ≡ true → failedFrom why k rs ≡ f
+  unfolding failedFrom
+  first-here e t = rw e (go (why r) is (sym o ∙ t))
+    where
+      go : (w : Option Why) → f ≡ failed k w Failed.Nothing → not (isNothing f) ≡ true → failed k w (failedFrom why (k + 1) rest) ≡ f
+      go none q z = absurd (false≢true (ap (λ x. not (isNothing x)) (sym q) ∙ z))
+      go (some w) q z = sym q
+
+  pub first-later : {rs : List Reference} → rs ≡ r ∷ rest → out ≡ false → failedFrom why k rs ≡ failedFrom why (k + 1) rest
+  unfolding failedFrom
+  first-later e t = rw e (go (why r) is (sym o ∙ t))
+    where
+      go : (w : Option Why) → f ≡ failed k w Failed.Nothing → not (isNothing f) ≡ false → failed k w (failedFrom why (k + 1) rest) ≡ failedFrom why (k + 1) rest
+      go none q z = refl
+      go (some w) q z = absurd (false≢true (sym z ∙ ap (λ x. not (isNothing x)) q))
+
+pub first-none : (why : Reference → Option Why) (k : ℕ) {rs : List Reference} → rs ≡ [] → failedFrom why k rs ≡ Failed.Nothing
+unfolding failedFrom
+first-none why k e = rw e

@@ -1,0 +1,32 @@
+-- Which reference of a match fails first, asked of segments and references that are stored in rows.
+use Prim.Native.Nat.{ℕ}
+use mathlib.Core.Path.{_≡_}
+use mathlib.Core.List.{List}
+use mathlib.Core.Option.{Option}
+use Rattle.lent.specs.declared.part.Part.{Part}
+use Rattle.image.specs.declared.fixup.Rules.{Rules}
+use Rattle.segments.specs.declared.Reference.{Reference}
+use Rattle.segments.specs.Collect.{Collected}
+use Rattle.segments.specs.SegmentLayouts.{referenceLayout}
+use Rattle.segments.specs.recalled.Recall.{rowsOf, recalled}
+use Rattle.search_rules.specs.declared.Why.{Why}
+use Rattle.search_rules.specs.declared.Failed.{Failed}
+use Rattle.search_rules.specs.declared.Failed.the-variants as Failed
+use Rattle.search_rules.specs.Search.{failure, failed, failedFrom}
+use Rattle.search.specs.targets.Seats.{leads}
+
+-- why a reference of a match at a position fails among some segments
+abbrev pub whyOf : List ℕ → Rules → ℕ → List Collected → Reference → Option Why
+whyOf cells rules position gs r = failure cells gs (r .goal) (leads cells rules position r)
+
+-- number k of the references, and the first of a part of the rows; the references and symbols that are stored with the
+-- segments do not matter
+module _ (cells : List ℕ) (rules : Rules) (position : ℕ) (segments : List ℕ) (n : ℕ) where
+  abbrev pub FailsAt : List ℕ → List ℕ → ℕ → Reference → Failed → Type 0
+  FailsAt bytes masks k r q =
+      (stored symbols : List ℕ) → q ≡ failed k (whyOf cells rules position (recalled segments stored symbols bytes masks n) r) Failed.Nothing
+
+  abbrev pub FailsFirst : List ℕ → Part → List ℕ → List ℕ → Failed → Type 0
+  FailsFirst references part bytes masks q =
+      (stored symbols : List ℕ)
+      → q ≡ failedFrom (whyOf cells rules position (recalled segments stored symbols bytes masks n)) 0 (rowsOf referenceLayout references part)
