@@ -22,13 +22,13 @@ use Rattle.run.specs.declared.Counts.{Counts}
 use Rattle.run.specs.declared.Answer.{Answer}
 use Rattle.run.specs.declared.Answer.the-variants.{Done, Refused}
 use Rattle.run.specs.Run.{Lent, Outcome, askedOf, numberOf, countsOf}
-use Rattle.image.specs.View.{view as viewOf}
-use Rattle.omf51.specs.File.{file as fileOf, modulesIn}
-use Rattle.segments.specs.Collect.{collect as collectAll}
+use Rattle.image.specs.View.{view as caseView}
+use Rattle.omf51.specs.File.{file as caseFile, modulesIn}
+use Rattle.segments.specs.Collect.{collect as caseCollect}
 use Rattle.search_rules.specs.declared.Why.the-variants as Why
 use Rattle.search_rules.specs.declared.Failed.{Failed}
 use Rattle.search_rules.specs.declared.Failed.the-variants as Failed
-use Rattle.search_rules.specs.Search.{allMatches as matchesIn, firstFailed as firstOf}
+use Rattle.search_rules.specs.Search.{allMatches as caseMatches, firstFailed as caseFirst}
 """
 
 # How many numbers are lent for the rows of a stage, and for the pattern memory. Much lent memory takes
@@ -117,9 +117,9 @@ caseWhy (Failed.Reference number Why.NoMatch) = 3 * number + 3
 
 abbrev caseFailed : List ℕ → List ℕ → Settings → List ℕ
 caseFailed image library s =
-    let cells = viewOf image (s .stretch) in
-    let gs = collectAll (askedOf s .rules) library (modulesIn (fileOf library)) in
-    map (λ m. caseWhy (firstOf cells (askedOf s) gs m)) (matchesIn cells gs)
+    let cells = caseView image (s .stretch) in
+    let gs = caseCollect (askedOf s .rules) library (modulesIn (caseFile library)) in
+    map (λ m. caseWhy (caseFirst cells (askedOf s) gs m)) (caseMatches cells gs)
 """
 
 UNFOLDABLE = re.compile(r"^\s*unfoldable pub (\S+) :", re.MULTILINE)
