@@ -1,4 +1,4 @@
--- Where a pattern matches, in words, and what the stretch takes away. Assumes nothing.
+-- Where a pattern matches, in words, and what the cover takes away. Assumes nothing.
 use Prim.Native.Nat.{ℕ, _+_, _-_, _≤_, _<_, min}
 use mathlib.Core.Path.{_≡_, refl}
 use mathlib.Core.Logic.{_↔_}
@@ -98,12 +98,12 @@ module _ (cells bytes masks : List ℕ) (at : ℕ) where
       back : matchesAt cells bytes masks at ≡ true → partAgrees cells bytes masks at 0 n ≡ true
       back t = if-every byteAgrees 0 n (λ k l h. matches-at cells bytes masks at .0 t .agree k (omega arith))
 
--- n bytes from a place on share none with the stretch
-abbrev pub Apart : ℕ → ℕ → Stretch → Type 0
+-- n bytes from a place on share none with the cover
+abbrev pub Apart : ℕ → ℕ → List Stretch → Type 0
 Apart at n s = (i : ℕ) → at ≤ i → i < at + n → Inside s i → ⊥
 
--- a pattern matches in the view exactly if it matches in the image and its window shares no byte with the stretch
-module _ (image : List ℕ) (s : Stretch) (bytes masks : List ℕ) (at : ℕ) where
+-- a pattern matches in the view exactly if it matches in the image and its window shares no byte with the cover
+module _ (image : List ℕ) (s : List Stretch) (bytes masks : List ℕ) (at : ℕ) where
   apart : Matches (view image s) bytes masks at → (k : ℕ) → k < length bytes → Inside s (at + k) → ⊥
   apart m k l h =
       let cell = cellAt (view image s) (at + k) in
@@ -120,7 +120,7 @@ module _ (image : List ℕ) (s : Stretch) (bytes masks : List ℕ) (at : ℕ) wh
               fits = omega (arith, m .fits, view-length image s);
               agree = λ k l. rw (view-outside image s (at + k) (apart m k l)) at (m .agree k l);
             }),
-            λ i a b h. apart m (i - at) (omega arith) (omega (arith, h .0, h .1)),
+            λ i a b h. let k : at + (i - at) ≡ i = omega arith in apart m (i - at) (omega arith) (rw k h),
           )
 
       back : (matchesAt image bytes masks at ≡ true) × Apart at (length bytes) s → matchesAt (view image s) bytes masks at ≡ true
@@ -130,9 +130,3 @@ module _ (image : List ℕ) (s : Stretch) (bytes masks : List ℕ) (at : ℕ) wh
             fits = omega (arith, m .fits, view-length image s);
             agree = λ k l. rw (view-outside image s (at + k) (out (at + k) (omega arith) (omega arith))) (m .agree k l);
           })
-
-  -- as an equation, for the code where the window is apart
-  pub seen-apart : Apart at (length bytes) s → matchesAt (view image s) bytes masks at ≡ matchesAt image bytes masks at
-  seen-apart out =
-      same-test (matchesAt (view image s) bytes masks at) (matchesAt image bytes masks at)
-      (λ e. matches-seen .0 e .0) (λ e. matches-seen .1 (e, out))

@@ -9,14 +9,14 @@ use Rattle.image.specs.Match.{matchesAt}
 use Rattle.image.specs.Window.{isApart}
 use Rattle.image.specs.Next.{nextMatch}
 
-pub is-apart-one : (s : Stretch) (at n : ℕ) → Determines (λ r. r ≡ isApart s at n)
+pub is-apart-one : (s : List Stretch) (at n : ℕ) → Determines (λ r. r ≡ isApart s at n)
 is-apart-one s at n = by-equation (isApart s at n)
 
 pub stands-at-one : (image bytes masks : List ℕ) (at : ℕ) → Determines (λ r. r ≡ matchesAt image bytes masks at)
 stands-at-one image bytes masks at = by-equation (matchesAt image bytes masks at)
 
-pub match-at-one : (image : List ℕ) (s : Stretch) (bytes masks : List ℕ) (at : ℕ) → Determines (λ r. r ≡ matchesAt (view image s) bytes masks at)
+pub match-at-one : (image : List ℕ) (s : List Stretch) (bytes masks : List ℕ) (at : ℕ) → Determines (λ r. r ≡ matchesAt (view image s) bytes masks at)
 match-at-one image s bytes masks at = by-equation (matchesAt (view image s) bytes masks at)
 
-pub next-match-one : (image : List ℕ) (s : Stretch) (bytes masks : List ℕ) (from : ℕ) → Determines (λ r. r ≡ nextMatch (view image s) bytes masks from)
+pub next-match-one : (image : List ℕ) (s : List Stretch) (bytes masks : List ℕ) (from : ℕ) → Determines (λ r. r ≡ nextMatch (view image s) bytes masks from)
 next-match-one image s bytes masks from = by-equation (nextMatch (view image s) bytes masks from)

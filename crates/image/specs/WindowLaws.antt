@@ -1,80 +1,137 @@
--- When a window is apart from the stretch, in numbers. Assumes nothing.
-use Prim.Native.Nat.{ℕ, _-_, _≤_, _<_}
-use mathlib.Core.Path.{_≡_, refl, sym, _∙_}
-use mathlib.Core.Logic.{_↔_}
-use mathlib.Core.Bool.{Bool, true, false, not, false≢true}
-use mathlib.Core.List.{List}
+-- When a window is apart from a cover, stretch by stretch and in numbers. Assumes nothing.
+use Prim.Native.Nat.{ℕ, _+_, _-_, _≤_, _<_}
+use mathlib.Core.Path.{_≡_, refl, sym, ap, _∙_}
+use mathlib.Core.Logic.{_↔_, _⊎_, inl, inr}
+use mathlib.Core.Bool.{Bool, true, false, not, _&&_, or-true, and-eq-true-iff, false≢true}
+use mathlib.Core.List.{List, [], _∷_}
 use native.Mathlib.Omega.{arith}
 use native.Mathlib.Decide.{decLe}
 use borrow.Author.Tests.{leb-true, le-leb}
 use lib.Dec.{leb}
-use lib.ListN.{length}
-use Rattle.lent.specs.ChoiceLaws.{same-test}
-use Rattle.lent.specs.Lists.{all, from}
+use lib.ListN.{length, getD, drop, length-drop}
+use Rattle.lent.specs.ChoiceLaws.{either, same-test}
+use Rattle.lent.specs.Lists.{any, all, from}
 use Rattle.lent.specs.ListLaws.{every, if-every}
+use Rattle.lent.specs.PartLaws.{drop-turn}
 use Rattle.image.specs.declared.Stretch.{Stretch}
-use Rattle.image.specs.View.{within, view}
-use Rattle.image.specs.ViewLaws.{within-inside}
-use Rattle.image.specs.MatchLaws.{Apart, matches-seen, seen-apart}
-use Rattle.image.specs.Match.{matchesAt}
-use Rattle.image.specs.Window.{isApart}
+use Rattle.image.specs.View.{inOne, within, stretchesIn}
+use Rattle.image.specs.ViewLaws.{InOne, in-one}
+use Rattle.image.specs.MatchLaws.{Apart}
+use Rattle.image.specs.Window.{isBeside, isApart}
 
-pub is-apart : (s : Stretch) (at n : ℕ) → (isApart s at n ≡ true) ↔ Apart at n s
-unfolding isApart
-is-apart s at n = (there, back)
+-- no place of a window passes a test
+clear-of : (w : ℕ → Bool) (at n : ℕ) → (all (λ i. not (w i)) (from at n) ≡ true) ↔ ((i : ℕ) → at ≤ i → i < at + n → w i ≡ true → ⊥)
+clear-of w at n = (there, back)
   where
     p : ℕ → Bool
-    p i = not (within s i)
+    p i = not (w i)
 
-    there : all p (from at n) ≡ true → Apart at n s
-    there e i l m h = no-both (within s i) (every p at n e i l m) (within-inside s i .1 h)
+    there : all p (from at n) ≡ true → (i : ℕ) → at ≤ i → i < at + n → w i ≡ true → ⊥
+    there e i l m h = no-both (w i) (every p at n e i l m) h
       where
         no-both : (t : Bool) → not t ≡ true → t ≡ true → ⊥
         no-both true a b = false≢true a
         no-both false a b = false≢true b
 
-    back : Apart at n s → all p (from at n) ≡ true
-    back out = if-every p at n (λ i l m. pass (within s i) (λ e. out i l m (within-inside s i .0 e)))
+    back : ((i : ℕ) → at ≤ i → i < at + n → w i ≡ true → ⊥) → all p (from at n) ≡ true
+    back out = if-every p at n (λ i l m. pass (w i) (out i l m))
       where
         pass : (t : Bool) → (t ≡ true → ⊥) → not t ≡ true
         pass true f = absurd (f refl)
         pass false f = refl
 
--- the four answers of the code: an empty window or stretch, a window that begins before the stretch, and one that does not
-pub no-window : (s : Stretch) (at n : ℕ) → n ≡ 0 → isApart s at n ≡ true
-no-window s at n e = is-apart s at n .1 (λ i l m h. omega (arith, e, l, m))
+pub is-apart : (s : List Stretch) (at n : ℕ) → (isApart s at n ≡ true) ↔ Apart at n s
+unfolding isApart
+is-apart s at n = clear-of (within s) at n
 
-pub no-stretch : (s : Stretch) (at n : ℕ) → s .len ≡ 0 → isApart s at n ≡ true
-no-stretch s at n e = is-apart s at n .1 (λ i l m h. omega (arith, e, h .0, h .1))
+-- the same of one stretch, in numbers
+abbrev Beside : ℕ → ℕ → Stretch → Type 0
+Beside at n s = (i : ℕ) → at ≤ i → i < at + n → InOne s i → ⊥
 
-pub window-before : (s : Stretch) (at n : ℕ) → at < s .start → (s .len ≡ 0 → ⊥) → isApart s at n ≡ leb n (s .start - at)
-window-before s at n l z =
-    same-test (isApart s at n) (leb n (s .start - at))
-    (λ e. go (decLe n (s .start - at)) (is-apart s at n .0 e))
-    (λ e. is-apart s at n .1 (λ i a b h. omega (arith, leb-true n (s .start - at) e, h .0, h .1)))
+is-beside : (s : Stretch) (at n : ℕ) → (isBeside s at n ≡ true) ↔ Beside at n s
+unfolding isBeside
+is-beside s at n =
+    let iff = clear-of (inOne s) at n in (
+      (λ e i l m h. iff .0 e i l m (in-one s i .1 h)),
+      λ out. iff .1 (λ i l m h. out i l m (in-one s i .0 h)),
+    )
+
+-- a cover, stretch by stretch
+apart-none : (at n : ℕ) → isApart [] at n ≡ true
+unfolding any
+apart-none at n = is-apart [] at n .1 (λ i l m h. false≢true h)
+
+apart-turn : (s : Stretch) (rest : List Stretch) (at n : ℕ) → isApart (s ∷ rest) at n ≡ (isBeside s at n && isApart rest at n)
+unfolding any
+apart-turn s rest at n =
+    let iff = and-eq-true-iff (isBeside s at n) (isApart rest at n) in
+    same-test (isApart (s ∷ rest) at n) (isBeside s at n && isApart rest at n)
+    (λ e.
+    let out = is-apart (s ∷ rest) at n .0 e in
+    iff .1 (
+      is-beside s at n .1 (λ i l m h. out i l m (rw (in-one s i .1 h))),
+      is-apart rest at n .1 (λ i l m h. out i l m (rw h (or-true (inOne s i)))),
+    ))
+    (λ e. is-apart (s ∷ rest) at n .1
+    (λ i l m h. split i l m (is-beside s at n .0 (iff .0 e .0)) (is-apart rest at n .0 (iff .0 e .1)) (either (inOne s i) (within rest i) h)))
   where
-    go : Dec (n ≤ s .start - at) → Apart at n s → leb n (s .start - at) ≡ true
+    split : (i : ℕ) → at ≤ i → i < at + n → Beside at n s → Apart at n rest → (inOne s i ≡ true) ⊎ (within rest i ≡ true) → ⊥
+    split i l m one others (inl h) = one i l m (in-one s i .0 h)
+    split i l m one others (inr h) = others i l m h
+
+-- the pairs of a lent list from number i on: one more, or none
+few-pairs : (xs : List ℕ) → length xs ≤ 1 → stretchesIn xs ≡ []
+unfolding stretchesIn
+few-pairs [] l = refl
+few-pairs (x ∷ []) l = refl
+few-pairs (x ∷ y ∷ xs) l = absurd (omega arith)
+
+module _ (s : List ℕ) (i : ℕ) where
+  abbrev pub pairAt : Stretch
+  pairAt = record { start = getD s i 0; len = getD s (i + 1) 0 }
+
+  pub pairs-turn : i + 1 < length s → stretchesIn (drop i s) ≡ pairAt ∷ stretchesIn (drop (i + 2) s)
+  unfolding stretchesIn
+  pairs-turn h =
+      let next : i + 1 + 1 ≡ i + 2 = omega arith in
+      rw (drop-turn s i 0 (omega arith), drop-turn s (i + 1) 0 h, next)
+
+  pub pairs-end : length s ≤ i + 1 → stretchesIn (drop i s) ≡ []
+  pairs-end h = few-pairs (drop i s) (omega (arith, length-drop i s))
+
+-- a window by these pairs: the first of them decides, or the others do; with none left the window is apart
+module _ (s : List ℕ) (at n i : ℕ) where
+  pub left-turn : (t : Bool) → i + 1 < length s → isBeside (pairAt s i) at n ≡ t
+      → isApart (stretchesIn (drop i s)) at n ≡ (t && isApart (stretchesIn (drop (i + 2) s)) at n)
+  left-turn t h e = ap (λ c. isApart c at n) (pairs-turn s i h) ∙ apart-turn (pairAt s i) (stretchesIn (drop (i + 2) s)) at n ∙ rw e
+
+  pub left-none : length s ≤ i + 1 → isApart (stretchesIn (drop i s)) at n ≡ true
+  left-none h = ap (λ c. isApart c at n) (pairs-end s i h) ∙ apart-none at n
+
+-- one stretch, by the four answers of the code: an empty window or stretch, a window that begins before the stretch, and one
+-- that does not
+pub no-window : (s : Stretch) (at n : ℕ) → n ≡ 0 → isBeside s at n ≡ true
+no-window s at n e = is-beside s at n .1 (λ i l m h. omega (arith, e, l, m))
+
+pub no-stretch : (s : Stretch) (at n : ℕ) → s .len ≡ 0 → isBeside s at n ≡ true
+no-stretch s at n e = is-beside s at n .1 (λ i l m h. omega (arith, e, h .0, h .1))
+
+pub window-before : (s : Stretch) (at n : ℕ) → at < s .start → (s .len ≡ 0 → ⊥) → isBeside s at n ≡ leb n (s .start - at)
+window-before s at n l z =
+    same-test (isBeside s at n) (leb n (s .start - at))
+    (λ e. go (decLe n (s .start - at)) (is-beside s at n .0 e))
+    (λ e. is-beside s at n .1 (λ i a b h. omega (arith, leb-true n (s .start - at) e, h .0, h .1)))
+  where
+    go : Dec (n ≤ s .start - at) → Beside at n s → leb n (s .start - at) ≡ true
     go (yes h) out = le-leb n (s .start - at) h
     go (no h) out = absurd (out (s .start) (omega arith) (omega arith) (omega arith, omega (arith, z)))
 
-pub window-after : (s : Stretch) (at n : ℕ) → s .start ≤ at → (n ≡ 0 → ⊥) → isApart s at n ≡ leb (s .len) (at - s .start)
+pub window-after : (s : Stretch) (at n : ℕ) → s .start ≤ at → (n ≡ 0 → ⊥) → isBeside s at n ≡ leb (s .len) (at - s .start)
 window-after s at n l z =
-    same-test (isApart s at n) (leb (s .len) (at - s .start))
-    (λ e. go (decLe (s .len) (at - s .start)) (is-apart s at n .0 e))
-    (λ e. is-apart s at n .1 (λ i a b h. omega (arith, leb-true (s .len) (at - s .start) e, h .0, h .1)))
+    same-test (isBeside s at n) (leb (s .len) (at - s .start))
+    (λ e. go (decLe (s .len) (at - s .start)) (is-beside s at n .0 e))
+    (λ e. is-beside s at n .1 (λ i a b h. omega (arith, leb-true (s .len) (at - s .start) e, h .0, h .1)))
   where
-    go : Dec (s .len ≤ at - s .start) → Apart at n s → leb (s .len) (at - s .start) ≡ true
+    go : Dec (s .len ≤ at - s .start) → Beside at n s → leb (s .len) (at - s .start) ≡ true
     go (yes h) out = le-leb (s .len) (at - s .start) h
     go (no h) out = absurd (out at (omega arith) (omega (arith, z)) (omega arith, omega arith))
-
--- what a match in the view is, by the window
-pub apart-match : (image : List ℕ) (s : Stretch) (bytes masks : List ℕ) (at : ℕ) → isApart s at (length bytes) ≡ true
-    → matchesAt (view image s) bytes masks at ≡ matchesAt image bytes masks at
-apart-match image s bytes masks at e = seen-apart image s bytes masks at (is-apart s at (length bytes) .0 e)
-
-pub shared-match : (image : List ℕ) (s : Stretch) (bytes masks : List ℕ) (at : ℕ) → isApart s at (length bytes) ≡ false
-    → matchesAt (view image s) bytes masks at ≡ false
-shared-match image s bytes masks at e =
-    same-test (matchesAt (view image s) bytes masks at) false
-    (λ m. absurd (false≢true (sym e ∙ is-apart s at (length bytes) .1 (matches-seen image s bytes masks at .0 m .1))))
-    (λ m. absurd (false≢true m))

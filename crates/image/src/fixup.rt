@@ -2,10 +2,9 @@
 ghost use mathlib.Core.Path.{_≡_};
 ghost use Prim.Native.Nat.{_+_, _<_};
 ghost use lib.Dec.{ltb};
-ghost use Rattle.image.specs.View.{view, cellAt};
+ghost use Rattle.image.specs.View.{stretchesIn, view, cellAt};
 ghost use Rattle.image.specs.fixup.Target.{signed as signedOf, topBits, addr16 as addr16Of, reads, leadsTo, counted as countedBy, target};
 ghost use Rattle.image.specs.fixup.AddressLaws.{page11};
-use crate::Stretch;
 
 // The two rule sets: 0, as found, and 1, as documented.
 pub enum Rules {
@@ -134,17 +133,17 @@ fn counted(rules: Rules, t: u64) -> u64
 }
 
 // The target of a reference that reads at `pos`: none if its bytes pass the image's end, or, where they do not, touch the
-// stretch; else the address that the bytes give, less the fixup's offset, where the difference wraps at 64 bits, as the
+// cover; else the address that the bytes give, less the fixup's offset, where the difference wraps at 64 bits, as the
 // program counter holds it.
 pub fn find_target(
     image: &[u8],
-    s: Stretch,
+    s: &[u64],
     rules: Rules,
     pos: usize,
     kind: Kind,
     offset: u64,
 ) -> Target
-    ensures { λ r. ⌜ r ≡ target (view (now (image .entry)) s) rules pos kind offset ⌝ }
+    ensures { λ r. ⌜ r ≡ target (view (now (image .entry)) (stretchesIn (now (s .entry)))) rules pos kind offset ⌝ }
 {
     let n = width(kind);
     if passes(image.len(), pos, n) {

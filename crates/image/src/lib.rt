@@ -1,10 +1,13 @@
-// Where a masked pattern matches an image of which a stretch is withheld. The code never builds a view: it compares a
-// window, the bytes under a pattern, with the stretch once, and then reads plain bytes.
+// Where a masked pattern matches an image of which stretches are withheld. The code never builds a view: it reads plain
+// bytes, and where a pattern stands it compares its window, the bytes under it, with the stretches. They are lent as
+// pairs of numbers, a start and a length each.
 ghost use mathlib.Core.Path.{_≡_};
-ghost use Prim.Native.Nat.{_+_, _≤_, min};
-ghost use Rattle.image.specs.View.{view};
+ghost use Prim.Native.Nat.{_+_, _≤_, _<_, min};
+ghost use lib.ListN.{length};
+ghost use Rattle.image.specs.View.{stretchesIn, view};
 ghost use Rattle.image.specs.Match.{matchesAt, partAgrees, Reaches, Agreeing};
-ghost use Rattle.image.specs.Window.{isApart};
+ghost use Rattle.image.specs.Window.{isBeside, isApart};
+ghost use Rattle.image.specs.WindowLaws.{pairAt};
 ghost use Rattle.image.specs.Next.{nextMatch};
 
 pub mod fixup;
@@ -12,7 +15,7 @@ pub mod fixup;
 // The length of the longest image that a run takes.
 pub const LONGEST_IMAGE: usize = 65536;
 
-// The stretch of the image that is withheld: `len` bytes from `start` on.
+// A stretch of the image that is withheld: `len` bytes from `start` on.
 pub struct Stretch {
     pub start: usize,
     pub len: usize,
@@ -37,9 +40,27 @@ fn shorter(a: usize, b: usize) -> usize
     if a < b { a } else { b }
 }
 
-// Whether the n bytes of the image from `at` on share no byte with the stretch. No sum is taken, so that none can wrap.
-pub fn is_apart(s: Stretch, at: usize, n: usize) -> bool
-    ensures { λ r. ⌜ r ≡ isApart s at n ⌝ }
+// A number of 64 bits as a place.
+fn place(x: u64) -> usize
+    ensures { λ r. ⌜ r ≡ x ⌝ }
+{
+    x as usize
+}
+
+// The stretch of a cover whose start is number i of the list.
+fn stretch_at(s: &[u64], i: usize) -> Stretch
+    requires { ⌜ i + 1 < length (now s) ⌝ }
+    ensures { λ r. ⌜ r ≡ pairAt (now (s .entry)) i ⌝ }
+{
+    Stretch {
+        start: place(s[i]),
+        len: place(s[i + 1]),
+    }
+}
+
+// Whether the n bytes of the image from `at` on share no byte with a stretch. No sum is taken, so that none can wrap.
+fn is_beside(s: Stretch, at: usize, n: usize) -> bool
+    ensures { λ r. ⌜ r ≡ isBeside s at n ⌝ }
 {
     let start = s.start;
     let len = s.len;
@@ -53,6 +74,20 @@ pub fn is_apart(s: Stretch, at: usize, n: usize) -> bool
         return n <= start - at;
     }
     len <= at - start
+}
+
+// Whether they share no byte with any stretch of a cover.
+pub fn is_apart(s: &[u64], at: usize, n: usize) -> bool
+    ensures { λ r. ⌜ r ≡ isApart (stretchesIn (now (s .entry))) at n ⌝ }
+{
+    let mut i = 0;
+    while i + 1 < s.len() {
+        if !is_beside(stretch_at(s, i), at, n) {
+            return false;
+        }
+        i += 2;
+    }
+    true
 }
 
 // Whether the first n bytes of a pattern agree with the image at a place, where the first `from` bytes are known to
@@ -127,20 +162,20 @@ pub fn stands_at(image: &[u8], bytes: &[u8], masks: &[u8], at: usize) -> bool
     rest_agrees(image, bytes, masks, at, agreeing, n)
 }
 
-// Whether a pattern matches at a place of the image with a stretch withheld: a window that shares a byte with the
-// stretch does not match.
-pub fn match_at(image: &[u8], s: Stretch, bytes: &[u8], masks: &[u8], at: usize) -> bool
-    ensures { λ r. ⌜ r ≡ matchesAt (view (now (image .entry)) s) (now (bytes .entry)) (now (masks .entry)) at ⌝ }
+// Whether a pattern matches at a place of the image with a cover withheld: a window that shares a byte with the cover
+// does not match. Nearly all places differ in their first bytes, so the stretches are asked last.
+pub fn match_at(image: &[u8], s: &[u64], bytes: &[u8], masks: &[u8], at: usize) -> bool
+    ensures { λ r. ⌜ r ≡ matchesAt (view (now (image .entry)) (stretchesIn (now (s .entry)))) (now (bytes .entry)) (now (masks .entry)) at ⌝ }
 {
-    if is_apart(s, at, bytes.len()) {
-        return stands_at(image, bytes, masks, at);
+    if stands_at(image, bytes, masks, at) {
+        return is_apart(s, at, bytes.len());
     }
     false
 }
 
 // The first match of a pattern at or after the place `from`.
-pub fn next_match(image: &[u8], s: Stretch, bytes: &[u8], masks: &[u8], from: usize) -> FirstPlace
-    ensures { λ r. ⌜ r ≡ nextMatch (view (now (image .entry)) s) (now (bytes .entry)) (now (masks .entry)) from ⌝ }
+pub fn next_match(image: &[u8], s: &[u64], bytes: &[u8], masks: &[u8], from: usize) -> FirstPlace
+    ensures { λ r. ⌜ r ≡ nextMatch (view (now (image .entry)) (stretchesIn (now (s .entry)))) (now (bytes .entry)) (now (masks .entry)) from ⌝ }
 {
     if image.len() < bytes.len() {
         return FirstPlace::Nothing;

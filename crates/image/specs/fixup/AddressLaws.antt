@@ -70,7 +70,7 @@ module _ (rules : Rules) (pos : ℕ) (kind : Kind) (a b r : ℕ) where
   leads-inblock next k p e = rw (k, e, p)
 
 -- the target of bytes that can be read, which are the image's
-module _ (image : List ℕ) (s : Stretch) (bytes : Bytes image) (rules : Rules) (pos : ℕ) (offset : ℕ) where
+module _ (image : List ℕ) (s : List Stretch) (bytes : Bytes image) (rules : Rules) (pos : ℕ) (offset : ℕ) where
   byte : (n : ℕ) → isApart s pos n ≡ true → (i : ℕ) → pos ≤ i → i < pos + n → cellAt (view image s) i ≡ cellAt image i
   byte n e i l m = view-outside image s i (is-apart s pos n .0 e i l m)
 

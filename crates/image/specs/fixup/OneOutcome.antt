@@ -9,6 +9,6 @@ use Rattle.image.specs.declared.fixup.Rules.{Rules}
 use Rattle.image.specs.declared.fixup.Kind.{Kind}
 use Rattle.image.specs.fixup.Target.{target}
 
-pub find-target-one : (image : List ℕ) (s : Stretch) (rules : Rules) (pos : ℕ) (kind : Kind) (offset : ℕ)
+pub find-target-one : (image : List ℕ) (s : List Stretch) (rules : Rules) (pos : ℕ) (kind : Kind) (offset : ℕ)
     → Determines (λ r. r ≡ target (view image s) rules pos kind offset)
 find-target-one image s rules pos kind offset = by-equation (target (view image s) rules pos kind offset)

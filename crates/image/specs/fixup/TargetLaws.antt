@@ -1,13 +1,13 @@
 -- When a reference has a target, and why not. Assumes nothing.
-use Prim.Native.Nat.{ℕ, _+_, _-_, _%_, _≤_, _<_, max}
+use Prim.Native.Nat.{ℕ, zero, suc, _+_, _-_, _%_, _≤_, _<_}
 use mathlib.Core.Path.{_≡_, refl, sym, ap, _∙_}
 use mathlib.Core.Logic.{_↔_, _⊎_, inl, inr}
-use mathlib.Core.Bool.{Bool, true, false, false≢true}
+use mathlib.Core.Bool.{Bool, true, false, not, _&&_, false≢true}
 use mathlib.Core.List.{List}
 use mathlib.Core.Option.{none}
-use native.Mathlib.Decide.{decLe, decLt}
+use native.Mathlib.Decide.{decLe}
 use native.Mathlib.Omega.{arith}
-use borrow.Author.Tests.{ltb-true, lt-ltb, le-ltb}
+use borrow.Author.Tests.{not-false, ltb-true, lt-ltb, le-ltb}
 use lib.ListN.{length}
 use Rattle.lent.specs.Choice.{if_then_else_}
 use Rattle.lent.specs.ChoiceLaws.{same-test}
@@ -15,7 +15,7 @@ use Rattle.lent.specs.FirstOf.{none≢some}
 use Rattle.lent.specs.Lists.{all, from}
 use Rattle.lent.specs.ListLaws.{every, if-every}
 use Rattle.image.specs.declared.Stretch.{Stretch}
-use Rattle.image.specs.View.{view, cellAt, isByte}
+use Rattle.image.specs.View.{within, view, cellAt, isByte}
 use Rattle.image.specs.ViewLaws.{Inside, Agree, same-view, view-length, view-inside, view-outside}
 use Rattle.image.specs.MatchLaws.{Apart}
 use Rattle.image.specs.Window.{isApart}
@@ -35,7 +35,7 @@ pub rules-1 : rulesOf 1 ≡ Documented
 rules-1 = refl
 
 -- bytes that pass the image's end are past it, whatever is withheld
-pub target-past : (image : List ℕ) (s : Stretch) (rules : Rules) (pos : ℕ) (kind : Kind) (offset : ℕ) → length image < pos + reads kind
+pub target-past : (image : List ℕ) (s : List Stretch) (rules : Rules) (pos : ℕ) (kind : Kind) (offset : ℕ) → length image < pos + reads kind
     → target (view image s) rules pos kind offset ≡ PastEnd
 unfolding target
 target-past image s rules pos kind offset h = rw (lt-ltb (length (view image s)) (pos + reads kind) (omega (arith, h, view-length image s)))
@@ -62,8 +62,8 @@ target-within cells pos kind offset t e = go (passes cells pos (reads kind)) (sh
 abbrev pub Bytes : List ℕ → Type 0
 Bytes image = (i : ℕ) → cellAt image i < 256
 
--- of n bytes that do not pass the image's end none is withheld exactly if they share none with the stretch
-pub shown-seen : (image : List ℕ) (s : Stretch) → Bytes image → (pos n : ℕ) → pos + n ≤ length image
+-- of n bytes that do not pass the image's end none is withheld exactly if they share none with the cover
+pub shown-seen : (image : List ℕ) (s : List Stretch) → Bytes image → (pos n : ℕ) → pos + n ≤ length image
     → (shown (view image s) pos n ≡ true) ↔ Apart pos n s
 unfolding shown
 shown-seen image s bytes pos n fit =
@@ -77,28 +77,36 @@ shown-seen image s bytes pos n fit =
           (rw (view-outside image s (pos + k) (h (pos + k) (omega arith) (omega arith))) (bytes (pos + k))))),
     )
 
-shown-window : (image : List ℕ) (s : Stretch) → Bytes image → (pos n : ℕ) → pos + n ≤ length image → shown (view image s) pos n ≡ isApart s pos n
+shown-window : (image : List ℕ) (s : List Stretch) → Bytes image → (pos n : ℕ) → pos + n ≤ length image → shown (view image s) pos n ≡ isApart s pos n
 shown-window image s bytes pos n fit =
     same-test (shown (view image s) pos n) (isApart s pos n)
     (λ e. is-apart s pos n .1 (shown-seen image s bytes pos n fit .0 e)) (λ e. shown-seen image s bytes pos n fit .1 (is-apart s pos n .0 e))
 
 -- one of the n bytes from `at` on is withheld
-abbrev pub Touches : ℕ → ℕ → Stretch → Type 0
+abbrev pub Touches : ℕ → ℕ → List Stretch → Type 0
 Touches at n s = (i : ℕ) × (at ≤ i) × (i < at + n) × Inside s i
 
-pub apart-or-touches : (at n : ℕ) (s : Stretch) → Apart at n s ⊎ Touches at n s
-apart-or-touches at n s = go (decLt w (at + n)) (decLt w (s .start + s .len))
+-- a test that some number of a run does not pass
+not-every : (p : ℕ → Bool) (a n : ℕ) → all p (from a n) ≡ false → (i : ℕ) × (a ≤ i) × (i < a + n) × (p i ≡ false)
+unfolding all from
+not-every p a zero e = absurd (false≢true (sym e))
+not-every p a (suc n) e = go (p a) refl e (not-every p (a + 1) n)
   where
-    w : ℕ
-    w = max at (s .start)
+    go : (t : Bool) → p a ≡ t → (t && all p (from (a + 1) n)) ≡ false → (all p (from (a + 1) n) ≡ false → (i : ℕ) × (a + 1 ≤ i) × (i < a + 1 + n) × (p i ≡ false))
+        → (i : ℕ) × (a ≤ i) × (i < a + suc n) × (p i ≡ false)
+    go true q f rest = let r = rest f in (r .0, omega (arith, r .1), omega (arith, r .2), r .3)
+    go false q f rest = (a, omega arith, omega arith, q)
 
-    go : Dec (w < at + n) → Dec (w < s .start + s .len) → Apart at n s ⊎ Touches at n s
-    go (yes a) (yes b) = inr (w, omega arith, a, (omega arith, b))
-    go (yes a) (no b) = inl (λ i l m h. omega (arith, b, h .0, h .1))
-    go (no a) b = inl (λ i l m h. omega (arith, a, h .0, h .1))
+pub apart-or-touches : (at n : ℕ) (s : List Stretch) → Apart at n s ⊎ Touches at n s
+unfolding isApart
+apart-or-touches at n s = go (isApart s at n) refl
+  where
+    go : (t : Bool) → isApart s at n ≡ t → Apart at n s ⊎ Touches at n s
+    go true e = inl (is-apart s at n .0 e)
+    go false e = let r = not-every (λ i. not (within s i)) at n e in inr (r .0, r .1, r .2, not-false (within s (r .0)) (r .3))
 
 -- the answers for bytes that do not pass the image's end, by the window; and all three, exactly
-module _ (image : List ℕ) (s : Stretch) (bytes : Bytes image) (rules : Rules) (pos : ℕ) (kind : Kind) (offset : ℕ) where
+module _ (image : List ℕ) (s : List Stretch) (bytes : Bytes image) (rules : Rules) (pos : ℕ) (kind : Kind) (offset : ℕ) where
   abbrev cells : List ℕ
   cells = view image s
 
@@ -157,7 +165,7 @@ module _ (image : List ℕ) (s : Stretch) (bytes : Bytes image) (rules : Rules) 
       go (yes h) (inl p) e = let z : _≡_ {A = ℕ} 0 2 = sym (ap word (target-shown h (apart p))) ∙ e in absurd (omega arith)
       go (yes h) (inr t) e = (h, t)
 
-  -- so a reference has no target exactly if its bytes pass the image's end or touch the stretch
+  -- so a reference has no target exactly if its bytes pass the image's end or touch the cover
   pub no-target : (addressIn (target cells rules pos kind offset) ≡ none) ↔ ((length image < pos + n) ⊎ Touches pos n s)
   no-target = (λ e. there (decLe (pos + n) (length image)) (apart-or-touches pos n s) e, λ h. back (decLe (pos + n) (length image)) h)
     where
@@ -171,7 +179,7 @@ module _ (image : List ℕ) (s : Stretch) (bytes : Bytes image) (rules : Rules) 
       back (yes h) (inl l) = absurd (omega (arith, h, l))
       back (yes h) (inr t) = ap addressIn (target-withheld h (touching t))
 
--- THE STRETCH: images of one length that agree outside it give one answer, whichever of the three it is
-pub target-alone : (a b : List ℕ) (s : Stretch) → Agree a b s → (rules : Rules) (pos : ℕ) (kind : Kind) (offset : ℕ)
+-- THE COVER: images of one length that agree outside it give one answer, whichever of the three it is
+pub target-alone : (a b : List ℕ) (s : List Stretch) → Agree a b s → (rules : Rules) (pos : ℕ) (kind : Kind) (offset : ℕ)
     → target (view a s) rules pos kind offset ≡ target (view b s) rules pos kind offset
 target-alone a b s h rules pos kind offset = ap (λ cells. target cells rules pos kind offset) (same-view a b s h)
