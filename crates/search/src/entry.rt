@@ -1,6 +1,6 @@
 // The entry point of the search.
 ghost use mathlib.Core.Path.{_≡_};
-ghost use Rattle.image.specs.View.{view};
+ghost use Rattle.image.specs.View.{stretchesIn, view};
 ghost use Rattle.search.specs.visit.Visits.{stored};
 ghost use Rattle.search.specs.Outcome.{searchZeroed, Searches};
 use crate::SearchCounts;
@@ -8,7 +8,6 @@ use crate::Searched;
 use crate::fill::fill_rows;
 use crate::fill::lacks_room;
 use image::LONGEST_IMAGE;
-use image::Stretch;
 use lent::refusal::Refusal;
 use lent::rows::clear;
 use lent::rows::clear_bytes;
@@ -36,13 +35,13 @@ pub fn clear_all(
     clear(noted);
 }
 
-// Searches the image, of which the stretch `s` is withheld, for the first n segments in the five lists of the
+// Searches the image, of which the stretches `s` are withheld, for the first n segments in the five lists of the
 // collection, and writes rows of placed symbols and of noted names. Names are parts of `library`. An image that is too
 // long is refused, and nothing is written; if there are too few rows all seven lists are left zero. The contract speaks
 // of heads, `positions` and `goals`, that are blank before, and lead to the rows afterwards.
 pub fn search(
     image: &[u8],
-    s: Stretch,
+    s: &[u64],
     asked: Asked,
     library: &[u8],
     n: usize,
@@ -56,7 +55,7 @@ pub fn search(
     positions: &mut [u32],
     goals: &mut [u32],
 ) -> Searched
-    ensures { λ r. ⌜ Searches (view (now (image .entry)) s) asked (now (library .entry)) n
+    ensures { λ r. ⌜ Searches (view (now (image .entry)) (stretchesIn (now (s .entry)))) asked (now (library .entry)) n
         (record { stored = stored (now (segments .entry)) (now (references .entry)) (now (symbols .entry)) (now (bytes .entry)) (now (masks .entry)); placed = now (placed .entry); noted = now (noted .entry) }) (now (positions .entry)) (now (goals .entry))
         (record { answer = r; left = record { stored = stored (now (segments .exit)) (now (references .exit)) (now (symbols .exit)) (now (bytes .exit)) (now (masks .exit)); placed = now (placed .exit); noted = now (noted .exit) } }) (now (positions .exit)) (now (goals .exit)) ⌝ }
 {

@@ -1,12 +1,11 @@
 // Which reference of a match fails first, and why. Nothing is noted here, and nothing written.
 ghost use mathlib.Core.Path.{_≡_};
 ghost use mathlib.Core.Bool.{not};
-ghost use Rattle.image.specs.View.{view};
+ghost use Rattle.image.specs.View.{stretchesIn, view};
 ghost use Rattle.search_rules.specs.FailedLaws.{isNothing};
 ghost use Rattle.search.specs.failed.Failures.{FailsAt, FailsFirst};
 use crate::targets::is_match;
 use crate::targets::target_of;
-use image::Stretch;
 use image::fixup::Rules;
 use image::fixup::Target;
 use lent::part::Part;
@@ -32,7 +31,7 @@ pub fn is_failed(f: Failed) -> bool
 // image's end or are withheld, or its segment does not match at the target. The parameters are those of `first_failed`.
 fn failed_at(
     image: &[u8],
-    s: Stretch,
+    s: &[u64],
     rules: Rules,
     position: usize,
     segments: &[u64],
@@ -42,7 +41,7 @@ fn failed_at(
     k: usize,
     r: Reference,
 ) -> Failed
-    ensures { λ q. ⌜ FailsAt (view (now (image .entry)) s) rules position (now (segments .entry)) n (now (bytes .entry)) (now (masks .entry)) k r q ⌝ }
+    ensures { λ q. ⌜ FailsAt (view (now (image .entry)) (stretchesIn (now (s .entry)))) rules position (now (segments .entry)) n (now (bytes .entry)) (now (masks .entry)) k r q ⌝ }
 {
     let goal = r.goal;
     match target_of(image, s, rules, position, r) {
@@ -69,11 +68,11 @@ fn failed_at(
     }
 }
 
-// The first reference in a part of the rows that fails, for a match at `position`, and why. The image with its stretch `s`
+// The first reference in a part of the rows that fails, for a match at `position`, and why. The image with its stretches `s`
 // gives the targets; the first n segments, with `bytes` and `masks`, tell what matches there.
 pub fn first_failed(
     image: &[u8],
-    s: Stretch,
+    s: &[u64],
     rules: Rules,
     position: usize,
     segments: &[u64],
@@ -83,7 +82,7 @@ pub fn first_failed(
     bytes: &[u8],
     masks: &[u8],
 ) -> Failed
-    ensures { λ q. ⌜ FailsFirst (view (now (image .entry)) s) rules position (now (segments .entry)) n (now (references .entry)) part (now (bytes .entry)) (now (masks .entry)) q ⌝ }
+    ensures { λ q. ⌜ FailsFirst (view (now (image .entry)) (stretchesIn (now (s .entry)))) rules position (now (segments .entry)) n (now (references .entry)) part (now (bytes .entry)) (now (masks .entry)) q ⌝ }
 {
     let at = part.at;
     let len = part.len;

@@ -3,13 +3,12 @@ ghost use mathlib.Core.Path.{_≡_};
 ghost use mathlib.Core.Bool.{_||_};
 ghost use Prim.Native.Nat.{_≤_};
 ghost use lib.ListN.{length};
-ghost use Rattle.image.specs.View.{view};
+ghost use Rattle.image.specs.View.{stretchesIn, view};
 ghost use Rattle.search.specs.visit.Visits.{stored};
 ghost use Rattle.search.specs.Fills.{FillsRows};
 use crate::byte_index::index::index;
 use crate::visit::Fills;
 use crate::visit::all::search_all;
-use image::Stretch;
 use lent::rows::clear;
 use search_rules::Asked;
 use tables::fill::Fill;
@@ -30,11 +29,11 @@ pub fn lacks_room(f: Fills) -> bool
 }
 
 // Fills the rows of placed symbols and of noted names from all matches of the first n segments. The heads of both kinds
-// of rows, `positions` and `goals`, are to be blank. The image with the stretch `s`, what is asked, the library and the
+// of rows, `positions` and `goals`, are to be blank. The image with the stretches `s`, what is asked, the library and the
 // five lists of the collection are only read. A short image takes a small table of links.
 pub fn fill_rows(
     image: &[u8],
-    s: Stretch,
+    s: &[u64],
     asked: Asked,
     library: &[u8],
     segments: &[u64],
@@ -49,7 +48,7 @@ pub fn fill_rows(
     goals: &mut [u32],
 ) -> Fills
     requires { ⌜ length (now image) ≤ 65536 ⌝ }
-    ensures { λ r. ⌜ FillsRows (view (now (image .entry)) s) asked (now (library .entry)) (stored (now (segments .entry)) (now (references .entry)) (now (symbols .entry)) (now (bytes .entry)) (now (masks .entry))) n
+    ensures { λ r. ⌜ FillsRows (view (now (image .entry)) (stretchesIn (now (s .entry)))) asked (now (library .entry)) (stored (now (segments .entry)) (now (references .entry)) (now (symbols .entry)) (now (bytes .entry)) (now (masks .entry))) n
         (now (placed .entry)) (now (positions .entry)) (now (noted .entry)) (now (goals .entry)) (now (placed .exit)) (now (positions .exit)) (now (noted .exit)) (now (goals .exit)) r ⌝ }
 {
     if image.len() <= SHORT_IMAGE {
@@ -95,7 +94,7 @@ pub fn fill_rows(
 // The same with a table of links, `next`: makes the byte index of the image there, and goes over the segments.
 fn fill_along(
     image: &[u8],
-    s: Stretch,
+    s: &[u64],
     asked: Asked,
     library: &[u8],
     segments: &[u64],
@@ -111,7 +110,7 @@ fn fill_along(
     goals: &mut [u32],
 ) -> Fills
     requires { ⌜ (length (now image) ≤ 65536) × (length (now image) ≤ length (now next)) ⌝ }
-    ensures { λ r. ⌜ FillsRows (view (now (image .entry)) s) asked (now (library .entry)) (stored (now (segments .entry)) (now (references .entry)) (now (symbols .entry)) (now (bytes .entry)) (now (masks .entry))) n
+    ensures { λ r. ⌜ FillsRows (view (now (image .entry)) (stretchesIn (now (s .entry)))) asked (now (library .entry)) (stored (now (segments .entry)) (now (references .entry)) (now (symbols .entry)) (now (bytes .entry)) (now (masks .entry))) n
         (now (placed .entry)) (now (positions .entry)) (now (noted .entry)) (now (goals .entry)) (now (placed .exit)) (now (positions .exit)) (now (noted .exit)) (now (goals .exit)) r ⌝ }
 {
     clear(placed);

@@ -1,11 +1,11 @@
 // The matches of a pattern, one after another, ascending.
+ghost use Rattle.image.specs.View.{stretchesIn};
 ghost use Rattle.search.specs.byte_index.Index.{Heads};
 ghost use Rattle.search.specs.matches.Cursor.{Walk, Search, Started, Stepped};
 ghost use Rattle.search.specs.declared.matches.MatchCursor.the-variants.{Along};
 use crate::byte_index::anchor::anchor;
 use image::FirstPlace;
 use image::Seat;
-use image::Stretch;
 use image::match_at;
 use image::next_match;
 
@@ -57,7 +57,7 @@ pub fn start(image: &[u8], seat: Seat, bytes: &[u8], masks: &[u8], first: &[u32]
 // The next match, found along the links (`next`) of the anchor's byte from the link `from` on.
 fn step_along(
     image: &[u8],
-    s: Stretch,
+    s: &[u64],
     bytes: &[u8],
     masks: &[u8],
     next: &[u32],
@@ -65,7 +65,7 @@ fn step_along(
     from: u32,
 ) -> Next
     requires { ⌜ Walk (now image) (now bytes) (now masks) (now next) anchor from ⌝ }
-    ensures { λ r. ⌜ Stepped (now (image .entry)) s (now (bytes .entry)) (now (masks .entry)) (Along anchor from) r ⌝ }
+    ensures { λ r. ⌜ Stepped (now (image .entry)) (stretchesIn (now (s .entry))) (now (bytes .entry)) (now (masks .entry)) (Along anchor from) r ⌝ }
 {
     let mut link = from;
     while link != 0 {
@@ -84,17 +84,17 @@ fn step_along(
     Next::Done
 }
 
-// The next match of a pattern from a cursor on, with the stretch `s` of the image withheld.
+// The next match of a pattern from a cursor on, with the stretches `s` of the image withheld.
 pub fn next_place(
     image: &[u8],
-    s: Stretch,
+    s: &[u64],
     bytes: &[u8],
     masks: &[u8],
     next: &[u32],
     c: MatchCursor,
 ) -> Next
     requires { ⌜ Search (now image) (now bytes) (now masks) (now next) c ⌝ }
-    ensures { λ r. ⌜ Stepped (now (image .entry)) s (now (bytes .entry)) (now (masks .entry)) c r ⌝ }
+    ensures { λ r. ⌜ Stepped (now (image .entry)) (stretchesIn (now (s .entry))) (now (bytes .entry)) (now (masks .entry)) c r ⌝ }
 {
     match c {
         MatchCursor::Along { anchor, link } => step_along(

@@ -5,11 +5,10 @@ ghost use mathlib.Core.Bool.{not};
 ghost use lib.Dec.{eqb, leb};
 ghost use lib.ListN.{length};
 ghost use Rattle.lent.specs.Lists.{keep};
-ghost use Rattle.image.specs.View.{view};
+ghost use Rattle.image.specs.View.{stretchesIn, view};
 ghost use Rattle.image.specs.fixup.Target.{target};
 ghost use Rattle.search.specs.targets.Seats.{mayStand, IsMatch};
 use image::Seat;
-use image::Stretch;
 use image::fixup::Rules;
 use image::fixup::Target;
 use image::fixup::find_target;
@@ -21,8 +20,8 @@ use segments::rows::segment_at;
 
 // The target of a reference of a match at `position`. A reference that reads past the image's end has none, which is
 // found before any sum is taken that could wrap.
-pub fn target_of(image: &[u8], s: Stretch, rules: Rules, position: usize, r: Reference) -> Target
-    ensures { λ t. ⌜ t ≡ target (view (now (image .entry)) s) rules (position + r .place) (r .kind) (r .offset) ⌝ }
+pub fn target_of(image: &[u8], s: &[u64], rules: Rules, position: usize, r: Reference) -> Target
+    ensures { λ t. ⌜ t ≡ target (view (now (image .entry)) (stretchesIn (now (s .entry)))) rules (position + r .place) (r .kind) (r .offset) ⌝ }
 {
     let place = r.place;
     let kind = r.kind;
@@ -49,7 +48,7 @@ fn may_stand(seat: Seat, at: usize) -> bool
 // number that is not below n has no segment, and so no match.
 pub fn is_match(
     image: &[u8],
-    s: Stretch,
+    s: &[u64],
     segments: &[u64],
     n: usize,
     bytes: &[u8],
@@ -57,7 +56,7 @@ pub fn is_match(
     number: SegmentNumber,
     at: u64,
 ) -> bool
-    ensures { λ r. ⌜ IsMatch (view (now (image .entry)) s) (now (segments .entry)) n (now (bytes .entry)) (now (masks .entry)) number at r ⌝ }
+    ensures { λ r. ⌜ IsMatch (view (now (image .entry)) (stretchesIn (now (s .entry)))) (now (segments .entry)) n (now (bytes .entry)) (now (masks .entry)) number at r ⌝ }
 {
     let i = number.0;
     if n <= i {

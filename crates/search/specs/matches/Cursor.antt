@@ -48,7 +48,7 @@ Sound image bytes masks Over = Unit
 -- at the start all matches are left, whatever is withheld
 pub record Started (image : List ℕ) (seat : Seat) (bytes masks : List ℕ) (c : MatchCursor) : Type 0 where
   pub sound : Sound image bytes masks c
-  pub all : (s : Stretch) → placesLeft (view image s) bytes masks c ≡ matches (view image s) seat bytes masks
+  pub all : (s : List Stretch) → placesLeft (view image s) bytes masks c ≡ matches (view image s) seat bytes masks
 
 -- what a step needs
 pub record Walk (image bytes masks next : List ℕ) (anchor link : ℕ) : Type 0 where
@@ -60,11 +60,11 @@ pub record Search (image bytes masks next : List ℕ) (c : MatchCursor) : Type 0
   pub sound : Sound image bytes masks c
 
 -- what a step leaves: the first of the matches left and a search of the others, or none was left
-pub record Reached (image : List ℕ) (s : Stretch) (bytes masks : List ℕ) (c : MatchCursor) (at : ℕ) (rest : MatchCursor) : Type 0 where
+pub record Reached (image : List ℕ) (s : List Stretch) (bytes masks : List ℕ) (c : MatchCursor) (at : ℕ) (rest : MatchCursor) : Type 0 where
   pub places : placesLeft (view image s) bytes masks c ≡ at ∷ placesLeft (view image s) bytes masks rest
   pub matched : matchesAt (view image s) bytes masks at ≡ true
   pub sound : Sound image bytes masks rest
 
-abbrev pub Stepped : List ℕ → Stretch → List ℕ → List ℕ → MatchCursor → Next → Type 0
+abbrev pub Stepped : List ℕ → List Stretch → List ℕ → List ℕ → MatchCursor → Next → Type 0
 Stepped image s bytes masks c (At at rest) = Reached image s bytes masks c at rest
 Stepped image s bytes masks c Done = placesLeft (view image s) bytes masks c ≡ []

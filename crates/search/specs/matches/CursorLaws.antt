@@ -57,7 +57,7 @@ module _ (image : List ℕ) (byte : ℕ) where
   pub link-leads : (j : ℕ) → LeadsFrom j (linkFrom image byte j)
   link-leads j = leads-from (length image - j) j refl
 
-module _ (image : List ℕ) (s : Stretch) (bytes masks : List ℕ) (anchor : ℕ) (a : Anchor bytes masks anchor) where
+module _ (image : List ℕ) (s : List Stretch) (bytes masks : List ℕ) (anchor : ℕ) (a : Anchor bytes masks anchor) where
   abbrev cells : List ℕ
   cells = view image s
 

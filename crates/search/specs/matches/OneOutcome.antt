@@ -12,7 +12,7 @@ use Rattle.search.specs.matches.Cursor.{placesLeft, Started, Stepped}
 
 -- `start`: the matches left
 pub start-one : (image : List ℕ) (seat : Seat) (bytes masks : List ℕ) (a b : MatchCursor) → Started image seat bytes masks a → Started image seat bytes masks b
-    → (s : Stretch) → placesLeft (view image s) bytes masks a ≡ placesLeft (view image s) bytes masks b
+    → (s : List Stretch) → placesLeft (view image s) bytes masks a ≡ placesLeft (view image s) bytes masks b
 start-one image seat bytes masks a b p q s = p .all s ∙ sym (q .all s)
 
 -- `next_place`: the match and those left after it
@@ -20,7 +20,7 @@ abbrev leaves : List ℕ → List ℕ → List ℕ → Next → List ℕ
 leaves cells bytes masks (At at rest) = at ∷ placesLeft cells bytes masks rest
 leaves cells bytes masks Done = []
 
-module _ (image : List ℕ) (s : Stretch) (bytes masks : List ℕ) (c : MatchCursor) where
+module _ (image : List ℕ) (s : List Stretch) (bytes masks : List ℕ) (c : MatchCursor) where
   stepped-leaves : (r : Next) → Stepped image s bytes masks c r → placesLeft (view image s) bytes masks c ≡ leaves (view image s) bytes masks r
   stepped-leaves (At at rest) p = p .places
   stepped-leaves Done p = p

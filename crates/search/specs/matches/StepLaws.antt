@@ -56,7 +56,7 @@ abbrev pub ahead : List ℕ → ℕ → ℕ
 ahead image link = if eqb link 0 then 0 else length image + 1 - link
 
 -- a step along the links of the anchor's byte
-module _ (image : List ℕ) (s : Stretch) (bytes masks next : List ℕ) (anchor link : ℕ) (n : Nexts image next) (w : SoundAlong image bytes masks anchor link) where
+module _ (image : List ℕ) (s : List Stretch) (bytes masks next : List ℕ) (anchor link : ℕ) (n : Nexts image next) (w : SoundAlong image bytes masks anchor link) where
   abbrev left : ℕ → List ℕ
   left to = leftAlong (view image s) bytes masks anchor to
 
@@ -142,7 +142,7 @@ module _ (cells bytes masks : List ℕ) where
   listed : (from : ℕ) {f : FirstPlace} → nextMatch cells bytes masks from ≡ f → Listed from f
   listed from e = subst (Listed from) e (listed-from (length cells + 1 - from) from refl)
 
-module _ (image : List ℕ) (s : Stretch) (bytes masks : List ℕ) where
+module _ (image : List ℕ) (s : List Stretch) (bytes masks : List ℕ) where
   pub plain-at : (from at : ℕ) → nextMatch (view image s) bytes masks from ≡ FoundAt at → Reached image s bytes masks (Plain from) at (Plain (at + 1))
   plain-at from at e = let l = listed (view image s) bytes masks from e in record { places = l .0; matched = l .1; sound = tt }
 

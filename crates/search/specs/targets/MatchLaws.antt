@@ -70,7 +70,7 @@ module _ (cells bytes masks : List ℕ) (at : ℕ) where
       go false e false q = refl
 
 -- past the image's end there is no target
-pub past-target : (image : List ℕ) (s : Stretch) (rules : Rules) (pos : ℕ) (kind : Kind) (offset : ℕ) → length image < pos → target (view image s) rules pos kind offset ≡ PastEnd
+pub past-target : (image : List ℕ) (s : List Stretch) (rules : Rules) (pos : ℕ) (kind : Kind) (offset : ℕ) → length image < pos → target (view image s) rules pos kind offset ≡ PastEnd
 past-target image s rules pos kind offset h = target-past image s rules pos kind offset (omega (arith, h))
 
 -- the matches of the segment of a number, recalled from rows

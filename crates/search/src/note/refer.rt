@@ -1,12 +1,11 @@
 // The references of a match are gone over in file order.
 ghost use Rattle.lent.specs.Lists.{one};
-ghost use Rattle.image.specs.View.{view};
+ghost use Rattle.image.specs.View.{stretchesIn, view};
 ghost use Rattle.search.specs.note.NotedNames.{Refers, RefersAll};
 use crate::note::Referred;
 use crate::note::name::note_name;
 use crate::targets::is_match;
 use crate::targets::target_of;
-use image::Stretch;
 use image::fixup::Rules;
 use image::fixup::Target;
 use lent::part::Part;
@@ -22,7 +21,7 @@ use tables::fill::Fill;
 // The parameters are those of `refer_all`.
 fn refer_one(
     image: &[u8],
-    s: Stretch,
+    s: &[u64],
     rules: Rules,
     position: usize,
     valid: bool,
@@ -36,7 +35,7 @@ fn refer_one(
     heads: &mut [u32],
     f: Fill,
 ) -> Referred
-    ensures { λ q. ⌜ Refers (view (now (image .entry)) s) rules position valid (now (library .entry)) (now (segments .entry)) n (now (bytes .entry)) (now (masks .entry)) (one r)
+    ensures { λ q. ⌜ Refers (view (now (image .entry)) (stretchesIn (now (s .entry)))) rules position valid (now (library .entry)) (now (segments .entry)) n (now (bytes .entry)) (now (masks .entry)) (one r)
         (now (noted .entry)) (now (heads .entry)) f (now (noted .exit)) (now (heads .exit)) q ⌝ }
 {
     let goal = r.goal;
@@ -58,12 +57,12 @@ fn refer_one(
     }
 }
 
-// Goes over the references in a part of the rows, for a match at `position`. The image with its stretch `s` gives the
+// Goes over the references in a part of the rows, for a match at `position`. The image with its stretches `s` gives the
 // targets; the first n segments, with `bytes` and `masks`, tell what matches there; names, parts of `library`, go into
 // `noted`, whose rows are found by `heads` and filled up to `before`.
 pub fn refer_all(
     image: &[u8],
-    s: Stretch,
+    s: &[u64],
     rules: Rules,
     position: usize,
     valid: bool,
@@ -78,7 +77,7 @@ pub fn refer_all(
     heads: &mut [u32],
     before: Fill,
 ) -> Referred
-    ensures { λ q. ⌜ RefersAll (view (now (image .entry)) s) rules position valid (now (library .entry)) (now (segments .entry)) n (now (references .entry)) part (now (bytes .entry)) (now (masks .entry))
+    ensures { λ q. ⌜ RefersAll (view (now (image .entry)) (stretchesIn (now (s .entry)))) rules position valid (now (library .entry)) (now (segments .entry)) n (now (references .entry)) part (now (bytes .entry)) (now (masks .entry))
         (now (noted .entry)) (now (heads .entry)) before (now (noted .exit)) (now (heads .exit)) q ⌝ }
 {
     let mut holds = true;

@@ -1,18 +1,17 @@
 // All segments, by their numbers.
-ghost use Rattle.image.specs.View.{view};
+ghost use Rattle.image.specs.View.{stretchesIn, view};
 ghost use Rattle.search.specs.byte_index.Index.{Indexed};
 ghost use Rattle.search.specs.visit.Visits.{stored, VisitsAll};
 use crate::visit::Fills;
 use crate::visit::segment::search_segment;
-use image::Stretch;
 use search_rules::Asked;
 
-// Searches the image, with its stretch `s`, for each of the first n segments in the five lists of the collection.
+// Searches the image, with its stretches `s`, for each of the first n segments in the five lists of the collection.
 // `first` and `next` are the byte index of the image. The two lists of the search, `placed` and `noted`, are filled
 // from `before` on; their rows are found by the heads in `positions` and `goals`. Names are parts of `library`.
 pub fn search_all(
     image: &[u8],
-    s: Stretch,
+    s: &[u64],
     asked: Asked,
     library: &[u8],
     segments: &[u64],
@@ -30,7 +29,7 @@ pub fn search_all(
     before: Fills,
 ) -> Fills
     requires { ⌜ Indexed (now image) (now first) (now next) ⌝ }
-    ensures { λ r. ⌜ VisitsAll (view (now (image .entry)) s) asked (now (library .entry)) (stored (now (segments .entry)) (now (references .entry)) (now (symbols .entry)) (now (bytes .entry)) (now (masks .entry))) n
+    ensures { λ r. ⌜ VisitsAll (view (now (image .entry)) (stretchesIn (now (s .entry)))) asked (now (library .entry)) (stored (now (segments .entry)) (now (references .entry)) (now (symbols .entry)) (now (bytes .entry)) (now (masks .entry))) n
         (now (placed .entry)) (now (positions .entry)) (now (noted .entry)) (now (goals .entry)) before (now (placed .exit)) (now (positions .exit)) (now (noted .exit)) (now (goals .exit)) r ⌝ }
 {
     let mut f = before;

@@ -1,12 +1,11 @@
 // One match: its references are gone over in file order, and then its symbols are placed.
 ghost use mathlib.Core.Path.{_≡_};
 ghost use mathlib.Core.Bool.{_&&_, not};
-ghost use Rattle.image.specs.View.{view};
+ghost use Rattle.image.specs.View.{stretchesIn, view};
 ghost use Rattle.search.specs.visit.Visits.{stored, VisitsMatch};
 use crate::note::refer::refer_all;
 use crate::place::place_symbols;
 use crate::visit::Fills;
-use image::Stretch;
 use search_rules::Asked;
 use segments::SegmentNumber;
 use segments::SegmentRow;
@@ -31,7 +30,7 @@ fn fills(placed: Fill, noted: Fill) -> Fills
 // are those of `search_all`.
 pub fn visit_match(
     image: &[u8],
-    s: Stretch,
+    s: &[u64],
     asked: Asked,
     library: &[u8],
     segments: &[u64],
@@ -50,7 +49,7 @@ pub fn visit_match(
     goals: &mut [u32],
     f: Fills,
 ) -> Fills
-    ensures { λ r. ⌜ VisitsMatch (view (now (image .entry)) s) asked (now (library .entry)) (stored (now (segments .entry)) (now (references .entry)) (now (symbols .entry)) (now (bytes .entry)) (now (masks .entry))) n number row valid at
+    ensures { λ r. ⌜ VisitsMatch (view (now (image .entry)) (stretchesIn (now (s .entry)))) asked (now (library .entry)) (stored (now (segments .entry)) (now (references .entry)) (now (symbols .entry)) (now (bytes .entry)) (now (masks .entry))) n number row valid at
         (now (placed .entry)) (now (positions .entry)) (now (noted .entry)) (now (goals .entry)) f (now (placed .exit)) (now (positions .exit)) (now (noted .exit)) (now (goals .exit)) r ⌝ }
 {
     let rules = asked.rules;

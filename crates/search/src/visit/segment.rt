@@ -1,5 +1,5 @@
 // All matches of one segment, ascending.
-ghost use Rattle.image.specs.View.{view};
+ghost use Rattle.image.specs.View.{stretchesIn, view};
 ghost use Rattle.search.specs.byte_index.Index.{Indexed};
 ghost use Rattle.search.specs.visit.Visits.{stored, VisitsSegment};
 use crate::matches::Next;
@@ -8,7 +8,6 @@ use crate::matches::start;
 use crate::targets::reaches;
 use crate::visit::Fills;
 use crate::visit::matched::visit_match;
-use image::Stretch;
 use lent::names::name;
 use search_rules::Asked;
 use segments::SegmentNumber;
@@ -18,7 +17,7 @@ use segments::rows::segment_at;
 // nothing, wherever it matches, and is not searched for. The other parameters are those of `search_all`.
 pub fn search_segment(
     image: &[u8],
-    s: Stretch,
+    s: &[u64],
     asked: Asked,
     library: &[u8],
     segments: &[u64],
@@ -37,7 +36,7 @@ pub fn search_segment(
     before: Fills,
 ) -> Fills
     requires { ⌜ Indexed (now image) (now first) (now next) ⌝ }
-    ensures { λ r. ⌜ VisitsSegment (view (now (image .entry)) s) asked (now (library .entry)) (stored (now (segments .entry)) (now (references .entry)) (now (symbols .entry)) (now (bytes .entry)) (now (masks .entry))) n i
+    ensures { λ r. ⌜ VisitsSegment (view (now (image .entry)) (stretchesIn (now (s .entry)))) asked (now (library .entry)) (stored (now (segments .entry)) (now (references .entry)) (now (symbols .entry)) (now (bytes .entry)) (now (masks .entry))) n i
         (now (placed .entry)) (now (positions .entry)) (now (noted .entry)) (now (goals .entry)) before (now (placed .exit)) (now (positions .exit)) (now (noted .exit)) (now (goals .exit)) r ⌝ }
 {
     let row = segment_at(segments, i);

@@ -1,6 +1,6 @@
 -- `failed_at`, case by case. Assumes nothing.
 use mathlib.Core.Path.{sym, _∙_}
-use Rattle.image.specs.View.{view}
+use Rattle.image.specs.View.{stretchesIn, view}
 use Rattle.search.specs.failed.FailureLaws.{fails-past, fails-withheld, fails-name, fails-found, fails-unmatched}
 use borrow.Author.Needs.{needs}
 use Rattle.search.proofs.failed.failed_at.Statement.{statement}
@@ -8,7 +8,7 @@ use Rattle.search.proofs.failed.failed_at.Tie as tie
 
 -- The ladder: places of the code that the answers cite, each as it is seen from a later place.
 abbrev at-entry : tie.After-target-of → tie.Start
-at-entry c = c .before .before .before .before .before
+at-entry c = c .before .before .before .before .before .before
 
 abbrev after-t : tie.After-is-match → tie.After-t
 after-t c = c .before .before .before .before .before
@@ -17,7 +17,7 @@ returns : tie.Need-returns
 returns c =
     let t = c .before .before .before in
     let a = at-entry (t .before .before) .args in
-    fails-name (view (a .image .now) (a .s)) (a .rules) (a .position) (a .segments .now) (a .n) (a .bytes .now) (a .masks .now) (a .k) (a .r)
+    fails-name (view (a .image .now) (stretchesIn (a .s .now))) (a .rules) (a .position) (a .segments .now) (a .n) (a .bytes .now) (a .masks .now) (a .k) (a .r)
     (t .t .given .0 .0) (sym (t .before .before .target-of .ensures) ∙ t .t .given .1) (c .enum-told3 .given .0 .0) (c .enum-told3 .given .1)
 
 returns-2 : tie.Need-returns-2
@@ -25,20 +25,20 @@ returns-2 c =
     let goal = c .before .before .before in
     let t = after-t (c .before) in
     let a = at-entry (t .before .before) .args in
-    fails-found (view (a .image .now) (a .s)) (a .rules) (a .position) (a .segments .now) (a .n) (a .bytes .now) (a .masks .now) (a .k) (a .r)
+    fails-found (view (a .image .now) (stretchesIn (a .s .now))) (a .rules) (a .position) (a .segments .now) (a .n) (a .bytes .now) (a .masks .now) (a .k) (a .r)
     (t .t .given .0 .0) (sym (t .before .before .target-of .ensures) ∙ t .t .given .1) (goal .goal .given .0 .0) (goal .goal .given .1)
     (c .before .is-match .result) (c .before .is-match .ensures) (c .if1 .taken)
 
 returns-3 : tie.Need-returns-3
 returns-3 c =
     let a = at-entry (c .before .before) .args in
-    fails-past (view (a .image .now) (a .s)) (a .rules) (a .position) (a .segments .now) (a .n) (a .bytes .now) (a .masks .now) (a .k) (a .r)
+    fails-past (view (a .image .now) (stretchesIn (a .s .now))) (a .rules) (a .position) (a .segments .now) (a .n) (a .bytes .now) (a .masks .now) (a .k) (a .r)
     (sym (c .before .before .target-of .ensures) ∙ c .enum-told .given .1)
 
 returns-4 : tie.Need-returns-4
 returns-4 c =
     let a = at-entry (c .before .before) .args in
-    fails-withheld (view (a .image .now) (a .s)) (a .rules) (a .position) (a .segments .now) (a .n) (a .bytes .now) (a .masks .now) (a .k) (a .r)
+    fails-withheld (view (a .image .now) (stretchesIn (a .s .now))) (a .rules) (a .position) (a .segments .now) (a .n) (a .bytes .now) (a .masks .now) (a .k) (a .r)
     (sym (c .before .before .target-of .ensures) ∙ c .enum-told2 .given .1)
 
 returns-5 : tie.Need-returns-5
@@ -46,7 +46,7 @@ returns-5 c =
     let goal = c .before .before .before in
     let t = after-t (c .before) in
     let a = at-entry (t .before .before) .args in
-    fails-unmatched (view (a .image .now) (a .s)) (a .rules) (a .position) (a .segments .now) (a .n) (a .bytes .now) (a .masks .now) (a .k) (a .r)
+    fails-unmatched (view (a .image .now) (stretchesIn (a .s .now))) (a .rules) (a .position) (a .segments .now) (a .n) (a .bytes .now) (a .masks .now) (a .k) (a .r)
     (t .t .given .0 .0) (sym (t .before .before .target-of .ensures) ∙ t .t .given .1) (goal .goal .given .0 .0) (goal .goal .given .1)
     (c .before .is-match .result) (c .before .is-match .ensures) (c .if1 .left)
 

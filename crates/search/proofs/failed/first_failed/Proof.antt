@@ -8,7 +8,7 @@ use native.Mathlib.Omega.{arith}
 use lib.ListN.{length}
 use Rattle.lent.specs.declared.part.Part.{Part}
 use Rattle.image.specs.declared.Stretch.{Stretch}
-use Rattle.image.specs.View.{view}
+use Rattle.image.specs.View.{stretchesIn, view}
 use Rattle.image.specs.declared.fixup.Rules.{Rules}
 use Rattle.segments.specs.declared.Reference.{Reference}
 use Rattle.segments.specs.SegmentLayouts.{referenceLayout}
@@ -22,21 +22,21 @@ use borrow.Author.Needs.{needs}
 use Rattle.search.proofs.failed.first_failed.Statement.{statement}
 use Rattle.search.proofs.failed.first_failed.Tie as tie
 
-record Inv (image : List ℕ) (s : Stretch) (rules : Rules) (position : ℕ) (segments : List ℕ) (n : ℕ) (references bytes masks : List ℕ) (part : Part) (k : ℕ) : Type 0 where
+record Inv (image : List ℕ) (s : List Stretch) (rules : Rules) (position : ℕ) (segments : List ℕ) (n : ℕ) (references bytes masks : List ℕ) (part : Part) (k : ℕ) : Type 0 where
   within : k ≤ part .len
   left : (stored symbols : List ℕ) → failedFrom (whyOf (view image s) rules position (recalled segments stored symbols bytes masks n)) 0 (rowsFrom referenceLayout references part 0)
       ≡ failedFrom (whyOf (view image s) rules position (recalled segments stored symbols bytes masks n)) k (rowsFrom referenceLayout references part k)
 
 abbrev Inv-loop : tie.InvT-loop
 Inv-loop image s rules position segments n references bytes masks at len k₀ k =
-    Inv image s rules position segments n references bytes masks (record { at = at; len = len }) k
+    Inv image (stretchesIn s) rules position segments n references bytes masks (record { at = at; len = len }) k
 
 abbrev μ-loop : tie.MeasureT-loop
 μ-loop image s rules position segments n references bytes masks at len k₀ k = len - k
 
 -- The ladder: places of the code that the answers cite, each as it is seen from a later place.
 abbrev at-entry : tie.After-lies-within Inv-loop μ-loop → tie.Start Inv-loop μ-loop
-at-entry c = c .before .before .before .before .before .before
+at-entry c = c .before .before .before .before .before .before .before
 
 abbrev at-in-loop : tie.After-is-failed Inv-loop μ-loop → tie.In-loop Inv-loop μ-loop
 at-in-loop c = c .before .before .before
@@ -51,7 +51,7 @@ fits c =
 returns : tie.Need-returns Inv-loop μ-loop
 returns c stored symbols =
     let a = at-entry (c .before) .args in
-    sym (first-none (whyOf (view (a .image .now) (a .s)) (a .rules) (a .position) (recalled (a .segments .now) stored symbols (a .bytes .now) (a .masks .now) (a .n))) 0
+    sym (first-none (whyOf (view (a .image .now) (stretchesIn (a .s .now))) (a .rules) (a .position) (recalled (a .segments .now) stored symbols (a .bytes .now) (a .masks .now) (a .n))) 0
     (rows-past referenceLayout (a .references .now) (a .part) (c .before .lies-within .result) (c .before .lies-within .ensures) (c .if1 .taken)))
 
 loop-holds : tie.Need-loop-holds Inv-loop μ-loop
@@ -68,7 +68,8 @@ returns-2 c stored symbols =
     let a = at-entry lies-within .args in
     let l = in-loop .before .loop in
     let r = failed-at .before .reference-at in
-    let why : Reference → Option Why = whyOf (view (a .image .now) (a .s)) (a .rules) (a .position) (recalled (a .segments .now) stored symbols (a .bytes .now) (a .masks .now) (a .n)) in
+    let why : Reference → Option Why = whyOf (view (a .image .now) (stretchesIn (a .s .now))) (a .rules) (a .position)
+    (recalled (a .segments .now) stored symbols (a .bytes .now) (a .masks .now) (a .n)) in
     sym (ap (failedFrom why 0) (rows-within referenceLayout (a .references .now) (a .part) (lies-within .lies-within .result) (lies-within .lies-within .ensures) (in-loop .before .before .if1 .left))
     ∙ l .inv .left stored symbols
     ∙ first-here why (l .k) (r .result) (rowsFrom referenceLayout (a .references .now) (a .part) (l .k + 1)) (failed-at .failed-at .result) (failed-at .failed-at .ensures stored symbols)
@@ -95,7 +96,8 @@ loop-again c =
     record {
       within = omega (arith, in-loop .loop-test .taken);
       left = λ stored symbols.
-          let why : Reference → Option Why = whyOf (view (a .image .now) (a .s)) (a .rules) (a .position) (recalled (a .segments .now) stored symbols (a .bytes .now) (a .masks .now) (a .n)) in
+          let why : Reference → Option Why = whyOf (view (a .image .now) (stretchesIn (a .s .now))) (a .rules) (a .position)
+          (recalled (a .segments .now) stored symbols (a .bytes .now) (a .masks .now) (a .n)) in
           l .inv .left stored symbols
           ∙ first-later why (l .k) (r .result) (rowsFrom referenceLayout (a .references .now) (a .part) (l .k + 1)) (failed-at .failed-at .result) (failed-at .failed-at .ensures stored symbols)
           (c .before .is-failed .result) (c .before .is-failed .ensures)
@@ -109,7 +111,8 @@ returns-3 c stored symbols =
     let lies-within = c .before .before .before in
     let a = at-entry lies-within .args in
     let l = c .before .loop in
-    let why : Reference → Option Why = whyOf (view (a .image .now) (a .s)) (a .rules) (a .position) (recalled (a .segments .now) stored symbols (a .bytes .now) (a .masks .now) (a .n)) in
+    let why : Reference → Option Why = whyOf (view (a .image .now) (stretchesIn (a .s .now))) (a .rules) (a .position)
+    (recalled (a .segments .now) stored symbols (a .bytes .now) (a .masks .now) (a .n)) in
     sym (ap (failedFrom why 0) (rows-within referenceLayout (a .references .now) (a .part) (lies-within .lies-within .result) (lies-within .lies-within .ensures) (c .before .before .if1 .left))
     ∙ l .inv .left stored symbols
     ∙ first-none why (l .k) (rows-end referenceLayout (a .references .now) (a .part) (l .k) (omega (arith, c .loop-test .left))))

@@ -1,6 +1,6 @@
 -- `fill_along`: rows are cleared, the image is indexed, and all segments are searched. Assumes nothing.
 use mathlib.Core.Path.{_∙_}
-use Rattle.image.specs.View.{view}
+use Rattle.image.specs.View.{stretchesIn, view}
 use Rattle.search.specs.visit.Visits.{stored}
 use Rattle.search.specs.FillLaws.{rows-filled, zeros-ready}
 use borrow.Author.Needs.{needs}
@@ -8,35 +8,40 @@ use Rattle.search.proofs.fill.fill_along.Statement.{statement}
 use Rattle.search.proofs.fill.fill_along.Tie as tie
 
 -- The ladder: places of the code that the answers cite, each as it is seen from a later place.
-abbrev at-entry : tie.After-placed → tie.Start
+abbrev at-entry : tie.After-clear → tie.Start
 at-entry c = c .before .before .before .before .before .before .before .before .before .before .before .before .before .before .before
 
-abbrev after-clear2 : tie.After-search-all-arg → tie.After-clear2
-after-clear2 c = c .before .before .before .before .before .before .before .before .before .before .before
+abbrev after-byte-heads : tie.After-first3 → tie.After-byte-heads
+after-byte-heads c = c .before .before .before .before .before .before .before
 
 abbrev after-placed2 : tie.After-slice-known12 → tie.After-placed2
 after-placed2 c = c .before .before .before .before .before .before .before
 
 abbrev after-placed : tie.After-slice-known12 → tie.After-placed
-after-placed c = after-clear2 (after-placed2 c .before .before .before .before .before .before) .before .before .before
+after-placed c = after-byte-heads (after-placed2 c .before .before .before .before .before .before .before) .before .before .before .before .before .before
 
 index-requires : tie.Need-index-requires
 index-requires c κs =
     let byte-heads = c .before .before in
-    let entry = at-entry (byte-heads .before .before .before .before .before .before) in
+    let entry = at-entry (byte-heads .before .before .before .before .before .before .before) in
     zeros-ready (entry .args .image .now) (byte-heads .byte-heads .result) (entry .args .next .now) (entry .pre .0) (entry .pre .1) (byte-heads .byte-heads .ensures)
 
 same-length-2 : tie.Need-same-length-2
 same-length-2 c = after-placed2 c .placed2 .given ∙ after-placed c .placed .given
 
+same-length-4 : tie.Need-same-length-4
+same-length-4 c =
+    let byte-heads = after-byte-heads (after-placed2 c .before .before .before .before .before .before .before) in
+    c .before .before .before .noted2 .given ∙ byte-heads .before .before .noted .given
+
 returns : tie.Need-returns
 returns c =
     let placed2 = after-placed2 c in
-    let clear2 = after-clear2 (placed2 .before .before .before .before .before .before) in
+    let clear2 = after-byte-heads (placed2 .before .before .before .before .before .before .before) .before .before .before in
     let clear = after-placed c .before in
-    let a = at-entry (after-placed c) .args in
+    let a = at-entry clear .args in
     let v = placed2 .before .search-all in
-    rows-filled (view (a .image .now) (a .s)) (a .asked) (a .library .now)
+    rows-filled (view (a .image .now) (stretchesIn (a .s .now))) (a .asked) (a .library .now)
     (stored (a .segments .now) (a .references .now) (a .symbols .now) (a .bytes .now) (a .masks .now)) (a .n)
     (a .placed .now) (a .positions .now) (a .noted .now) (a .goals .now) (clear .clear .last .0) (clear2 .clear2 .last .0)
     (v .last .1 .1 .1 .1 .1 .1 .1 .1 .1 .1 .1 .1 .0) (v .last .1 .1 .1 .1 .1 .1 .1 .1 .1 .1 .1 .1 .1 .0)
@@ -57,6 +62,6 @@ fill-along-spec =
     (λ c. search needs)
     same-length-2
     (λ c. search needs)
-    (λ c. search needs)
+    same-length-4
     (λ c. search needs)
     returns)

@@ -1,4 +1,5 @@
 -- `next_place` by the case of the cursor. Assumes nothing.
+use Rattle.image.specs.View.{stretchesIn}
 use Prim.Native.Nat.{_+_}
 use mathlib.Core.Path.{sym, subst, _∙_}
 use native.Mathlib.Omega.{arith}
@@ -13,64 +14,70 @@ use Rattle.search.proofs.matches.next_place.Statement.{statement}
 use Rattle.search.proofs.matches.next_place.Tie as tie
 
 -- The ladder: places of the code that the answers cite, each as it is seen from a later place.
-abbrev at-entry : tie.After-next-match → tie.Start
-at-entry c = c .before .before .before .before .before .before .before .before
+abbrev at-entry : tie.After-shared-slice-known5 → tie.Start
+at-entry c = c .before .before .before .before .before
 
 -- a match by trying each place
-plain : (c : tie.After-at) → let a = at-entry (c .before .before) .args in
+plain : (c : tie.After-at) → let a = at-entry (c .before .before .before .before .before .before) .args in
     let at = c .at .given .0 .0 in
-    Reached (a .image .now) (a .s) (a .bytes .now) (a .masks .now) (Plain (c .before .before .before .before .c2 .given .0 .0)) at (Plain (at + 1))
+    Reached (a .image .now) (stretchesIn (a .s .now)) (a .bytes .now) (a .masks .now) (Plain (c .before .before .before .before .c2 .given .0 .0)) at (Plain (at + 1))
 plain c =
-    let a = at-entry (c .before .before) .args in
-    plain-at (a .image .now) (a .s) (a .bytes .now) (a .masks .now) (c .before .before .before .before .c2 .given .0 .0) (c .at .given .0 .0)
+    let a = at-entry (c .before .before .before .before .before .before) .args in
+    plain-at (a .image .now) (stretchesIn (a .s .now)) (a .bytes .now) (a .masks .now) (c .before .before .before .before .c2 .given .0 .0) (c .at .given .0 .0)
     (sym (c .before .before .next-match .ensures) ∙ c .at .given .1)
 
 step-along-requires : tie.Need-step-along-requires
 step-along-requires c κs =
-    let entry = c .before .before .before .before .before .before .before in
+    let entry = at-entry (c .before .before .before) in
     let a = entry .args in
     record { nexts = entry .pre .nexts; sound = subst (Sound (a .image .now) (a .bytes .now) (a .masks .now)) (c .before .c .given .1) (entry .pre .sound) }
 
 add-t15 : tie.Need-add-t15
 add-t15 c =
-    let entry = at-entry (c .before .before .before) in
+    let entry = at-entry (c .before .before .before .before .before .before .before) in
     let a = entry .args in
-    omega (arith, reached-fits (a .image .now) (a .s) (a .bytes .now) (a .masks .now) (Plain (c .before .before .before .before .before .c2 .given .0 .0)) (plain (c .before)), entry .good .0)
+    omega (
+      arith,
+      reached-fits (a .image .now) (stretchesIn (a .s .now)) (a .bytes .now) (a .masks .now)
+          (Plain (c .before .before .before .before .before .c2 .given .0 .0)) (plain (c .before)),
+      entry .good .0,
+    )
 
 returns : tie.Need-returns
 returns c =
     let c3 = c .before .before .before in
-    let a = c3 .before .before .before .before .before .before .args in
+    let a = at-entry (c3 .before .before) .args in
     let at = c3 .c3 .given .0 .0 in
-    subst (λ (x : MatchCursor). Reached (a .image .now) (a .s) (a .bytes .now) (a .masks .now) x at Over) (sym (c3 .c3 .given .1))
-    (once-at (a .image .now) (a .s) (a .bytes .now) (a .masks .now) at (sym (c .before .match-at .ensures) ∙ c .if1 .taken))
+    subst (λ (x : MatchCursor). Reached (a .image .now) (stretchesIn (a .s .now)) (a .bytes .now) (a .masks .now) x at Over) (sym (c3 .c3 .given .1))
+    (once-at (a .image .now) (stretchesIn (a .s .now)) (a .bytes .now) (a .masks .now) at (sym (c .before .match-at .ensures) ∙ c .if1 .taken))
 
 returns-2 : tie.Need-returns-2
 returns-2 c =
-    let a = c .before .before .before .before .before .before .before .before .args in
-    subst (λ (x : MatchCursor). Stepped (a .image .now) (a .s) (a .bytes .now) (a .masks .now) x (c .step-along .result)) (sym (c .before .before .c .given .1)) (c .step-along .ensures)
+    let a = at-entry (c .before .before .before .before) .args in
+    subst (λ (x : MatchCursor). Stepped (a .image .now) (stretchesIn (a .s .now)) (a .bytes .now) (a .masks .now) x (c .step-along .result))
+    (sym (c .before .before .c .given .1)) (c .step-along .ensures)
 
 returns-3 : tie.Need-returns-3
 returns-3 c =
-    let a = at-entry (c .before .before .before) .args in
+    let a = at-entry (c .before .before .before .before .before .before .before) .args in
     let at = c .before .at .given .0 .0 in
-    subst (λ (x : MatchCursor). Reached (a .image .now) (a .s) (a .bytes .now) (a .masks .now) x at (Plain (at + 1)))
+    subst (λ (x : MatchCursor). Reached (a .image .now) (stretchesIn (a .s .now)) (a .bytes .now) (a .masks .now) x at (Plain (at + 1)))
     (sym (c .before .before .before .before .before .c2 .given .1)) (plain (c .before))
 
 returns-4 : tie.Need-returns-4
 returns-4 c =
     let c2 = c .before .before .before .before in
-    let a = at-entry (c .before .before) .args in
-    subst (λ (x : MatchCursor). Stepped (a .image .now) (a .s) (a .bytes .now) (a .masks .now) x Done) (sym (c2 .c2 .given .1))
-    (plain-done (a .image .now) (a .s) (a .bytes .now) (a .masks .now) (c2 .c2 .given .0 .0) (sym (c .before .before .next-match .ensures) ∙ c .enum-told .given .1))
+    let a = at-entry (c2 .before .before) .args in
+    subst (λ (x : MatchCursor). Stepped (a .image .now) (stretchesIn (a .s .now)) (a .bytes .now) (a .masks .now) x Done) (sym (c2 .c2 .given .1))
+    (plain-done (a .image .now) (stretchesIn (a .s .now)) (a .bytes .now) (a .masks .now) (c2 .c2 .given .0 .0) (sym (c .before .before .next-match .ensures) ∙ c .enum-told .given .1))
 
 returns-5 : tie.Need-returns-5
 returns-5 c =
     let c3 = c .before .before .before in
-    let a = c3 .before .before .before .before .before .before .args in
+    let a = at-entry (c3 .before .before) .args in
     let at = c3 .c3 .given .0 .0 in
-    subst (λ (x : MatchCursor). Stepped (a .image .now) (a .s) (a .bytes .now) (a .masks .now) x Done) (sym (c3 .c3 .given .1))
-    (once-done (a .image .now) (a .s) (a .bytes .now) (a .masks .now) at (sym (c .before .match-at .ensures) ∙ c .if1 .left))
+    subst (λ (x : MatchCursor). Stepped (a .image .now) (stretchesIn (a .s .now)) (a .bytes .now) (a .masks .now) x Done) (sym (c3 .c3 .given .1))
+    (once-done (a .image .now) (stretchesIn (a .s .now)) (a .bytes .now) (a .masks .now) at (sym (c .before .match-at .ensures) ∙ c .if1 .left))
 
 pub next-place-spec : {M : Type 1} → statement M
 next-place-spec =

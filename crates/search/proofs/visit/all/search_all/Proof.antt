@@ -5,7 +5,7 @@ use mathlib.Core.List.{List}
 use native.Mathlib.Omega.{arith}
 use lib.ListN.{length}
 use Rattle.lent.specs.Lists.{joined, from}
-use Rattle.image.specs.View.{view}
+use Rattle.image.specs.View.{stretchesIn, view}
 use Rattle.search_rules.specs.declared.Asked.{Asked}
 use Rattle.search.specs.declared.visit.Fills.{Fills}
 use Rattle.search.specs.visit.Visits.{Stored, stored, segmentsIn, Visits}
@@ -27,14 +27,14 @@ record Inv (cells : List ℕ) (asked : Asked) (library : List ℕ) (t : Stored) 
 
 abbrev Inv-loop : tie.InvT-loop
 Inv-loop image s asked library segments n references symbols bytes masks first next placed₀ positions₀ noted₀ goals₀ f₀ i₀ placed positions noted
-    goals f i = Inv (view image s) asked library (stored segments references symbols bytes masks) n placed₀ positions₀ noted₀ goals₀ f₀ placed positions noted goals f i
+    goals f i = Inv (view image (stretchesIn s)) asked library (stored segments references symbols bytes masks) n placed₀ positions₀ noted₀ goals₀ f₀ placed positions noted goals f i
 
 abbrev μ-loop : tie.MeasureT-loop
 μ-loop image s asked library segments n references symbols bytes masks first next placed₀ positions₀ noted₀ goals₀ f₀ i₀ placed positions noted goals f i = n - i
 
 -- The ladder: places of the code that the answers cite, each as it is seen from a later place.
 abbrev at-entry : tie.After-slice-known4 Inv-loop μ-loop → tie.Start Inv-loop μ-loop
-at-entry c = c .before .before .before .before .before .before .before .before .before .before .before .before .before
+at-entry c = c .before .before .before .before .before .before .before .before .before .before .before .before .before .before
 
 abbrev at-in-loop : tie.After-placed Inv-loop μ-loop → tie.In-loop Inv-loop μ-loop
 at-in-loop c = c .before .before .before .before .before .before
@@ -46,7 +46,7 @@ abbrev rows : tie.Start Inv-loop μ-loop → Stored
 rows c = stored (c .args .segments .now) (c .args .references .now) (c .args .symbols .now) (c .args .bytes .now) (c .args .masks .now)
 
 abbrev seen : tie.Start Inv-loop μ-loop → List ℕ
-seen c = view (c .args .image .now) (c .args .s)
+seen c = view (c .args .image .now) (stretchesIn (c .args .s .now))
 
 loop-holds : tie.Need-loop-holds Inv-loop μ-loop
 loop-holds c =

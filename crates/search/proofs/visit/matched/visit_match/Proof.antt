@@ -4,7 +4,7 @@ use mathlib.Core.Path.{sym, subst}
 use mathlib.Core.List.{List, map}
 use lib.ListN.{length}
 use Rattle.lent.specs.Lists.{one}
-use Rattle.image.specs.View.{view}
+use Rattle.image.specs.View.{stretchesIn, view}
 use Rattle.image.specs.ViewLaws.{view-length}
 use Rattle.segments.specs.SegmentLayouts.{symbolLayout}
 use Rattle.tables.specs.by_name.Tables.{table, Takes}
@@ -21,11 +21,14 @@ use Rattle.search.proofs.visit.matched.visit_match.Statement.{statement
 use Rattle.search.proofs.visit.matched.visit_match.Tie as tie
 
 -- The ladder: places of the code that the answers cite, each as it is seen from a later place.
-abbrev after-shared-slice-known5 : tie.After-noted → tie.After-shared-slice-known5
-after-shared-slice-known5 c = c .before .before .before .before .before .before .before .before .before .before .before .before
+abbrev after-refer-all : tie.After-keeps-out → tie.After-refer-all
+after-refer-all c = c .before .before .before .before .before .before
 
-abbrev after-noted : tie.After-keeps-out → tie.After-noted
-after-noted c = c .before .before .before .before .before
+abbrev after-slice-known3 : tie.After-keeps-out → tie.After-slice-known3
+after-slice-known3 c = after-refer-all c .before .before .before .before .before .before
+
+abbrev at-entry : tie.After-keeps-out → tie.Start
+at-entry c = after-slice-known3 c .before .before .before .before .before .before .before .before .before .before .before
 
 abbrev after-place-symbols : tie.After-fills2 → tie.After-place-symbols
 after-place-symbols c = c .before .before .before .before .before
@@ -35,7 +38,7 @@ abbrev rows : tie.Start → Stored
 rows c = stored (c .args .segments .now) (c .args .references .now) (c .args .symbols .now) (c .args .bytes .now) (c .args .masks .now)
 
 abbrev seen : tie.Start → List ℕ
-seen c = view (c .args .image .now) (c .args .s)
+seen c = view (c .args .image .now) (stretchesIn (c .args .s .now))
 
 -- what the match leaves in these lists
 abbrev Left : tie.Start → List ℕ → List ℕ → List ℕ → List ℕ → Fills → Type 0
@@ -47,10 +50,9 @@ Left c placed positions noted goals f =
 returns : tie.Need-returns
 returns c =
     let keeps-out = c .before .before in
-    let noted = after-noted keeps-out in
-    let entry = after-shared-slice-known5 noted .before .before .before .before .before in
+    let entry = at-entry keeps-out in
     let a = entry .args in
-    let q = noted .before .refer-all in
+    let q = after-refer-all keeps-out .refer-all in
     λ known. subst (Left entry (a .placed .now) (a .positions .now) (q .last .1 .1 .1 .1 .1 .1 .1 .1 .1 .1 .1 .1 .0)
     (q .last .1 .1 .1 .1 .1 .1 .1 .1 .1 .1 .1 .1 .1 .0)) (sym (c .fills .ensures)) record {
       places =
@@ -70,10 +72,9 @@ returns-2 : tie.Need-returns-2
 returns-2 c =
     let place-symbols = after-place-symbols c in
     let keeps-out = place-symbols .before .before .before .before in
-    let noted = after-noted keeps-out in
-    let entry = after-shared-slice-known5 noted .before .before .before .before .before in
+    let entry = at-entry keeps-out in
     let a = entry .args in
-    let q = noted .before .refer-all in
+    let q = after-refer-all keeps-out .refer-all in
     let p = place-symbols .place-symbols in
     λ known. subst (Left entry (p .last .1 .1 .1 .1 .1 .1 .1 .0) (p .last .1 .1 .1 .1 .1 .1 .1 .1 .0)
     (q .last .1 .1 .1 .1 .1 .1 .1 .1 .1 .1 .1 .1 .0) (q .last .1 .1 .1 .1 .1 .1 .1 .1 .1 .1 .1 .1 .1 .0)) (sym (c .fills2 .ensures)) record {
@@ -86,7 +87,7 @@ returns-2 c =
           (subst (λ end. Takes placedSheet (a .library .now) (place (a .library .now) end)
           (map (placingOf (a .number) (a .at) (a .valid)) (rowsOf symbolLayout (a .symbols .now) (a .row .symbols)))
           (table (a .placed .now) (a .positions .now) (a .f .placed))
-          (table (p .last .1 .1 .1 .1 .1 .1 .1 .0) (p .last .1 .1 .1 .1 .1 .1 .1 .1 .0) (p .result))) (sym (view-length (a .image .now) (a .s))) (p .ensures));
+          (table (p .last .1 .1 .1 .1 .1 .1 .1 .0) (p .last .1 .1 .1 .1 .1 .1 .1 .1 .0) (p .result))) (sym (view-length (a .image .now) (stretchesIn (a .s .now)))) (p .ensures));
       notes =
           subst (λ xs. Takes notedSheet (a .library .now) (note (a .library .now)) xs (table (a .noted .now) (a .goals .now) (a .f .noted))
           (table (q .last .1 .1 .1 .1 .1 .1 .1 .1 .1 .1 .1 .1 .0) (q .last .1 .1 .1 .1 .1 .1 .1 .1 .1 .1 .1 .1 .1 .0) (q .result .fill)))

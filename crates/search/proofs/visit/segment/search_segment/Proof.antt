@@ -5,7 +5,7 @@ use mathlib.Core.List.{List, map}
 use lib.ListN.{length}
 use Rattle.lent.specs.Lists.{one}
 use Rattle.image.specs.declared.Stretch.{Stretch}
-use Rattle.image.specs.View.{view}
+use Rattle.image.specs.View.{stretchesIn, view}
 use Rattle.segments.specs.declared.SegmentRow.{SegmentRow}
 use Rattle.search.specs.declared.matches.MatchCursor.{MatchCursor}
 use Rattle.search.specs.matches.Cursor.{placesLeft, Sound, Reached}
@@ -20,7 +20,7 @@ use borrow.Author.Needs.{needs}
 use Rattle.search.proofs.visit.segment.search_segment.Statement.{statement}
 use Rattle.search.proofs.visit.segment.search_segment.Tie as tie
 
-record Inv (image : List ℕ) (s : Stretch) (asked : Asked) (library : List ℕ) (t : Stored) (n i : ℕ) (placed₀ positions₀ noted₀ goals₀ : List ℕ)
+record Inv (image : List ℕ) (s : List Stretch) (asked : Asked) (library : List ℕ) (t : Stored) (n i : ℕ) (placed₀ positions₀ noted₀ goals₀ : List ℕ)
     (row : SegmentRow) (f₀ : Fills) (pattern masked : List ℕ) (c₀ : MatchCursor)
     (placed positions noted goals : List ℕ) (f : Fills) (c : MatchCursor) : Type 0 where
   placed-long : length placed ≡ length placed₀
@@ -33,16 +33,16 @@ record Inv (image : List ℕ) (s : Stretch) (asked : Asked) (library : List ℕ)
 
 abbrev Inv-loop : tie.InvT-loop
 Inv-loop image s asked library segments n references symbols bytes masks first next i placed₀ positions₀ noted₀ goals₀ row f₀ pattern masked valid c₀
-    placed positions noted goals f c = Inv image s asked library (stored segments references symbols bytes masks) n i placed₀ positions₀ noted₀
+    placed positions noted goals f c = Inv image (stretchesIn s) asked library (stored segments references symbols bytes masks) n i placed₀ positions₀ noted₀
     goals₀ row f₀ pattern masked c₀ placed positions noted goals f c
 
 abbrev μ-loop : tie.MeasureT-loop
 μ-loop image s asked library segments n references symbols bytes masks first next i placed₀ positions₀ noted₀ goals₀ row f₀ pattern masked valid c₀
-    placed positions noted goals f c = length (placesLeft (view image s) pattern masked c)
+    placed positions noted goals f c = length (placesLeft (view image (stretchesIn s)) pattern masked c)
 
 -- The ladder: places of the code that the answers cite, each as it is seen from a later place.
 abbrev at-entry : tie.After-segment-at Inv-loop μ-loop → tie.Start Inv-loop μ-loop
-at-entry c = c .before .before .before .before .before .before .before .before .before .before .before .before .before .before
+at-entry c = c .before .before .before .before .before .before .before .before .before .before .before .before .before .before .before
 
 abbrev after-segment-at : tie.After-reaches Inv-loop μ-loop → tie.After-segment-at Inv-loop μ-loop
 after-segment-at c = c .before .before .before .before .before
@@ -66,16 +66,16 @@ abbrev rows : tie.Start Inv-loop μ-loop → Stored
 rows c = stored (c .args .segments .now) (c .args .references .now) (c .args .symbols .now) (c .args .bytes .now) (c .args .masks .now)
 
 abbrev seen : tie.Start Inv-loop μ-loop → List ℕ
-seen c = view (c .args .image .now) (c .args .s)
+seen c = view (c .args .image .now) (stretchesIn (c .args .s .now))
 
 -- the match that is reached, once it is known
 reached : (c : tie.After-known-told Inv-loop μ-loop) → Reached (at-entry (after-segment-at (after-reaches c)) .args .image .now)
-    (at-entry (after-segment-at (after-reaches c)) .args .s) (after-reaches c .before .before .name .result .now)
+    (stretchesIn (at-entry (after-segment-at (after-reaches c)) .args .s .now)) (after-reaches c .before .before .name .result .now)
     (after-reaches c .before .name2 .result .now) (after-next-place c .before .loop .c) (c .before .at .given .0 .0) (c .before .at .given .0 .1 .0)
 reached c =
     let reaches = after-reaches c in
     let entry = at-entry (after-segment-at reaches) in
-    stepped-at (entry .args .image .now) (entry .args .s) (reaches .before .before .name .result .now) (reaches .before .name2 .result .now)
+    stepped-at (entry .args .image .now) (stretchesIn (entry .args .s .now)) (reaches .before .before .name .result .now) (reaches .before .name2 .result .now)
     (after-next-place c .before .loop .c) (c .before .at .given .1) (after-next-place c .next-place .ensures)
 
 returns : tie.Need-returns Inv-loop μ-loop
@@ -137,18 +137,18 @@ returns-2 c =
     subst (λ ms. Visits (seen entry) (a .asked) (a .library .now) (segmentsIn (rows entry) (a .n)) ms (a .placed .now) (a .positions .now)
     (a .noted .now) (a .goals .now) (a .before) (l .placed) (l .positions) (l .noted) (l .goals) (l .f))
     (segment-matches (seen entry) (a .asked) (a .library .now) (rows entry) (a .n) (a .i) (row .result) (b .result .now) (m .result .now)
-    (b .ensures) (m .ensures) (row .ensures) {left = placesLeft (seen entry) (b .result .now) (m .result .now) (start .start .result)} (start .start .ensures .all (a .s)))
+    (b .ensures) (m .ensures) (row .ensures) {left = placesLeft (seen entry) (b .result .now) (m .result .now) (start .start .result)} (start .start .ensures .all (stretchesIn (a .s .now))))
     (leading-ends (seen entry) (a .asked) (a .library .now) (segmentsIn (rows entry) (a .n)) every (a .placed .now) (a .positions .now)
     (a .noted .now) (a .goals .now) (a .before) {left = map mk (placesLeft (seen entry) (b .result .now) (m .result .now) (l .c))} (l .placed)
     (l .positions) (l .noted) (l .goals) (l .f) (l .inv .leads)
-    (ap (map mk) (stepped-done (a .image .now) (a .s) (b .result .now) (m .result .now) (l .c) (c .enum-told .given .1) (c .before .before .next-place .ensures))))
+    (ap (map mk) (stepped-done (a .image .now) (stretchesIn (a .s .now)) (b .result .now) (m .result .now) (l .c) (c .enum-told .given .1) (c .before .before .next-place .ensures))))
 
 loop-less : tie.Need-loop-less Inv-loop μ-loop
 loop-less c =
     let known-told = after-known-told c in
     let reaches = after-reaches known-told in
     let entry = at-entry (after-segment-at reaches) in
-    reached-less (entry .args .image .now) (entry .args .s) (reaches .before .before .name .result .now) (reaches .before .name2 .result .now)
+    reached-less (entry .args .image .now) (stretchesIn (entry .args .s .now)) (reaches .before .before .name .result .now) (reaches .before .name2 .result .now)
     (after-next-place known-told .before .loop .c) (reached known-told)
 
 loop-again : tie.Need-loop-again Inv-loop μ-loop
