@@ -4,11 +4,10 @@ ghost use mathlib.Core.List.{_++_};
 ghost use Prim.Native.Nat.{_-_};
 ghost use lib.ListN.{length, take};
 ghost use Rattle.lent.specs.Rows.{zeros};
-ghost use Rattle.image.specs.View.{view};
+ghost use Rattle.image.specs.View.{stretchesIn, view};
 ghost use Rattle.listing.specs.Listed.{Leaves, ListsRows};
 use crate::inside::list_inside;
 use crate::past_end::list_beyond;
-use image::Stretch;
 use image::fixup::Rules;
 use lent::rows::clear;
 use listing_rules::Skip;
@@ -42,10 +41,10 @@ fn leave(m: &mut [u64], f: Fill)
 
 // Lists the names of the rows that a search left, first at the positions of the image, then past its end. Rows of
 // placed symbols are found by the heads `positions`; `names` rows of noted names by the heads `goals`. The image with
-// its stretch `s` and the first n segments with their references tell whether a symbol is borne out.
+// its stretches `s` and the first n segments with their references tell whether a symbol is borne out.
 pub fn list_rows(
     image: &[u8],
-    s: Stretch,
+    s: &[u64],
     rules: Rules,
     skip: Skip,
     library: &[u8],
@@ -59,7 +58,7 @@ pub fn list_rows(
     names: usize,
     lines: &mut [u64],
 ) -> Fill
-    ensures { λ r. ⌜ ListsRows (view (now (image .entry)) s) rules skip (now (library .entry)) (now (segments .entry)) n (now (references .entry)) (now (placed .entry)) (now (positions .entry)) (now (noted .entry)) (now (goals .entry)) names (now (lines .entry)) (now (lines .exit)) r ⌝ }
+    ensures { λ r. ⌜ ListsRows (view (now (image .entry)) (stretchesIn (now (s .entry)))) rules skip (now (library .entry)) (now (segments .entry)) n (now (references .entry)) (now (placed .entry)) (now (positions .entry)) (now (noted .entry)) (now (goals .entry)) names (now (lines .entry)) (now (lines .exit)) r ⌝ }
 {
     let inside = list_inside(
         image,

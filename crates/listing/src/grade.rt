@@ -2,11 +2,10 @@
 ghost use mathlib.Core.Path.{_≡_};
 ghost use mathlib.Core.Bool.{_||_};
 ghost use Rattle.lent.specs.Lists.{all};
-ghost use Rattle.image.specs.View.{view};
+ghost use Rattle.image.specs.View.{stretchesIn, view};
 ghost use Rattle.segments.specs.SegmentLayouts.{referenceLayout};
 ghost use Rattle.segments.specs.recalled.Recall.{rowsOf};
 ghost use Rattle.listing.specs.grade.Grades.{isFound, bearsOut, isBorne, rowGrade};
-use image::Stretch;
 use image::fixup::Rules;
 use image::fixup::Target;
 use lent::part::Part;
@@ -39,7 +38,7 @@ fn is_found(library: &[u8], width: usize, m: &[u64], heads: &[u32], key: u64, na
 // reference without a target is not asked, nor is a reference to a segment.
 fn bears_out(
     image: &[u8],
-    s: Stretch,
+    s: &[u64],
     rules: Rules,
     library: &[u8],
     placed: &[u64],
@@ -47,7 +46,7 @@ fn bears_out(
     base: usize,
     r: Reference,
 ) -> bool
-    ensures { λ b. ⌜ b ≡ bearsOut (isFound (now (library .entry)) 8 (now (placed .entry)) (now (positions .entry))) (view (now (image .entry)) s) rules base r ⌝ }
+    ensures { λ b. ⌜ b ≡ bearsOut (isFound (now (library .entry)) 8 (now (placed .entry)) (now (positions .entry))) (view (now (image .entry)) (stretchesIn (now (s .entry)))) rules base r ⌝ }
 {
     let goal = r.goal;
     match target_of(image, s, rules, base, r) {
@@ -65,7 +64,7 @@ fn bears_out(
 // Whether all references in a part of the rows bear out the match at `base`.
 fn bear_out(
     image: &[u8],
-    s: Stretch,
+    s: &[u64],
     rules: Rules,
     library: &[u8],
     references: &[u64],
@@ -74,7 +73,7 @@ fn bear_out(
     positions: &[u32],
     base: usize,
 ) -> bool
-    ensures { λ b. ⌜ b ≡ all (bearsOut (isFound (now (library .entry)) 8 (now (placed .entry)) (now (positions .entry))) (view (now (image .entry)) s) rules base) (rowsOf referenceLayout (now (references .entry)) part) ⌝ }
+    ensures { λ b. ⌜ b ≡ all (bearsOut (isFound (now (library .entry)) 8 (now (placed .entry)) (now (positions .entry))) (view (now (image .entry)) (stretchesIn (now (s .entry)))) rules base) (rowsOf referenceLayout (now (references .entry)) part) ⌝ }
 {
     let at = part.at;
     let len = part.len;
@@ -96,7 +95,7 @@ fn bear_out(
 // number that is not below n has no segment, and so nothing to ask.
 fn is_borne(
     image: &[u8],
-    s: Stretch,
+    s: &[u64],
     rules: Rules,
     library: &[u8],
     segments: &[u64],
@@ -107,7 +106,7 @@ fn is_borne(
     number: SegmentNumber,
     base: usize,
 ) -> bool
-    ensures { λ b. ⌜ b ≡ isBorne (view (now (image .entry)) s) (now (library .entry)) rules (now (segments .entry)) (now (references .entry)) n (now (placed .entry)) (now (positions .entry)) (number .0) base ⌝ }
+    ensures { λ b. ⌜ b ≡ isBorne (view (now (image .entry)) (stretchesIn (now (s .entry)))) (now (library .entry)) rules (now (segments .entry)) (now (references .entry)) n (now (placed .entry)) (now (positions .entry)) (number .0) base ⌝ }
 {
     let i = number.0;
     if n <= i {
@@ -135,11 +134,11 @@ fn is_kept(valid: bool, there: bool) -> bool
 }
 
 // The grade of the placed symbol `row`, 1 to 3; 0 for a symbol that is not graded. Rows of placed symbols are found by
-// the heads `positions`, rows of noted names by the heads `goals`; image, stretch, rules, segments and references give
+// the heads `positions`, rows of noted names by the heads `goals`; image, stretches, rules, segments and references give
 // the targets of the symbol's match.
 pub fn grade(
     image: &[u8],
-    s: Stretch,
+    s: &[u64],
     rules: Rules,
     library: &[u8],
     segments: &[u64],
@@ -151,7 +150,7 @@ pub fn grade(
     goals: &[u32],
     row: Placed,
 ) -> u8
-    ensures { λ r. ⌜ r ≡ rowGrade (view (now (image .entry)) s) (now (library .entry)) rules (now (segments .entry)) (now (references .entry)) n (now (placed .entry)) (now (positions .entry)) (now (noted .entry)) (now (goals .entry)) row ⌝ }
+    ensures { λ r. ⌜ r ≡ rowGrade (view (now (image .entry)) (stretchesIn (now (s .entry)))) (now (library .entry)) rules (now (segments .entry)) (now (references .entry)) n (now (placed .entry)) (now (positions .entry)) (now (noted .entry)) (now (goals .entry)) row ⌝ }
 {
     let number = row.segment;
     let there = is_found(

@@ -1,13 +1,12 @@
 // The lines of one position of the image.
 ghost use Prim.Native.Nat.{_/_, _≤_};
 ghost use lib.ListN.{length};
-ghost use Rattle.image.specs.View.{view};
+ghost use Rattle.image.specs.View.{stretchesIn, view};
 ghost use Rattle.listing.specs.position.PositionLines.{Finishes, ListsAt};
 use crate::order::order;
 use crate::position::Best;
 use crate::position::noted::walk_noted;
 use crate::position::placed::walk_placed;
-use image::Stretch;
 use image::fixup::Rules;
 use listing_rules::Skip;
 use listing_rules::is_crowded;
@@ -43,7 +42,7 @@ fn finish(library: &[u8], skip: Skip, m: &mut [u64], from: usize, b: Best) -> Fi
 // placed there, of which only the best grade stays. The other parameters are those of `list_inside`.
 pub fn list_position(
     image: &[u8],
-    s: Stretch,
+    s: &[u64],
     rules: Rules,
     skip: Skip,
     library: &[u8],
@@ -58,7 +57,7 @@ pub fn list_position(
     m: &mut [u64],
     f: Fill,
 ) -> Fill
-    ensures { λ r. ⌜ ListsAt (view (now (image .entry)) s) rules skip (now (library .entry)) (now (segments .entry)) n (now (references .entry)) (now (placed .entry)) (now (positions .entry)) (now (noted .entry)) (now (goals .entry)) at (now (m .entry)) f (now (m .exit)) r ⌝ }
+    ensures { λ r. ⌜ ListsAt (view (now (image .entry)) (stretchesIn (now (s .entry)))) rules skip (now (library .entry)) (now (segments .entry)) n (now (references .entry)) (now (placed .entry)) (now (positions .entry)) (now (noted .entry)) (now (goals .entry)) at (now (m .entry)) f (now (m .exit)) r ⌝ }
 {
     let from = f.rows;
     if f.over {

@@ -1,14 +1,13 @@
 // The symbols placed at a position: the rows of its bucket, from the newest to the oldest.
 ghost use Prim.Native.Nat.{_+_, _/_, _<_, _≤_};
 ghost use lib.ListN.{length};
-ghost use Rattle.image.specs.View.{view};
+ghost use Rattle.image.specs.View.{stretchesIn, view};
 ghost use Rattle.listing.specs.grade.Grades.{rowGrade};
 ghost use Rattle.listing.specs.position.Bests.{Meets, placedLines};
 ghost use Rattle.listing.specs.position.RowsAt.{WalksPlaced};
 use crate::grade::grade;
 use crate::position::Best;
 use crate::position::best_lines::take_in;
-use image::Stretch;
 use image::fixup::Rules;
 use listing_rules::Line;
 use search::rows::placed_at;
@@ -20,7 +19,7 @@ use tables::by_name::head_at;
 // parameters are those of `walk_placed`.
 fn take_placed(
     image: &[u8],
-    s: Stretch,
+    s: &[u64],
     rules: Rules,
     library: &[u8],
     segments: &[u64],
@@ -37,7 +36,7 @@ fn take_placed(
     row: Placed,
 ) -> Best
     requires { ⌜ from + b .count < 18446744073709551615 ⌝ }
-    ensures { λ r. ⌜ Meets from (placedLines at (rowGrade (view (now (image .entry)) s) (now (library .entry)) rules (now (segments .entry)) (now (references .entry)) n (now (placed .entry)) (now (positions .entry)) (now (noted .entry)) (now (goals .entry)) row) row) (now (m .entry)) b (now (m .exit)) r ⌝ }
+    ensures { λ r. ⌜ Meets from (placedLines at (rowGrade (view (now (image .entry)) (stretchesIn (now (s .entry)))) (now (library .entry)) rules (now (segments .entry)) (now (references .entry)) n (now (placed .entry)) (now (positions .entry)) (now (noted .entry)) (now (goals .entry)) row) row) (now (m .entry)) b (now (m .exit)) r ⌝ }
 {
     let name = row.name;
     if row.position != at {
@@ -77,7 +76,7 @@ fn take_placed(
 // are those of `list_inside`.
 pub fn walk_placed(
     image: &[u8],
-    s: Stretch,
+    s: &[u64],
     rules: Rules,
     library: &[u8],
     segments: &[u64],
@@ -93,7 +92,7 @@ pub fn walk_placed(
     before: Best,
 ) -> Best
     requires { ⌜ (from ≤ length (now m) / 4) × (before .count ≤ length (now noted) / 6) ⌝ }
-    ensures { λ r. ⌜ WalksPlaced (view (now (image .entry)) s) rules (now (library .entry)) (now (segments .entry)) n (now (references .entry)) (now (placed .entry)) (now (positions .entry)) (now (noted .entry)) (now (goals .entry)) at from (now (m .entry)) before (now (m .exit)) r ⌝ }
+    ensures { λ r. ⌜ WalksPlaced (view (now (image .entry)) (stretchesIn (now (s .entry)))) rules (now (library .entry)) (now (segments .entry)) n (now (references .entry)) (now (placed .entry)) (now (positions .entry)) (now (noted .entry)) (now (goals .entry)) at from (now (m .entry)) before (now (m .exit)) r ⌝ }
 {
     let mut b = before;
     let mut here = head_at(positions, at);

@@ -5,14 +5,14 @@ use Rattle.listing.proofs.entry.list.Tie as tie
 use mathlib.Core.Path.{sym, ap, _∙_}
 use Rattle.lent.specs.declared.refusal.Refusal.the-variants.{TooFewRows}
 use Rattle.lent.specs.Rows.{zeros}
-use Rattle.image.specs.View.{view}
+use Rattle.image.specs.View.{stretchesIn, view}
 use Rattle.search.specs.visit.Visits.{stored}
 use Rattle.search.specs.Outcome.{SearchLists as Searchable, searchZeroed as zeroedSearch}
 use Rattle.listing.specs.declared.FindAnswer.the-variants.{Refused}
 use Rattle.listing.specs.OutcomeLaws.{lines-found, emptied, lacks-is, done-is}
 
 -- The ladder: places of the code that the answers cite, each as it is seen from a later place.
-abbrev at-entry : tie.After-shared-slice-known3 → tie.Start
+abbrev at-entry : tie.After-slice-known8 → tie.Start
 at-entry c = c .before .before .before .before .before .before .before .before .before .before .before
 
 abbrev after-segments : tie.After-bytes → tie.After-segments
@@ -62,9 +62,9 @@ returns : tie.Need-returns
 returns c =
     let clear = c .before .before in
     let then1 = at-then1 (after-bytes c) in
-    let entry = at-entry (then1 .before .before .before .before .before .before .before .before .before .before) in
+    let entry = at-entry (then1 .before .before .before .before .before .before .before .before .before .before .before) in
     let a = entry .args in
-    let cells = view (a .image .now) (a .s) in
+    let cells = view (a .image .now) (stretchesIn (a .s .now)) in
     let f = then1 .before .before .before .list-rows in
     λ l short p q done sought.
     ap (λ x. record { answer = Refused TooFewRows; left = record { searched = x; lines = clear .clear .last .0 } })
@@ -77,9 +77,9 @@ returns c =
 
 returns-2 : tie.Need-returns-2
 returns-2 c =
-    let entry = at-entry (c .before .before .before .before .before .before .before .before .before .before) in
+    let entry = at-entry (c .before .before .before .before .before .before .before .before .before .before .before) in
     let a = entry .args in
-    let cells = view (a .image .now) (a .s) in
+    let cells = view (a .image .now) (stretchesIn (a .s .now)) in
     let f = c .before .before .before .list-rows in
     λ l short p q done sought.
     done-is cells (a .asked) (a .skip) (a .library .now) (a .n) (record { searched = l; lines = a .lines .now }) short (a .rows) (lent entry) done

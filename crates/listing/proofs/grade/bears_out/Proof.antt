@@ -10,13 +10,13 @@ returns c = rw (sym (c .before .before .before .before .before .target-of .ensur
 
 returns-2 : tie.Need-returns-2
 returns-2 c =
-    let entry = c .before .before .before .before .before .before .before in
+    let entry = c .before .before .before .before .before .before .before .before in
     ap (asksOf (isFound (entry .args .library .now) 8 (entry .args .placed .now) (entry .args .positions .now)) (entry .args .r .goal))
     (sym (sym (c .before .before .target-of .ensures) ∙ c .enum-told .given .1))
 
 returns-3 : tie.Need-returns-3
 returns-3 c =
-    let entry = c .before .before .before .before .before .before .before in
+    let entry = c .before .before .before .before .before .before .before .before in
     ap (asksOf (isFound (entry .args .library .now) 8 (entry .args .placed .now) (entry .args .positions .now)) (entry .args .r .goal))
     (sym (sym (c .before .before .target-of .ensures) ∙ c .enum-told2 .given .1))
 

@@ -4,13 +4,13 @@ use Rattle.listing.proofs.grade.grade.Statement.{statement}
 use Rattle.listing.proofs.grade.grade.Tie as tie
 use mathlib.Core.Path.{_≡_, sym, ap, _∙_}
 use mathlib.Core.Bool.{Bool, _||_}
-use Rattle.image.specs.View.{view}
+use Rattle.image.specs.View.{stretchesIn, view}
 use Rattle.listing.specs.grade.Grades.{isNotedRow, isBorne}
 use Rattle.listing.specs.grade.GradeLaws.{turned-true, turned-false, grade-dropped, grade-one, grade-two, grade-three}
 
 -- The ladder: places of the code that the answers cite, each as it is seen from a later place.
 abbrev at-entry : tie.After-is-kept → tie.Start
-at-entry c = c .before .before .before .before .before .before .before .before .before .before .before
+at-entry c = c .before .before .before .before .before .before .before .before .before .before .before .before
 
 abbrev after-is-kept : tie.Else2 → tie.After-is-kept
 after-is-kept c = c .before .before .before
@@ -23,7 +23,7 @@ abbrev there : tie.Start → Bool
 there c = isNotedRow (c .args .library .now) (c .args .noted .now) (c .args .goals .now) (c .args .row)
 
 abbrev borne : tie.Start → Bool
-borne c = isBorne (view (c .args .image .now) (c .args .s)) (c .args .library .now) (c .args .rules) (c .args .segments .now)
+borne c = isBorne (view (c .args .image .now) (stretchesIn (c .args .s .now))) (c .args .library .now) (c .args .rules) (c .args .segments .now)
     (c .args .references .now) (c .args .n) (c .args .placed .now) (c .args .positions .now) (c .args .row .segment .0) (c .args .row .base)
 
 returns : tie.Need-returns

@@ -8,7 +8,7 @@ use mathlib.Core.List.{[]}
 use borrow.Author.Tests.{lt-ltb, le-ltb}
 use Rattle.lent.specs.Choice.{if_then_else_}
 use Rattle.lent.specs.Lists.{all}
-use Rattle.image.specs.View.{view}
+use Rattle.image.specs.View.{stretchesIn, view}
 use Rattle.segments.specs.declared.Reference.{Reference}
 use Rattle.segments.specs.SegmentLayouts.{referenceLayout, segmentRowAt}
 use Rattle.segments.specs.recalled.Recall.{rowsOf}
@@ -16,17 +16,17 @@ use Rattle.listing.specs.grade.Grades.{isFound, bearsOut}
 use Rattle.listing.specs.grade.GradeLaws.{all-end}
 
 abbrev bears : tie.Start → Reference → Bool
-bears c = bearsOut (isFound (c .args .library .now) 8 (c .args .placed .now) (c .args .positions .now)) (view (c .args .image .now) (c .args .s)) (c .args .rules) (c .args .base)
+bears c = bearsOut (isFound (c .args .library .now) 8 (c .args .placed .now) (c .args .positions .now)) (view (c .args .image .now) (stretchesIn (c .args .s .now))) (c .args .rules) (c .args .base)
 
 returns : tie.Need-returns
 returns c =
-    let entry = c .before .before .before .before .before .before .before in
+    let entry = c .before .before .before .before .before .before .before .before in
     rw (le-ltb (entry .args .number .0)
     (entry .args .n) (c .if1 .taken)) (sym (all-end (bears entry) refl))
 
 returns-2 : tie.Need-returns-2
 returns-2 c =
-    let entry = c .before .before .before .before .before .before .before .before .before in
+    let entry = c .before .before .before .before .before .before .before .before .before .before in
     let a = entry .args in
     c .bear-out .ensures
     ∙ ap (λ row. all (bears entry) (rowsOf referenceLayout (a .references .now) (row .references))) (c .before .segment-at .ensures)

@@ -7,7 +7,7 @@ use mathlib.Core.List.{List}
 use native.Mathlib.Omega.{arith}
 use lib.ListN.{length}
 use Rattle.tables.specs.declared.fill.Fill.{Fill}
-use Rattle.image.specs.View.{view}
+use Rattle.image.specs.View.{stretchesIn, view}
 use Rattle.image.specs.ViewLaws.{view-length}
 use Rattle.image.specs.declared.fixup.Rules.{Rules}
 use Rattle.tables.specs.by_name.Sheet.{keyBuckets}
@@ -22,7 +22,7 @@ record Inv (cells : List ℕ) (rules : Rules) (skip : Skip) (library segments : 
   leads : (k : Known rules library segments references n placed positions noted goals) → length cells ≤ keyBuckets → LeadsFrom cells k skip (length cells) m₀ f₀ at m f
 
 abbrev Inv-loop : tie.InvT-loop
-Inv-loop image s rules skip library segments n references placed positions noted goals m₀ f₀ at₀ m f at = Inv (view image s) rules skip library
+Inv-loop image s rules skip library segments n references placed positions noted goals m₀ f₀ at₀ m f at = Inv (view image (stretchesIn s)) rules skip library
     segments n references placed positions noted goals m₀ f₀ m f at
 
 abbrev μ-loop : tie.MeasureT-loop
@@ -30,7 +30,7 @@ abbrev μ-loop : tie.MeasureT-loop
 
 -- The ladder: places of the code that the answers cite, each as it is seen from a later place.
 abbrev at-entry : tie.After-skip-bare Inv-loop μ-loop → tie.Start Inv-loop μ-loop
-at-entry c = c .before .before .before .before .before .before .before .before .before .before
+at-entry c = c .before .before .before .before .before .before .before .before .before .before .before
 
 abbrev at-in-loop : tie.After-slice-known2 Inv-loop μ-loop → tie.In-loop Inv-loop μ-loop
 at-in-loop c = c .before .before .before .before
@@ -38,13 +38,13 @@ at-in-loop c = c .before .before .before .before
 loop-holds : tie.Need-loop-holds Inv-loop μ-loop
 loop-holds c =
     let a = at-entry c .args in
-    let cells = view (a .image .now) (a .s) in
+    let cells = view (a .image .now) (stretchesIn (a .s .now)) in
     let skips = c .skip-bare in
     record {
       long = refl;
       leads = λ k small.
           inside-skip cells k (a .skip) (length cells) (a .m .now) (a .before) 0 (skips .result) (a .m .now) (a .before) (omega arith) small
-          (rw (view-length (a .image .now) (a .s)) (skips .ensures)) (inside-first cells k (a .skip) (length cells) (a .m .now) (a .before));
+          (rw (view-length (a .image .now) (stretchesIn (a .s .now))) (skips .ensures)) (inside-first cells k (a .skip) (length cells) (a .m .now) (a .before));
     }
 
 add-skip-bare : tie.Need-add-skip-bare Inv-loop μ-loop
@@ -58,15 +58,15 @@ loop-again c =
     let in-loop = at-in-loop (c .before) in
     let a = at-entry (in-loop .before .before) .args in
     let l = in-loop .before .loop in
-    let cells = view (a .image .now) (a .s) in
+    let cells = view (a .image .now) (stretchesIn (a .s .now)) in
     let p = c .before .before .before .list-position in
     let skips = c .skip-bare2 in
     record {
       long = c .before .before .m .given ∙ l .inv .long;
       leads = λ k small.
-          let lower : l .at < length cells = omega (arith, in-loop .loop-test .taken, view-length (a .image .now) (a .s)) in
+          let lower : l .at < length cells = omega (arith, in-loop .loop-test .taken, view-length (a .image .now) (stretchesIn (a .s .now))) in
           inside-skip cells k (a .skip) (length cells) (a .m .now) (a .before) (l .at + 1) (skips .result) (p .last .1 .1 .1 .1 .1 .1 .1 .1 .1 .1 .1 .1 .1 .0) (p .result)
-          (omega (arith, lower)) small (rw (view-length (a .image .now) (a .s)) (skips .ensures))
+          (omega (arith, lower)) small (rw (view-length (a .image .now) (stretchesIn (a .s .now))) (skips .ensures))
           (inside-on cells k (a .skip) (length cells) (a .m .now) (a .before) (l .at) (l .m) (l .f)
           (p .last .1 .1 .1 .1 .1 .1 .1 .1 .1 .1 .1 .1 .1 .0) (p .result) lower (l .inv .leads k small) (p .ensures k (omega (arith, lower, small))));
     }
@@ -78,9 +78,9 @@ returns : tie.Need-returns Inv-loop μ-loop
 returns c =
     let a = at-entry (c .before .before) .args in
     let l = c .before .loop in
-    let cells = view (a .image .now) (a .s) in
+    let cells = view (a .image .now) (stretchesIn (a .s .now)) in
     λ k small. inside-last cells k (a .skip) (length cells) (a .m .now) (a .before) (l .at) (l .m) (l .f)
-    (omega (arith, c .loop-test .left, view-length (a .image .now) (a .s))) (l .inv .leads k small)
+    (omega (arith, c .loop-test .left, view-length (a .image .now) (stretchesIn (a .s .now)))) (l .inv .leads k small)
 
 pub list-inside-spec : {M : Type 1} → statement M
 list-inside-spec =

@@ -8,7 +8,7 @@ use native.Mathlib.Nat.{le-div-iff-mul-le}
 use native.Mathlib.Omega.{arith}
 use lib.ListN.{length}
 use Rattle.lent.specs.Lists.{keep}
-use Rattle.image.specs.View.{view}
+use Rattle.image.specs.View.{stretchesIn, view}
 use Rattle.listing_rules.specs.Listing.{notedLine, linesAt}
 use Rattle.listing_rules.specs.FrontLines.{Front}
 use Rattle.listing_rules.specs.FrontLineLaws.{extends-over}
@@ -17,14 +17,14 @@ use Rattle.listing.specs.position.FinishLaws.{met-apart, met-small, met-
 
 -- The ladder: places of the code that the answers cite, each as it is seen from a later place.
 abbrev at-entry : tie.After-slice-known → tie.Start
-at-entry c = c .before .before .before .before .before .before .before .before .before
+at-entry c = c .before .before .before .before .before .before .before .before .before .before
 
 abbrev after-m : tie.After-finish-arg → tie.After-m
 after-m c = c .before .before .before .before .before .before
 
 returns : tie.Need-returns
 returns c = let a = at-entry (c .before) .args in
-    λ k small. extends-over (linesAt (a .library .now) (view (a .image .now) (a .s)) (k .a) (segmentsOf (view (a .image .now) (a .s)) k) (k .ps)
+    λ k small. extends-over (linesAt (a .library .now) (view (a .image .now) (stretchesIn (a .s .now))) (k .a) (segmentsOf (view (a .image .now) (stretchesIn (a .s .now))) k) (k .ps)
     (k .ns) (a .skip) (a .at)) (a .m .now) (a .f) (c .if1 .taken)
 
 returns-2 : tie.Need-returns-2
@@ -54,7 +54,7 @@ returns-3 c =
     let finish = c .before .before in
     let m = after-m (finish .before) in
     let a = at-entry (m .before .before .before .before .before) .args in
-    let cells = view (a .image .now) (a .s) in
+    let cells = view (a .image .now) (stretchesIn (a .s .now)) in
     λ k small lines front.
     let e = m .before .before .before .before .if1 .left in
     let long = sym (front .counted e) in

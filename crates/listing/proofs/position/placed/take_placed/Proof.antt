@@ -5,7 +5,7 @@ use Rattle.listing.proofs.position.placed.take_placed.Tie as tie
 use mathlib.Core.Path.{sym, subst, _∙_}
 use Prim.Native.Nat.{ℕ}
 use Rattle.lent.specs.Lists.{one}
-use Rattle.image.specs.View.{view}
+use Rattle.image.specs.View.{stretchesIn, view}
 use Rattle.listing.specs.grade.Grades.{rowGrade}
 use Rattle.listing.specs.position.Bests.{Meets, placedLines}
 use Rattle.listing.specs.position.RowsAtLaws.{meets-none, meets-this}
@@ -13,10 +13,10 @@ use Rattle.listing.specs.position.RowLines.{placed-elsewhere, placed-dro
 
 -- The ladder: places of the code that the answers cite, each as it is seen from a later place.
 abbrev at-entry : tie.After-struct-known → tie.Start
-at-entry c = c .before .before .before .before .before .before .before .before .before .before .before
+at-entry c = c .before .before .before .before .before .before .before .before .before .before .before .before
 
 abbrev graded : tie.Start → ℕ
-graded c = rowGrade (view (c .args .image .now) (c .args .s)) (c .args .library .now) (c .args .rules) (c .args .segments .now)
+graded c = rowGrade (view (c .args .image .now) (stretchesIn (c .args .s .now))) (c .args .library .now) (c .args .rules) (c .args .segments .now)
     (c .args .references .now) (c .args .n) (c .args .placed .now) (c .args .positions .now) (c .args .noted .now) (c .args .goals .now) (c .args .row)
 
 returns : tie.Need-returns

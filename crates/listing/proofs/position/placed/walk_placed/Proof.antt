@@ -9,7 +9,7 @@ use native.Mathlib.Nat.{le-div-iff-mul-le}
 use native.Mathlib.Omega.{arith}
 use lib.ListN.{length}
 use Rattle.lent.specs.Lists.{one, keep}
-use Rattle.image.specs.View.{view}
+use Rattle.image.specs.View.{stretchesIn, view}
 use Rattle.image.specs.declared.fixup.Rules.{Rules}
 use Rattle.tables.specs.by_name.Sheet.{keyBuckets, keyBucket}
 use Rattle.search_rules.specs.declared.Placed.{Placed}
@@ -35,7 +35,7 @@ record Inv (cells : List ℕ) (rules : Rules) (library segments : List ℕ) (n :
       → Walked placedSheet library (k .ps) at (staysAt cells k at) (lineOf cells k) lines before here m b
 
 abbrev Inv-loop : tie.InvT-loop
-Inv-loop image s rules library segments n references placed positions noted goals at m₀ from b₀ here₀ m b here = Inv (view image s) rules library
+Inv-loop image s rules library segments n references placed positions noted goals at m₀ from b₀ here₀ m b here = Inv (view image (stretchesIn s)) rules library
     segments n references placed positions noted goals at m₀ from b₀ m b here
 
 abbrev μ-loop : tie.MeasureT-loop
@@ -43,7 +43,7 @@ abbrev μ-loop : tie.MeasureT-loop
 
 -- The ladder: places of the code that the answers cite, each as it is seen from a later place.
 abbrev at-entry : tie.After-head-at Inv-loop μ-loop → tie.Start Inv-loop μ-loop
-at-entry c = c .before .before .before .before .before .before .before .before .before .before
+at-entry c = c .before .before .before .before .before .before .before .before .before .before .before
 
 abbrev at-in-loop : tie.After-slice-known2 Inv-loop μ-loop → tie.In-loop Inv-loop μ-loop
 at-in-loop c = c .before .before .before .before .before
@@ -53,28 +53,28 @@ Known-at c = Known (c .args .rules) (c .args .library .now) (c .args .segments .
     (c .args .positions .now) (c .args .noted .now) (c .args .goals .now)
 
 within : (c : tie.Start Inv-loop μ-loop) (k : Known-at c) → c .args .at < keyBuckets → (p : Placing) → staysAt
-    (view (c .args .image .now) (c .args .s)) k (c .args .at) p ≡ true → keyBucket (p .position) ≡ c .args .at
-within c k small = known-within (view (c .args .image .now) (c .args .s)) (c .args .rules) (c .args .library .now) (c .args .segments .now)
+    (view (c .args .image .now) (stretchesIn (c .args .s .now))) k (c .args .at) p ≡ true → keyBucket (p .position) ≡ c .args .at
+within c k small = known-within (view (c .args .image .now) (stretchesIn (c .args .s .now))) (c .args .rules) (c .args .library .now) (c .args .segments .now)
     (c .args .n) (c .args .references .now) (c .args .placed .now) (c .args .positions .now) (c .args .noted .now) (c .args .goals .now) k (c .args .at) small
 
 abbrev lines-of : tie.Start Inv-loop μ-loop → Placed → List Line
-lines-of c = rowLines (view (c .args .image .now) (c .args .s)) (c .args .rules) (c .args .library .now) (c .args .segments .now) (c .args .n)
+lines-of c = rowLines (view (c .args .image .now) (stretchesIn (c .args .s .now))) (c .args .rules) (c .args .library .now) (c .args .segments .now) (c .args .n)
     (c .args .references .now) (c .args .placed .now) (c .args .positions .now) (c .args .noted .now) (c .args .goals .now) (c .args .at)
 
 are : (c : tie.Start Inv-loop μ-loop) (k : Known-at c) (p : Placing) (link alike : ℕ) → lines-of c (placedSheet .row p link alike) ≡ map
-    (lineOf (view (c .args .image .now) (c .args .s)) k) (keep (staysAt (view (c .args .image .now) (c .args .s)) k (c .args .at)) (one p))
-are c k = known-lines (view (c .args .image .now) (c .args .s)) (c .args .rules) (c .args .library .now) (c .args .segments .now) (c .args .n)
+    (lineOf (view (c .args .image .now) (stretchesIn (c .args .s .now))) k) (keep (staysAt (view (c .args .image .now) (stretchesIn (c .args .s .now))) k (c .args .at)) (one p))
+are c k = known-lines (view (c .args .image .now) (stretchesIn (c .args .s .now))) (c .args .rules) (c .args .library .now) (c .args .segments .now) (c .args .n)
     (c .args .references .now) (c .args .placed .now) (c .args .positions .now) (c .args .noted .now) (c .args .goals .now) k (c .args .at)
 
 started : (c : tie.After-head-at Inv-loop μ-loop) (k : Known-at (at-entry c)) (lines before : List Line) → at-entry c .args .at < keyBuckets → Bests
     lines before (at-entry c .args .m .now) (at-entry c .args .before)
     → Walked placedSheet (at-entry c .args .library .now) (k .ps) (at-entry c .args .at)
-    (staysAt (view (at-entry c .args .image .now) (at-entry c .args .s)) k (at-entry c .args .at))
-    (lineOf (view (at-entry c .args .image .now) (at-entry c .args .s)) k) lines before (c .head-at .result) (at-entry c .args .m .now) (at-entry c .args .before)
+    (staysAt (view (at-entry c .args .image .now) (stretchesIn (at-entry c .args .s .now))) k (at-entry c .args .at))
+    (lineOf (view (at-entry c .args .image .now) (stretchesIn (at-entry c .args .s .now))) k) lines before (c .head-at .result) (at-entry c .args .m .now) (at-entry c .args .before)
 started c k lines before small h =
     let a = at-entry c .args in
     walked-first placedSheet (a .library .now) placed-reads none (k .ps) (k .sought .placings) refl (a .at)
-    (staysAt (view (a .image .now) (a .s)) k (a .at)) (within (at-entry c) k small) (lineOf (view (a .image .now) (a .s)) k) lines before
+    (staysAt (view (a .image .now) (stretchesIn (a .s .now))) k (a .at)) (within (at-entry c) k small) (lineOf (view (a .image .now) (stretchesIn (a .s .now))) k) lines before
     (c .head-at .result) (a .m .now) (a .before) small (c .head-at .ensures) h
 
 returns : tie.Need-returns Inv-loop μ-loop
@@ -89,7 +89,8 @@ returns c =
             c .if1 .taken,
             le-div-iff-mul-le {k = 8} {x = c .before .head-at .result} {y = length (a .placed .now)} (omega arith) .1
                 (walked-room placedSheet (a .library .now) placed-reads none (k .ps) (k .sought .placings) refl (a .at)
-                (staysAt (view (a .image .now) (a .s)) k (a .at)) (within entry k small) (lineOf (view (a .image .now) (a .s)) k) lines before (started (c .before) k lines before small h)),
+                (staysAt (view (a .image .now) (stretchesIn (a .s .now))) k (a .at)) (within entry k small)
+                (lineOf (view (a .image .now) (stretchesIn (a .s .now))) k) lines before (started (c .before) k lines before small h)),
           ));
     }
 
@@ -134,7 +135,7 @@ returns-2 c =
             arith,
             c .if2 .taken,
             leads-back placedSheet (a .library .now) placed-reads none (k .ps) (k .sought .placings) refl (a .at)
-                (staysAt (view (a .image .now) (a .s)) k (a .at)) (within entry k small) (lineOf (view (a .image .now) (a .s)) k) lines before
+                (staysAt (view (a .image .now) (stretchesIn (a .s .now))) k (a .at)) (within entry k small) (lineOf (view (a .image .now) (stretchesIn (a .s .now))) k) lines before
                 (l .here) (l .m) (l .b) (l .inv .walked k lines before small long h) (in-loop .loop-test .taken)
                 (λ r. r .link) (λ x link alike. refl) (lines-of entry) (are entry k) (placed-at .placed-at .result) (placed-at .placed-at .ensures),
           ));
@@ -156,7 +157,7 @@ loop-again c =
       long = c .before .before .m .given ∙ l .inv .long;
       walked = λ k lines before small long h.
           walked-turn placedSheet (a .library .now) placed-reads none (k .ps) (k .sought .placings) refl (a .at)
-          (staysAt (view (a .image .now) (a .s)) k (a .at)) (within entry k small) (lineOf (view (a .image .now) (a .s)) k) lines before
+          (staysAt (view (a .image .now) (stretchesIn (a .s .now))) k (a .at)) (within entry k small) (lineOf (view (a .image .now) (stretchesIn (a .s .now))) k) lines before
           (l .here) (l .m) (l .b) (l .inv .walked k lines before small long h) (in-loop .loop-test .taken)
           (λ r. r .link) (λ x link alike. refl) (lines-of entry) (are entry k) (placed-at .placed-at .result) (placed-at .placed-at .ensures)
           (a .from) (take-placed .take-placed .last .1 .1 .1 .1 .1 .1 .1 .1 .1 .1 .1 .0) (take-placed .take-placed .result) long (take-placed .take-placed .ensures);
@@ -174,7 +175,7 @@ returns-3 c =
       few = omega (arith, l .inv .few);
       walked = λ k lines before small long h.
           walked-last placedSheet (a .library .now) placed-reads none (k .ps) (k .sought .placings) refl (a .at)
-          (staysAt (view (a .image .now) (a .s)) k (a .at)) (within entry k small) (lineOf (view (a .image .now) (a .s)) k) lines before
+          (staysAt (view (a .image .now) (stretchesIn (a .s .now))) k (a .at)) (within entry k small) (lineOf (view (a .image .now) (stretchesIn (a .s .now))) k) lines before
           (l .here) (l .m) (l .b) (c .loop-test .left) (l .inv .walked k lines before small long h);
     }
 
