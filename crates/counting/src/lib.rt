@@ -6,7 +6,6 @@ mod passes;
 use crate::passes::over_modules;
 use collect::Collection;
 use collect::entry::collect;
-use image::Stretch;
 use image::fixup::Rules;
 use lent::refusal::number;
 use lent::rows::put;
@@ -19,6 +18,9 @@ use printing::print;
 use search::Searched;
 use search::entry::search;
 use search_rules::Asked;
+
+// No stretch is withheld.
+const NOTHING: [u64; 0] = [];
 
 // Reads a library and goes over it once; gives a sum over all that it says, or 0 for a refusal.
 #[no_mangle]
@@ -105,7 +107,7 @@ pub extern "C" fn count_searching(
     };
     match search(
         image,
-        Stretch { start: 0, len: 0 },
+        &NOTHING,
         asked,
         library,
         n,
@@ -158,7 +160,7 @@ pub extern "C" fn count_listing(
     let skip = skip_of(skips, amount);
     let filled = list_rows(
         image,
-        Stretch { start: 0, len: 0 },
+        &NOTHING,
         Rules::AsFound,
         skip,
         library,

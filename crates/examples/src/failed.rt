@@ -1,8 +1,8 @@
 // Which reference of a match fails first, and why (W-208): a match at 0 whose references lead to a RET, to a name, and to a
 // name by a word of which the image has one byte.
+use crate::show::NOTHING;
 use crate::show::number;
 use crate::show::say;
-use image::Stretch;
 use image::fixup::Rules;
 use lent::part::Part;
 use search::failed::first_failed;
@@ -22,7 +22,7 @@ fn reason(why: Why) {
     }
 }
 
-fn first(image: &[u8], s: Stretch, count: usize) {
+fn first(image: &[u8], s: &[u64], count: usize) {
     let part = Part { at: 0, len: count };
     match first_failed(
         image,
@@ -46,14 +46,13 @@ fn first(image: &[u8], s: Stretch, count: usize) {
 }
 
 pub fn first_failures() {
-    let nothing = Stretch { start: 0, len: 0 };
     let led = b"\x00\x04\x00\x00\x22\x05";
     say(b"Fails first:");
-    first(led, nothing, 2);
-    first(led, nothing, 3);
-    first(led, Stretch { start: 2, len: 1 }, 3);
-    first(led, Stretch { start: 5, len: 1 }, 3);
-    first(led, Stretch { start: 4, len: 1 }, 3);
-    first(b"\x00\x03\x00\x00\x22\x05", nothing, 3);
+    first(led, &NOTHING, 2);
+    first(led, &NOTHING, 3);
+    first(led, &[2, 1], 3);
+    first(led, &[5, 1], 3);
+    first(led, &[4, 1], 3);
+    first(b"\x00\x03\x00\x00\x22\x05", &NOTHING, 3);
     say(b"\n");
 }

@@ -3,6 +3,7 @@
 mod failed;
 mod show;
 
+use crate::show::NOTHING;
 use crate::show::answer;
 use crate::show::both_rules;
 use crate::show::byte;
@@ -11,34 +12,40 @@ use crate::show::number;
 use crate::show::say;
 use crate::show::target;
 use describe::Described;
-use image::Stretch;
 use image::fixup::Kind;
 use image::fixup::Rules;
 use lent::part::Part;
 use omf51::Fixup;
 use omf51::ModuleId;
 
-const NOTHING: Stretch = Stretch { start: 0, len: 0 };
-
 // P1 to P5 and P14.
 fn patterns() {
     let image = b"\x41\x42\x43\x41\x00\x43";
-    matches(b"P1", b"\x07\x08", NOTHING, b"", b"");
-    matches(b"P2", b"", NOTHING, b"", b"");
+    matches(b"P1", b"\x07\x08", &NOTHING, b"", b"");
+    matches(b"P2", b"", &NOTHING, b"", b"");
     matches(
         b"P3",
         b"\x07\x08",
-        NOTHING,
+        &NOTHING,
         b"\x07\x08\x09",
         b"\xff\xff\xff",
     );
-    matches(b"P4", image, NOTHING, b"\x41\x00\x43", b"\xff\x00\xff");
+    matches(b"P4", image, &NOTHING, b"\x41\x00\x43", b"\xff\x00\xff");
     say(b"P5");
     answer(image::stands_at(b"\xe1", b"\x01", b"\x1f", 0));
     answer(image::stands_at(b"\x11", b"\x01", b"\x1f", 0));
     say(b"\n");
-    let withheld = Stretch { start: 4, len: 1 };
-    matches(b"P14", image, withheld, b"\x41\x00\x43", b"\xff\x00\xff");
+    matches(b"P14", image, &[4, 1], b"\x41\x00\x43", b"\xff\x00\xff");
+}
+
+// Several stretches (W-207), each a start and a length: between two that do not meet there is a gap, in which a pattern
+// matches; two that overlap or meet, and one cut in two, are one cover.
+fn stretches() {
+    let image = b"\x41\x42\x43\x41\x00\x43";
+    matches(b"Gap", image, &[0, 2, 3, 2], b"\x43", b"\xff");
+    matches(b"Overlap", image, &[1, 2, 0, 2], b"\x43", b"\xff");
+    matches(b"Meet", image, &[0, 2, 2, 1], b"\x43", b"\xff");
+    matches(b"Last", image, &[0, 1, 2, 0, 5, 1], b"\x43", b"\xff");
 }
 
 // P6 to P10.
@@ -48,10 +55,10 @@ fn targets() {
     both_rules(b"P8", 0x0010, Kind::Relative, 0xfe, 0);
     both_rules(b"P9", 0, Kind::Relative, 0xfe, 0);
     say(b"P10");
-    target(b"\x00\x00\x00\x12", NOTHING, Rules::AsFound, 3, Kind::Word);
+    target(b"\x00\x00\x00\x12", &NOTHING, Rules::AsFound, 3, Kind::Word);
     target(
         b"\x00\x00\x00\x12\x34",
-        NOTHING,
+        &NOTHING,
         Rules::AsFound,
         3,
         Kind::Word,
@@ -61,12 +68,12 @@ fn targets() {
 
 // Why a reference has no target (W-208): a withheld byte; a withheld last byte, which a Word also passes.
 fn reasons() {
-    let last = Stretch { start: 1, len: 1 };
+    let last = [1, 1];
     say(b"Withheld");
-    target(b"\x12\x34", last, Rules::Documented, 0, Kind::Relative);
-    target(b"\x12\x34", last, Rules::Documented, 0, Kind::Word);
-    target(b"\x12\x34", last, Rules::Documented, 1, Kind::Relative);
-    target(b"\x12\x34", last, Rules::Documented, 1, Kind::Word);
+    target(b"\x12\x34", &last, Rules::Documented, 0, Kind::Relative);
+    target(b"\x12\x34", &last, Rules::Documented, 0, Kind::Word);
+    target(b"\x12\x34", &last, Rules::Documented, 1, Kind::Relative);
+    target(b"\x12\x34", &last, Rules::Documented, 1, Kind::Word);
     say(b"\n");
 }
 
@@ -121,6 +128,7 @@ fn description(name: &[u8]) {
 
 fn main() {
     patterns();
+    stretches();
     targets();
     reasons();
     failed::first_failures();

@@ -1,10 +1,12 @@
 // How examples are shown, on standard output.
 use image::FirstPlace;
-use image::Stretch;
 use image::fixup::Kind;
 use image::fixup::Rules;
 use image::fixup::Target;
 use libc::STDOUT_FILENO;
+
+// No stretch is withheld.
+pub const NOTHING: [u64; 0] = [];
 
 pub fn say(text: &[u8]) {
     io::write_all(STDOUT_FILENO, text);
@@ -28,7 +30,7 @@ pub fn answer(yes: bool) {
 }
 
 // All matches, ascending; more than 16 are not shown.
-fn each_match(image: &[u8], s: Stretch, bytes: &[u8], masks: &[u8]) {
+fn each_match(image: &[u8], s: &[u64], bytes: &[u8], masks: &[u8]) {
     let mut at: usize = 0;
     let mut turns: usize = 0;
     while turns < 16 {
@@ -47,13 +49,13 @@ fn each_match(image: &[u8], s: Stretch, bytes: &[u8], masks: &[u8]) {
     say(b" and more\n");
 }
 
-pub fn matches(text: &[u8], image: &[u8], s: Stretch, bytes: &[u8], masks: &[u8]) {
+pub fn matches(text: &[u8], image: &[u8], s: &[u64], bytes: &[u8], masks: &[u8]) {
     say(text);
     each_match(image, s, bytes, masks);
 }
 
-// Where a reference with no offset leads, nothing being withheld.
-pub fn target(image: &[u8], s: Stretch, rules: Rules, pos: usize, kind: Kind) {
+// Where a reference with no offset leads.
+pub fn target(image: &[u8], s: &[u64], rules: Rules, pos: usize, kind: Kind) {
     match image::fixup::find_target(image, s, rules, pos, kind, 0) {
         Target::At(t) => {
             say(b" 0x");
@@ -69,9 +71,8 @@ pub fn target(image: &[u8], s: Stretch, rules: Rules, pos: usize, kind: Kind) {
 }
 
 fn by_both_rules(image: &[u8; 2048], pos: usize, kind: Kind) {
-    let nothing = Stretch { start: 0, len: 0 };
-    target(image, nothing, Rules::AsFound, pos, kind);
-    target(image, nothing, Rules::Documented, pos, kind);
+    target(image, &NOTHING, Rules::AsFound, pos, kind);
+    target(image, &NOTHING, Rules::Documented, pos, kind);
     say(b"\n");
 }
 
