@@ -6,6 +6,8 @@ pub mod MatchLaws
 pub mod Window
 pub mod WindowLaws
 pub mod ViewMatchLaws
+pub mod Cover
+pub mod CoverLaws
 pub mod Next
 pub mod NextLaws
 pub mod OneOutcome

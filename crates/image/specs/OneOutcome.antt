@@ -1,5 +1,5 @@
--- The functions on patterns have one outcome each, by their contracts alone. Assumes nothing.
-use Prim.Native.Nat.{ℕ}
+-- The functions on patterns and covers have one outcome each, by their contracts alone. Assumes nothing.
+use Prim.Native.Nat.{ℕ, _*_, min}
 use mathlib.Core.Path.{_≡_}
 use mathlib.Core.List.{List}
 use Rattle.lent.specs.OneOutcome.{Determines, by-equation}
@@ -8,6 +8,7 @@ use Rattle.image.specs.View.{view}
 use Rattle.image.specs.Match.{matchesAt}
 use Rattle.image.specs.Window.{isApart}
 use Rattle.image.specs.Next.{nextMatch}
+use Rattle.image.specs.Cover.{passesEnd}
 
 pub is-apart-one : (s : List Stretch) (at n : ℕ) → Determines (λ r. r ≡ isApart s at n)
 is-apart-one s at n = by-equation (isApart s at n)
@@ -20,3 +21,9 @@ match-at-one image s bytes masks at = by-equation (matchesAt (view image s) byte
 
 pub next-match-one : (image : List ℕ) (s : List Stretch) (bytes masks : List ℕ) (from : ℕ) → Determines (λ r. r ≡ nextMatch (view image s) bytes masks from)
 next-match-one image s bytes masks from = by-equation (nextMatch (view image s) bytes masks from)
+
+pub numbers-one : (count : ℕ) → Determines (λ r. r ≡ 2 * min count 16)
+numbers-one count = by-equation (2 * min count 16)
+
+pub passes-end-one : (len : ℕ) (s : List Stretch) → Determines (λ r. r ≡ passesEnd len s)
+passes-end-one len s = by-equation (passesEnd len s)

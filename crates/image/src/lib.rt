@@ -10,6 +10,7 @@ ghost use Rattle.image.specs.Window.{isBeside, isApart};
 ghost use Rattle.image.specs.WindowLaws.{pairAt};
 ghost use Rattle.image.specs.Next.{nextMatch};
 
+pub mod cover;
 pub mod fixup;
 
 // The length of the longest image that a run takes.

@@ -1,0 +1,51 @@
+// What is withheld of an image, as the settings of a run have it: up to 16 stretches, each a start and a length.
+ghost use mathlib.Core.Path.{_≡_};
+ghost use Prim.Native.Nat.{_*_, min};
+ghost use Rattle.image.specs.View.{stretchesIn};
+ghost use Rattle.image.specs.Cover.{endsPast, passesEnd};
+use crate::Stretch;
+use crate::stretch_at;
+
+// Settings hold so many stretches.
+pub const MOST_STRETCHES: usize = 16;
+
+// The stretches of settings: the first `count` pairs of a start and a length. A count above 16 says that there are more
+// than the pairs have room for.
+pub struct Stretches {
+    pub count: usize,
+    pub pairs: [u64; 32],
+}
+
+// How many numbers of the pairs say what is withheld.
+pub fn numbers(count: usize) -> usize
+    ensures { λ r. ⌜ r ≡ 2 * min count 16 ⌝ }
+{
+    if MOST_STRETCHES < count {
+        return 32;
+    }
+    2 * count
+}
+
+// Whether a stretch passes the end of an image of this length. No sum is taken that could be too large.
+fn ends_past(s: Stretch, len: usize) -> bool
+    ensures { λ r. ⌜ r ≡ endsPast len s ⌝ }
+{
+    if len < s.start {
+        return true;
+    }
+    len - s.start < s.len
+}
+
+// Whether some stretch of a cover does.
+pub fn passes_end(s: &[u64], len: usize) -> bool
+    ensures { λ r. ⌜ r ≡ passesEnd len (stretchesIn (now (s .entry))) ⌝ }
+{
+    let mut i = 0;
+    while i + 1 < s.len() {
+        if ends_past(stretch_at(s, i), len) {
+            return true;
+        }
+        i += 2;
+    }
+    false
+}
