@@ -22,7 +22,7 @@ use Rattle.search.proofs.visit.matched.visit_match.Tie as tie
 
 -- The ladder: places of the code that the answers cite, each as it is seen from a later place.
 abbrev after-refer-all : tie.After-keeps-out → tie.After-refer-all
-after-refer-all c = c .before .before .before .before .before .before
+after-refer-all c = c .before .before .before .before .before .before .before
 
 abbrev after-slice-known3 : tie.After-keeps-out → tie.After-slice-known3
 after-slice-known3 c = after-refer-all c .before .before .before .before .before .before
@@ -30,8 +30,8 @@ after-slice-known3 c = after-refer-all c .before .before .before .before .before
 abbrev at-entry : tie.After-keeps-out → tie.Start
 at-entry c = after-slice-known3 c .before .before .before .before .before .before .before .before .before .before .before
 
-abbrev after-place-symbols : tie.After-fills2 → tie.After-place-symbols
-after-place-symbols c = c .before .before .before .before .before
+abbrev after-keeps-out : tie.After-fills2 → tie.After-keeps-out
+after-keeps-out c = c .before .before .before .before .before .before .before .before .before
 
 -- where the segments are stored, and what is seen
 abbrev rows : tie.Start → Stored
@@ -50,6 +50,7 @@ Left c placed positions noted goals f =
 returns : tie.Need-returns
 returns c =
     let keeps-out = c .before .before in
+    let is-failed = keeps-out .before in
     let entry = at-entry keeps-out in
     let a = entry .args in
     let q = after-refer-all keeps-out .refer-all in
@@ -58,8 +59,8 @@ returns c =
       places =
           subst (λ xs. Takes placedSheet (a .library .now) (place (a .library .now) (length (seen entry))) xs
           (table (a .placed .now) (a .positions .now) (a .f .placed)) (table (a .placed .now) (a .positions .now) (a .f .placed)))
-          (match-fails (seen entry) (a .asked) (a .library .now) (rows entry) (a .n) (a .number) (a .row) (a .valid) (a .at) known (q .result .holds)
-          (keeps-out .keeps-out .result) (q .ensures .holds (a .references .now) (a .symbols .now)) (keeps-out .keeps-out .ensures) (c .before .if1 .taken))
+          (match-fails (seen entry) (a .asked) (a .library .now) (rows entry) (a .n) (a .number) (a .row) (a .valid) (a .at) known (q .result .failed) (q .ensures .fails)
+          (is-failed .is-failed .result) (is-failed .is-failed .ensures) (keeps-out .keeps-out .result) (keeps-out .keeps-out .ensures) (c .before .if1 .taken))
           (takes-none placedSheet (a .library .now) (place (a .library .now) (length (seen entry))) (table (a .placed .now) (a .positions .now) (a .f .placed)));
       notes =
           subst (λ xs. Takes notedSheet (a .library .now) (note (a .library .now)) xs (table (a .noted .now) (a .goals .now) (a .f .noted))
@@ -70,20 +71,20 @@ returns c =
 
 returns-2 : tie.Need-returns-2
 returns-2 c =
-    let place-symbols = after-place-symbols c in
-    let keeps-out = place-symbols .before .before .before .before in
+    let keeps-out = after-keeps-out c in
+    let is-failed = keeps-out .before in
     let entry = at-entry keeps-out in
     let a = entry .args in
     let q = after-refer-all keeps-out .refer-all in
-    let p = place-symbols .place-symbols in
+    let p = c .before .before .before .before .before .place-symbols in
     λ known. subst (Left entry (p .last .1 .1 .1 .1 .1 .1 .1 .0) (p .last .1 .1 .1 .1 .1 .1 .1 .1 .0)
     (q .last .1 .1 .1 .1 .1 .1 .1 .1 .1 .1 .1 .1 .0) (q .last .1 .1 .1 .1 .1 .1 .1 .1 .1 .1 .1 .1 .1 .0)) (sym (c .fills2 .ensures)) record {
       places =
           subst (λ xs. Takes placedSheet (a .library .now) (place (a .library .now) (length (seen entry))) xs
           (table (a .placed .now) (a .positions .now) (a .f .placed)) (table (p .last .1 .1 .1 .1 .1 .1 .1 .0) (p .last .1 .1 .1 .1 .1 .1 .1 .1 .0) (p .result)))
           (match-passes (seen entry) (a .asked) (a .library .now) (rows entry) (a .n) (a .number) (a .row) (a .valid) (a .at) known
-          (q .result .holds) (keeps-out .keeps-out .result) (q .ensures .holds (a .references .now) (a .symbols .now))
-          (keeps-out .keeps-out .ensures) (place-symbols .before .before .before .if1 .left))
+          (q .result .failed) (q .ensures .fails) (is-failed .is-failed .result) (is-failed .is-failed .ensures)
+          (keeps-out .keeps-out .result) (keeps-out .keeps-out .ensures) (c .before .before .before .before .before .before .before .before .if1 .left))
           (subst (λ end. Takes placedSheet (a .library .now) (place (a .library .now) end)
           (map (placingOf (a .number) (a .at) (a .valid)) (rowsOf symbolLayout (a .symbols .now) (a .row .symbols)))
           (table (a .placed .now) (a .positions .now) (a .f .placed))
@@ -99,6 +100,7 @@ pub visit-match-spec : {M : Type 1} → statement M
 visit-match-spec =
     tie.close
     (tie.spec
+    (λ c κs. search needs)
     (λ c κs. search needs)
     (λ c κs. search needs)
     (λ c κs. search needs)
