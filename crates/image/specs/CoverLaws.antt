@@ -8,20 +8,39 @@ use native.Mathlib.Decide.{decLe}
 use native.Mathlib.Omega.{arith}
 use borrow.Author.Tests.{ltb-true, ltb-false, lt-ltb, le-ltb}
 use lib.Dec.{ltb}
-use lib.ListN.{length, drop}
+use lib.ListN.{length, getD, drop, drop-of-length-le}
 use Rattle.lent.specs.ChoiceLaws.{either}
 use Rattle.lent.specs.Lists.{any}
 use Rattle.lent.specs.Members.{_among_}
+use Rattle.lent.specs.PartLaws.{drop-turn}
 use Rattle.image.specs.declared.Stretch.{Stretch}
 use Rattle.image.specs.declared.cover.Stretches.{Stretches}
 use Rattle.image.specs.View.{stretchesIn}
-use Rattle.image.specs.Cover.{coverOf, endsPast, passesEnd}
+use Rattle.image.specs.Cover.{coverOf, oneMore, gathered, endsPast, passesEnd}
 use Rattle.image.specs.WindowLaws.{pairAt, pairs-turn, pairs-end}
 
 -- a count of 0 withholds nothing
 pub no-stretches : (w : Stretches) → w .count ≡ 0 → coverOf w ≡ []
 unfolding stretchesIn
 no-stretches w e = rw e
+
+-- stretches gathered from number i of a list on: one more, a start without a length, none
+module _ (w : Stretches) (xs : List ℕ) (i : ℕ) where
+  pub gathered-turn : i + 1 < length xs → gathered w (drop i xs) ≡ gathered (oneMore w (getD xs i 0) (getD xs (i + 1) 0)) (drop (i + 2) xs)
+  unfolding gathered
+  gathered-turn h =
+      let next : i + 1 + 1 ≡ i + 2 = omega arith in
+      rw (drop-turn xs i 0 (omega arith), drop-turn xs (i + 1) 0 h, next)
+
+  pub gathered-last : i + 1 ≡ length xs → gathered w (drop i xs) ≡ oneMore w (getD xs i 0) 0xFFFFFFFFFFFFFFFF
+  unfolding gathered
+  gathered-last h =
+      let end : length xs ≤ i + 1 = omega (arith, h) in
+      rw (drop-turn xs i 0 (omega (arith, h)), drop-of-length-le xs end)
+
+  pub gathered-end : length xs ≤ i → gathered w (drop i xs) ≡ w
+  unfolding gathered
+  gathered-end h = rw (drop-of-length-le xs h)
 
 -- a sum and a difference, compared
 pub past-end : (len start more : ℕ) → start ≤ len → ltb (len - start) more ≡ ltb len (start + more)

@@ -8,6 +8,7 @@ pub mod WindowLaws
 pub mod ViewMatchLaws
 pub mod Cover
 pub mod CoverLaws
+pub mod GatherLaws
 pub mod Next
 pub mod NextLaws
 pub mod OneOutcome

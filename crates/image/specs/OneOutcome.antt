@@ -4,11 +4,12 @@ use mathlib.Core.Path.{_≡_}
 use mathlib.Core.List.{List}
 use Rattle.lent.specs.OneOutcome.{Determines, by-equation}
 use Rattle.image.specs.declared.Stretch.{Stretch}
+use Rattle.image.specs.declared.cover.Stretches.{Stretches}
 use Rattle.image.specs.View.{view}
 use Rattle.image.specs.Match.{matchesAt}
 use Rattle.image.specs.Window.{isApart}
 use Rattle.image.specs.Next.{nextMatch}
-use Rattle.image.specs.Cover.{passesEnd}
+use Rattle.image.specs.Cover.{oneMore, gathered, noStretches, passesEnd}
 
 pub is-apart-one : (s : List Stretch) (at n : ℕ) → Determines (λ r. r ≡ isApart s at n)
 is-apart-one s at n = by-equation (isApart s at n)
@@ -27,3 +28,12 @@ numbers-one count = by-equation (2 * min count 16)
 
 pub passes-end-one : (len : ℕ) (s : List Stretch) → Determines (λ r. r ≡ passesEnd len s)
 passes-end-one len s = by-equation (passesEnd len s)
+
+pub no-stretches-one : Determines (λ r. r ≡ noStretches)
+no-stretches-one = by-equation noStretches
+
+pub one-more-one : (w : Stretches) (start len : ℕ) → Determines (λ r. r ≡ oneMore w start len)
+one-more-one w start len = by-equation (oneMore w start len)
+
+pub gather-one : (numbers : List ℕ) → Determines (λ r. r ≡ gathered noStretches numbers)
+gather-one numbers = by-equation (gathered noStretches numbers)

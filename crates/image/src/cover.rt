@@ -2,7 +2,7 @@
 ghost use mathlib.Core.Path.{_≡_};
 ghost use Prim.Native.Nat.{_*_, min};
 ghost use Rattle.image.specs.View.{stretchesIn};
-ghost use Rattle.image.specs.Cover.{endsPast, passesEnd};
+ghost use Rattle.image.specs.Cover.{noStretches, oneMore, gathered, endsPast, passesEnd};
 use crate::Stretch;
 use crate::stretch_at;
 
@@ -24,6 +24,50 @@ pub fn numbers(count: usize) -> usize
         return 32;
     }
     2 * count
+}
+
+// No stretch.
+pub fn no_stretches() -> Stretches
+    ensures { λ r. ⌜ r ≡ noStretches ⌝ }
+{
+    Stretches {
+        count: 0,
+        pairs: [0u64; 32],
+    }
+}
+
+// One stretch more. Behind the sixteenth only that there are too many is kept.
+pub fn one_more(w: Stretches, start: u64, len: u64) -> Stretches
+    ensures { λ r. ⌜ r ≡ oneMore w start len ⌝ }
+{
+    let count = w.count;
+    let mut pairs = w.pairs;
+    if MOST_STRETCHES <= count {
+        return Stretches { count: 17, pairs };
+    }
+    pairs[2 * count] = start;
+    pairs[2 * count + 1] = len;
+    Stretches {
+        count: count + 1,
+        pairs,
+    }
+}
+
+// The stretches that a list of numbers gives: start, length, start, length, and so on. A start without a length has the
+// largest length of 64 bits, which passes the end of every image, so that no stretch is passed over in silence.
+pub fn gather(numbers: &[u64]) -> Stretches
+    ensures { λ r. ⌜ r ≡ gathered noStretches (now (numbers .entry)) ⌝ }
+{
+    let mut w = no_stretches();
+    let mut i = 0;
+    while i < numbers.len() {
+        if i + 1 == numbers.len() {
+            return one_more(w, numbers[i], 0xffff_ffff_ffff_ffff);
+        }
+        w = one_more(w, numbers[i], numbers[i + 1]);
+        i += 2;
+    }
+    w
 }
 
 // Whether a stretch passes the end of an image of this length. No sum is taken that could be too large.
