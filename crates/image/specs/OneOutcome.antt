@@ -2,6 +2,7 @@
 use Prim.Native.Nat.{ℕ, _*_, min}
 use mathlib.Core.Path.{_≡_}
 use mathlib.Core.List.{List}
+use lib.ListN.{take}
 use Rattle.lent.specs.OneOutcome.{Determines, by-equation}
 use Rattle.image.specs.declared.Stretch.{Stretch}
 use Rattle.image.specs.declared.cover.Stretches.{Stretches}
@@ -23,8 +24,8 @@ match-at-one image s bytes masks at = by-equation (matchesAt (view image s) byte
 pub next-match-one : (image : List ℕ) (s : List Stretch) (bytes masks : List ℕ) (from : ℕ) → Determines (λ r. r ≡ nextMatch (view image s) bytes masks from)
 next-match-one image s bytes masks from = by-equation (nextMatch (view image s) bytes masks from)
 
-pub numbers-one : (count : ℕ) → Determines (λ r. r ≡ 2 * min count 16)
-numbers-one count = by-equation (2 * min count 16)
+pub first-pairs-one : (pairs : List ℕ) (count : ℕ) → Determines (λ r. r ≡ take (2 * min count 16) pairs)
+first-pairs-one pairs count = by-equation (take (2 * min count 16) pairs)
 
 pub passes-end-one : (len : ℕ) (s : List Stretch) → Determines (λ r. r ≡ passesEnd len s)
 passes-end-one len s = by-equation (passesEnd len s)

@@ -1,6 +1,7 @@
 // What is withheld of an image, as the settings of a run have it: up to 16 stretches, each a start and a length.
 ghost use mathlib.Core.Path.{_≡_};
 ghost use Prim.Native.Nat.{_*_, min};
+ghost use lib.ListN.{take};
 ghost use Rattle.image.specs.View.{stretchesIn};
 ghost use Rattle.image.specs.Cover.{noStretches, oneMore, gathered, endsPast, passesEnd};
 use crate::Stretch;
@@ -17,13 +18,24 @@ pub struct Stretches {
 }
 
 // How many numbers of the pairs say what is withheld.
-pub fn numbers(count: usize) -> usize
+fn numbers(count: usize) -> usize
     ensures { λ r. ⌜ r ≡ 2 * min count 16 ⌝ }
 {
     if MOST_STRETCHES < count {
         return 32;
     }
     2 * count
+}
+
+// The numbers of the pairs that say what is withheld: those of the first `count` pairs, of which there are 16.
+pub fn first_pairs<'a>(pairs: &'a [u64], count: usize) -> &'a [u64]
+    ensures { λ r. ⌜ now r ≡ take (2 * min count 16) (now (pairs .entry)) ⌝ }
+{
+    let n = numbers(count);
+    if pairs.len() < n {
+        return pairs;
+    }
+    &pairs[0..n]
 }
 
 // No stretch.
