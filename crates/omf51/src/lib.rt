@@ -21,6 +21,12 @@ pub struct Frame {
     pub end: usize,
 }
 
+// The reading edition: 1 is document 01's; 2 also wants every record to sum to 0, and bodies and the file to be used up.
+pub enum Edition {
+    One,
+    Two,
+}
+
 // How a reading ends: read up to a place; stopped, since what should be read does not stand there; or refused.
 pub enum End {
     At(usize),
