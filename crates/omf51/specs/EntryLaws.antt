@@ -12,13 +12,12 @@ use Rattle.lent.specs.declared.refusal.Refusal.the-variants.{LeftOver}
 use Rattle.lent.specs.Choice.{if_then_else_}
 use Rattle.lent.specs.Parts.{byteAt, bytesOf}
 use Rattle.omf51.specs.declared.Edition.{Edition}
-use Rattle.omf51.specs.declared.Edition.the-variants.{One, Two}
 use Rattle.omf51.specs.declared.Frame.{Frame}
 use Rattle.omf51.specs.declared.End.the-variants.{At, Stop}
 use Rattle.omf51.specs.Reader.{read, stop, refused, andThen}
 use Rattle.omf51.specs.Entry.{ending, namePart, idSize, nameOffset, nameWith, definitionAt, fixupAt}
-use Rattle.omf51.specs.Record.{expectedBy, usedUp, recordBy}
-use Rattle.omf51.specs.RecordLaws.{record-framed, used-all, used-short}
+use Rattle.omf51.specs.Record.{expectedBy, leavesOver, usedUp, recordBy}
+use Rattle.omf51.specs.RecordLaws.{record-framed}
 use Rattle.omf51.specs.Ends.{endOf}
 
 module _ {A : Type 0} (f : Frame) (a : A) {next : ℕ} where
@@ -98,11 +97,9 @@ module _ (e : Edition) (library : List ℕ) (allowed : ℕ → Bool) (more at : 
       → recordBy e library allowed (nameWith more library) at ≡ usedUp e (f .end) (record { at = f .body + 1; len = n }) (f .body + 1 + n + more) next
   named-read h = record-framed e library allowed (nameWith more library) at q ∙ rw (name-whole library f (f .body) here more h)
 
-  pub named-whole : f .body + 1 + n + more ≡ f .end → recordBy e library allowed (nameWith more library) at ≡ read (record { at = f .body + 1; len = n }) next
-  named-whole h = named-read (omega (arith, h)) ∙ used-all e (f .end) _ _ next (omega (arith, h))
+  module _ {left : ℕ} (k : left ≡ f .body + 1 + n + more) (h : left ≤ f .end) where
+    pub named-whole : leavesOver e left (f .end) ≡ false → recordBy e library allowed (nameWith more library) at ≡ read (record { at = f .body + 1; len = n }) next
+    named-whole o = named-read (omega (arith, k, h)) ∙ rw (← k, o)
 
-  pub named-first : e ≡ One → f .body + 1 + n + more ≤ f .end → recordBy e library allowed (nameWith more library) at ≡ read (record { at = f .body + 1; len = n }) next
-  named-first one h = named-read h ∙ rw one
-
-  pub named-over : e ≡ Two → f .body + 1 + n + more < f .end → recordBy e library allowed (nameWith more library) at ≡ refused LeftOver
-  named-over two h = named-read (omega (arith, h)) ∙ rw two (used-short (f .end) _ _ next h)
+    pub named-over : leavesOver e left (f .end) ≡ true → recordBy e library allowed (nameWith more library) at ≡ refused LeftOver
+    named-over o = named-read (omega (arith, k, h)) ∙ rw (← k, o)

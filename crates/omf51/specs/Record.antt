@@ -1,7 +1,7 @@
 -- One record: a type byte, two bytes of length, a body of length - 1 bytes, and a checksum byte. Edition 1 does not
 -- examine the checksum, nor what is left of a body; edition 2 does.
 use Prim.Native.Nat.{ℕ, _+_, _-_, _%_}
-use mathlib.Core.Bool.{Bool}
+use mathlib.Core.Bool.{Bool, false}
 use mathlib.Core.List.{List}
 use lib.Dec.{eqb, ltb}
 use lib.ListN.{length, take, drop}
@@ -41,11 +41,14 @@ unfoldable pub expectedBy : Edition → List ℕ → (ℕ → Bool) → Reader F
 expectedBy One library allowed at = expected library allowed at
 expectedBy Two library allowed at = andThen (expected library allowed at) (summed library at)
 
--- 15: what was read ends at `left`, and should have gone up to `end`; edition 1 passes over the bytes between, edition 2
--- refuses them
+-- bytes are left over behind what was read up to `left`, which should have gone up to `end`; edition 1 passes them over
+abbrev pub leavesOver : Edition → ℕ → ℕ → Bool
+leavesOver One left end = false
+leavesOver Two left end = ltb left end
+
+-- 15: edition 2 refuses bytes that are left over
 abbrev pub usedUp : {A : Type 0} → Edition → ℕ → A → ℕ → Reader A
-usedUp One end a left next = read a next
-usedUp Two end a left next = if ltb left end then refused LeftOver else read a next
+usedUp e end a left next = if leavesOver e left end then refused LeftOver else read a next
 
 -- a body that holds no entries, and is taken whole
 abbrev pub whole : {A : Type 0} → A → Frame → Reader A

@@ -5,6 +5,7 @@ use lent::part::Part;
 use lent::refusal::Refusal;
 
 pub mod allowed_types;
+pub mod by_edition;
 pub mod entry;
 pub mod read_entry;
 pub mod read_record;
