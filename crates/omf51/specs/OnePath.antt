@@ -153,8 +153,8 @@ module _ (e : Edition) (library : List ℕ) where
 
   stays : (n k : ℕ) {o : Option Refusal} → path n ≡ ends o → path (k + n) ≡ ends o
   unfolding path
-  stays n zero {o} e = let same : 0 + n ≡ n = omega arith in subst (λ i. path i ≡ ends o) (sym same) e
-  stays n (suc k) {o} e = let more : suc k + n ≡ suc (k + n) = omega arith in subst (λ i. path i ≡ ends o) (sym more) (ap onward (stays n k e))
+  stays n zero {o} q = let same : 0 + n ≡ n = omega arith in subst (λ i. path i ≡ ends o) (sym same) q
+  stays n (suc k) {o} q = let more : suc k + n ≡ suc (k + n) = omega arith in subst (λ i. path i ≡ ends o) (sym more) (ap onward (stays n k q))
 
   record Comes (m : Move) : Type 0 where
     turns : ℕ
@@ -187,37 +187,37 @@ module _ (e : Edition) (library : List ℕ) where
     by-refusal h = by-look h refl
 
   lost : (k at : ℕ) → 0 < k → byteAt library 0 ≡ 0x2c → missing k at ≡ goes closing28 at
-  lost zero at h e = absurd (omega arith)
-  lost (suc k) at h e = rw (eq-eqb (byteAt library 0) 0x2c e)
+  lost zero at h q = absurd (omega arith)
+  lost (suc k) at h q = rw (eq-eqb (byteAt library 0) 0x2c q)
 
   left : (k at : ℕ) → 0 < k → (byteAt library 0 ≡ 0x2c → ⊥) → missing k at ≡ done at
-  left zero at h e = absurd (omega arith)
-  left (suc k) at h e = rw (ne-eqb (byteAt library 0) 0x2c e)
+  left zero at h q = absurd (omega arith)
+  left (suc k) at h q = rw (ne-eqb (byteAt library 0) 0x2c q)
 
   -- each sentence is a turn
   comes : {s : State} {at : ℕ} → ComesTo e library s at → Comes (goes s at)
   unfolding path
-  comes (is-library e) = record { turns = 0; there = rw (eq-eqb (byteAt library 0) 0x2c e) }
-  comes (is-bare e) = record { turns = 0; there = rw (ne-eqb (byteAt library 0) 0x2c e) }
+  comes (is-library q) = record { turns = 0; there = rw (eq-eqb (byteAt library 0) 0x2c q) }
+  comes (is-bare q) = record { turns = 0; there = rw (ne-eqb (byteAt library 0) 0x2c q) }
   comes (opened at c t) = by-read (comes c) t refl
   comes (headed k at c t) = by-read (comes c) t refl
   comes (defined m at c t) = by-read (comes c) t refl
   comes (all-defined m at c t) = by-stop (comes c) t refl
-  comes (filled m at c t e) = by-read (comes c) t (rw e)
+  comes (filled m at c t q) = by-read (comes c) t (rw q)
   comes (fixed m at c t) = by-read (comes c) t refl
   comes (all-fixed m at c t) = by-stop (comes c) t refl
-  comes (skipped m at c t e) = by-read (comes c) t (rw e)
+  comes (skipped m at c t q) = by-read (comes c) t (rw q)
   comes (all-filled m at c t) = by-stop (comes c) t refl
-  comes (ended m at c t e) = by-read (comes c) t (rw e)
-  comes (no-header k at e c t) = by-stop (comes c) t (lost (suc k) at (omega arith) e)
-  comes (no-end m at e c t h) = by-stop (comes c) t (lost (m .before) (m .start) h e)
+  comes (ended m at c t q) = by-read (comes c) t (rw q)
+  comes (no-header k at q c t) = by-stop (comes c) t (lost (suc k) at (omega arith) q)
+  comes (no-end m at q c t h) = by-stop (comes c) t (lost (m .before) (m .start) h q)
   comes (closed28 at c t) = by-read (comes c) t refl
   comes (closed26 at c t) = by-read (comes c) t refl
 
   none-read : NothingRead e library → Comes (ends (some NoModule))
   none-read (no-opening at c t) = by-stop (comes c) t refl
   none-read (no-first-header at c t) = by-stop (comes c) t refl
-  none-read (no-first-end m at c t e) = by-stop (comes c) t (rw e)
+  none-read (no-first-end m at c t q) = by-stop (comes c) t (rw q)
   none-read (lacks-28 at c t) = by-stop (comes c) t refl
   none-read (lacks-26 at c t) = by-stop (comes c) t refl
   none-read (lacks-2A at c t) = by-stop (comes c) t refl
