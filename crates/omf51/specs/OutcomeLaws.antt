@@ -17,7 +17,7 @@ use Rattle.lent.specs.Parts.{byteAt}
 use Rattle.omf51.specs.declared.Edition.{Edition}
 use Rattle.omf51.specs.declared.Edition.the-variants.{One, Two}
 use Rattle.omf51.specs.declared.Frame.{Frame}
-use Rattle.omf51.specs.Reader.{ReadOutcome, read, stop, refused, Reader, andThen, give, after, repeat, many, notEmpty, atLeastOne}
+use Rattle.omf51.specs.Reader.{ReadOutcome, read, stop, refused, Reader, andThen, after, repeat, many, notEmpty, atLeastOne}
 use Rattle.omf51.specs.Record.{expected, recordSum, summed, expectedBy, usedUp, recordBy}
 use Rattle.omf51.specs.RecordLaws.{Framed, cut, empty, past, unclosed, whole, framed}
 use Rattle.omf51.specs.Entry.{ending, namePart, nameWith, definitionOf, definitionAt, fixupAt}
