@@ -132,6 +132,20 @@ module _ {A : Type 0} (library : List ℕ) (end : ℕ) (each : Reader (List A)) 
       go (takes (x ∷ xs) q w) = rw (le-leb (entry at) end q) (full q (more-within (length library) x xs (entry at)))
       go (rejects q) = rejects q
 
+-- and no further one fits behind them: a count of one more than the library's bytes is enough
+entries-last : (entry : ℕ → ℕ) (end : ℕ) → ((k : ℕ) → k < entry k) → (n k : ℕ) → end < n + k → end < entry (entriesEnd entry end n k)
+unfolding entriesEnd
+entries-last entry end more zero k h = omega (arith, more k)
+entries-last entry end more (suc n) k h =
+    chosen (λ last. end < entry last) (leb (entry k) end) (λ t. entries-last entry end more n (entry k) (omega (arith, more k))) (λ t. leb-false (entry k) end t)
+
+module _ (library : List ℕ) (f : Frame) (inside : f .end ≤ length library) where
+  pub definitions-last : f .end < definitionEnd library f (entriesEnd (definitionEnd library f) (f .end) (suc (length library)) (f .body))
+  definitions-last = entries-last (definitionEnd library f) (f .end) (λ k. omega arith) (suc (length library)) (f .body) (omega arith)
+
+  pub fixups-last : f .end < fixupEnd library f (entriesEnd (fixupEnd library f) (f .end) (suc (length library)) (f .body))
+  fixups-last = entries-last (fixupEnd library f) (f .end) (λ k. omega arith) (suc (length library)) (f .body) (omega arith)
+
 pub definition-within : (library : List ℕ) (f : Frame) (at : ℕ)
     → Within Filled (definitionEnd library f at) (definitionEnd library f at) (f .end) (definitionAt library f at)
 unfolding definitionAt

@@ -51,7 +51,8 @@ expects closing28 = eqb 0x28
 expects closing26 = eqb 0x26
 expects closing2A = eqb 0x2a
 
--- where the entries of a body end: whole ones follow one another, up to a place where no further one fits
+-- where the entries of a body end: whole ones follow one another, up to a place where no further one fits; the count
+-- only bounds them, since each takes a byte at least (OutcomeLaws.antt, `definitions-last`, `fixups-last`)
 unfoldable pub entriesEnd : (ℕ → ℕ) → ℕ → ℕ → ℕ → ℕ
 entriesEnd entry end zero k = k
 entriesEnd entry end (suc n) k = if leb (entry k) end then entriesEnd entry end n (entry k) else k
