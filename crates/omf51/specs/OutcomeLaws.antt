@@ -76,6 +76,7 @@ unfolding ending
 ending-within P f a next h =
     chosen (Within P next next (f .end)) (leb next (f .end)) (λ e. takes a (leb-true next (f .end) e) h) (λ e. rejects (leb-false next (f .end) e))
 
+-- what was read is made into another thing, and its end into another place
 pub then-within : {A B : Type 0} {P : A → Type 0} {Q : B → Type 0} {need last end : ℕ} {o : ReadOutcome A} (b : A → B) (next : ℕ → ℕ)
     → Within P need last end o → ((a : A) → P a → Q (b a)) → Within Q need (next last) end (andThen o λ a left. read (b a) (next left))
 then-within b next (takes a q w) g = takes (b a) q (g a w)
