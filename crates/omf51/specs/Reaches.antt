@@ -51,6 +51,12 @@ expects closing28 = eqb 0x28
 expects closing26 = eqb 0x26
 expects closing2A = eqb 0x2a
 
+-- where the entries of a body end: whole ones follow one another, up to a place where no further one fits; the count
+-- only bounds them, since each takes a byte at least (OutcomeLaws.antt, `definitions-last`, `fixups-last`)
+unfoldable pub entriesEnd : (ℕ → ℕ) → ℕ → ℕ → ℕ → ℕ
+entriesEnd entry end zero k = k
+entriesEnd entry end (suc n) k = if leb (entry k) end then entriesEnd entry end n (entry k) else k
+
 module _ (library : List ℕ) where
   -- "a record is type byte, two-byte little-endian length, body, one checksum byte": the length at a place, the record
   -- as it would stand there (its body has length - 1 bytes), and the place behind the checksum byte
@@ -87,11 +93,6 @@ module _ (library : List ℕ) where
   least closing26 f = f .body
   least closing2A f = f .body
 
-  -- where the entries of a body end: whole ones follow one another, up to a place where no further one fits
-  unfoldable pub entriesEnd : (ℕ → ℕ) → ℕ → ℕ → ℕ → ℕ
-  entriesEnd entry end zero k = k
-  entriesEnd entry end (suc n) k = if leb (entry k) end then entriesEnd entry end n (entry k) else k
-
   -- where what is read of a body ends: definitions and fixups, the name in a header or an end with the bytes behind it;
   -- the data of a content and "bodies of skipped records and of 2Ch, 28h, 26h and 2Ah" are "taken whole"
   abbrev pub used : State → Frame → ℕ
@@ -105,70 +106,74 @@ module _ (library : List ℕ) where
   used closing26 f = f .end
   used closing2A f = f .end
 
+module _ (library : List ℕ) (s : State) (at : ℕ) where
+  abbrev len : ℕ
+  len = lengthAt library at
+
+  -- an allowed type, both length bytes
+  pub record Expected : Type 0 where
+    pub allowed : expects s (byteAt library at) ≡ true
+    pub lengths : at + 3 ≤ length library
+
+  -- 7: "a record expected here has length 0"
+  pub record HasLengthZero : Type 0 where
+    pub expected : Expected
+    pub zero-length : len ≡ 0
+
+  -- 6: "the body (length - 1 bytes) of a record expected here passes the file's end"
+  pub record HasBodyPastEnd : Type 0 where
+    pub expected : Expected
+    pub long : len ≡ 0 → ⊥
+    pub past : length library < at + 2 + len
+
+  -- a whole record, its checksum byte too
+  pub record Whole : Type 0 where
+    pub expected : Expected
+    pub long : len ≡ 0 → ⊥
+    pub closed : at + 3 + len ≤ length library
+
+-- edition 1: "the checksum is not examined"; edition 2: "all bytes of a record, its checksum included, sum to 0 modulo 256"
+abbrev pub Summed : Edition → List ℕ → ℕ → Type 0
+Summed One library at = Unit
+Summed Two library at = recordSum library at (behind library at) ≡ 0
+
 -- edition 2 "wants" what was read to be used up: it ends where it should
 abbrev pub UsedUp : Edition → ℕ → ℕ → Type 0
 UsedUp One last end = Unit
 UsedUp Two last end = end ≤ last
 
--- edition 2: "all bytes of a record, its checksum included, sum to 0 modulo 256"
-abbrev pub Summed : Edition → List ℕ → ℕ → Type 0
-Summed One library at = Unit
-Summed Two library at = recordSum library at (behind library at) ≡ 0
-
 module _ (e : Edition) (library : List ℕ) where
   module _ (s : State) (at : ℕ) where
-    abbrev len : ℕ
-    len = lengthAt library at
-
-    -- an allowed type, both length bytes
-    pub record Expected : Type 0 where
-      pub allowed : expects s (byteAt library at) ≡ true
-      pub lengths : at + 3 ≤ length library
-
-    -- 7: "a record expected here has length 0"
-    pub record HasLengthZero : Type 0 where
-      pub expected : Expected
-      pub zero-length : len ≡ 0
-
-    -- 6: "the body (length - 1 bytes) of a record expected here passes the file's end"
-    pub record HasBodyPastEnd : Type 0 where
-      pub expected : Expected
-      pub long : len ≡ 0 → ⊥
-      pub past : length library < at + 2 + len
-
-    -- a whole record, its checksum byte too ("the checksum is not examined")
-    pub record Whole : Type 0 where
-      pub expected : Expected
-      pub long : len ≡ 0 → ⊥
-      pub closed : at + 3 + len ≤ length library
+    abbrev f : Frame
+    f = frameOf library at
 
     -- 14: "wrong record sum, tested once the checksum byte is reached and before the body is looked at"
     pub record HasWrongSum : Type 0 where
       pub second : e ≡ Two
-      pub whole : Whole
+      pub whole : Whole library s at
       pub wrong : recordSum library at (behind library at) ≡ 0 → ⊥
 
     -- 15: "bytes left over, in a body after its entries are read"
     pub record HasLeftOver : Type 0 where
       pub second : e ≡ Two
-      pub whole : Whole
-      pub right : recordSum library at (behind library at) ≡ 0
-      pub body : least library s (frameOf library at) ≤ at + 2 + len
-      pub left : used library s (frameOf library at) < at + 2 + len
+      pub whole : Whole library s at
+      pub summed : Summed e library at
+      pub body : least library s f ≤ f .end
+      pub left : used library s f < f .end
 
     -- a whole record with a body that its reader takes; in edition 2 it sums to 0, and its body is used up
     pub record Taken : Type 0 where
-      pub whole : Whole
+      pub whole : Whole library s at
       pub summed : Summed e library at
-      pub body : least library s (frameOf library at) ≤ at + 2 + len
-      pub used-up : UsedUp e (used library s (frameOf library at)) (at + 2 + len)
+      pub body : least library s f ≤ f .end
+      pub used-up : UsedUp e (used library s f) (f .end)
 
     -- "type not allowed here, or fewer than two length bytes, or no checksum byte, or a body its reader rejects"
     pub data Stops : Type 0 where
       other-type : expects s (byteAt library at) ≡ false → Stops
       no-lengths : expects s (byteAt library at) ≡ true → length library < at + 3 → Stops
-      no-checksum : Expected → (len ≡ 0 → ⊥) → length library ≡ at + 2 + len → Stops
-      rejected : Whole → Summed e library at → at + 2 + len < least library s (frameOf library at) → Stops
+      no-checksum : Expected library s at → (lengthAt library at ≡ 0 → ⊥) → length library ≡ at + 2 + lengthAt library at → Stops
+      rejected : Whole library s at → Summed e library at → f .end < least library s f → Stops
 
   -- READING COMES TO THIS PLACE, expecting this
   pub data ComesTo : State → ℕ → Type 0 where
@@ -204,13 +209,13 @@ module _ (e : Edition) (library : List ℕ) where
     pub state : State
     pub at : ℕ
     pub comes : ComesTo state at
-    pub here : HasBodyPastEnd state at
+    pub here : HasBodyPastEnd library state at
 
   pub record LengthIsZero : Type 0 where
     pub state : State
     pub at : ℕ
     pub comes : ComesTo state at
-    pub here : HasLengthZero state at
+    pub here : HasLengthZero library state at
 
   -- 8: "a whole module's header and end names differ"
   pub record NamesApart : Type 0 where
