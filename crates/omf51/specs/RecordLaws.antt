@@ -138,6 +138,11 @@ expected-fits library allowed at = chosen (FrameFits library at) (allowed (byteA
 pub read-fits : (library : List ℕ) (allowed : ℕ → Bool) (at : ℕ) {f : Frame} {next : ℕ} → expected library allowed at ≡ read f next → Fits library at f next
 read-fits library allowed at e = subst (FrameFits library at) e (expected-fits library allowed at)
 
+-- edition 1 asks for nothing more
+pub first-expected : (library : List ℕ) (allowed : ℕ → Bool) (at : ℕ) → expectedBy One library allowed at ≡ expected library allowed at
+unfolding expectedBy
+first-expected library allowed at = refl
+
 -- in an edition: edition 2 reads a record if its sum is 0, and refuses it otherwise
 module _ (library : List ℕ) (allowed : ℕ → Bool) (at : ℕ) where
   pub sum-right : {f : Frame} {next : ℕ} → expected library allowed at ≡ read f next → recordSum library at next ≡ 0
