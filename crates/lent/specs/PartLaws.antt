@@ -12,7 +12,7 @@ use lib.Dec.{eqb, ltb}
 use lib.ListN.{length, getD, take, drop, drop-of-length-le}
 use lib.Seq.{drop-cons}
 use Rattle.lent.specs.declared.part.Part.{Part}
-use Rattle.lent.specs.Lists.{all, from}
+use Rattle.lent.specs.Lists.{all, from, total}
 use Rattle.lent.specs.ListLaws.{every}
 use Rattle.lent.specs.RunLaws.{or-none, xor-none, run-turn, run-fewer, run-joins}
 use Rattle.lent.specs.Parts.{bytesOf, same, before, partAlike}
@@ -20,6 +20,15 @@ use Rattle.lent.specs.Parts.{bytesOf, same, before, partAlike}
 -- a loop over a list by its places
 pub drop-turn : {A : Type 0} (xs : List A) (i : ℕ) (d : A) → i < length xs → drop i xs ≡ getD xs i d ∷ drop (i + 1) xs
 drop-turn xs i d h = rw (add-one, drop-cons xs i d)
+
+-- what is left of a sum at a place, and at the list's end
+pub total-turn : {A : Type 0} (f : A → ℕ) (xs : List A) (i : ℕ) (d : A) → i < length xs → total f (drop i xs) ≡ f (getD xs i d) + total f (drop (i + 1) xs)
+unfolding total
+total-turn f xs i d h = rw (drop-turn xs i d h)
+
+pub total-done : {A : Type 0} (f : A → ℕ) (xs : List A) (i : ℕ) → length xs ≤ i → total f (drop i xs) ≡ 0
+unfolding total
+total-done f xs i h = rw (drop-of-length-le xs h)
 
 -- a part that passes the library's end is empty; one that fits is its bytes
 pub part-past : (library : List ℕ) (p : Part) → length library < p .at + p .len → bytesOf library p ≡ []

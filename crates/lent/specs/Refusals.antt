@@ -1,8 +1,10 @@
--- The number of each refusal, as in document 01's table "Numbers returned".
+-- The number of each refusal, as in document 01's table "Numbers returned", and as the later requests say.
 use Prim.Native.Nat.{ℕ}
+use mathlib.Core.Bool.{Bool, _&&_}
 use mathlib.Core.Option.{Option, none, some}
+use lib.Dec.{leb}
 use Rattle.lent.specs.declared.refusal.Refusal.{Refusal}
-use Rattle.lent.specs.declared.refusal.Refusal.the-variants.{RuleSet, ImageTooLong, LibraryTooLong, StretchPastEnd, NoModule, BodyPastEnd, LengthZero, NamesDiffer, TooFewRows, UnknownKind, UnknownBlock, ContentPastSegment, NoKeptSegment}
+use Rattle.lent.specs.declared.refusal.Refusal.the-variants.{RuleSet, ImageTooLong, LibraryTooLong, StretchPastEnd, NoModule, BodyPastEnd, LengthZero, NamesDiffer, TooFewRows, UnknownKind, UnknownBlock, ContentPastSegment, NoKeptSegment, WrongSum, LeftOver, OtherEdition}
 
 abbrev pub refusalNumber : Refusal → ℕ
 refusalNumber RuleSet = 1
@@ -18,6 +20,13 @@ refusalNumber UnknownKind = 10
 refusalNumber UnknownBlock = 11
 refusalNumber ContentPastSegment = 12
 refusalNumber NoKeptSegment = 13
+refusalNumber WrongSum = 14
+refusalNumber LeftOver = 15
+refusalNumber OtherEdition = 30
+
+-- 9 to 13 come when lent memory is in use already, and set it to zero; every other refusal writes nothing
+abbrev pub zeroes : Refusal → Bool
+zeroes r = leb 9 (refusalNumber r) && leb (refusalNumber r) 13
 
 -- the number of what a stage comes to: that of its refusal, or 0 where it is done
 abbrev pub stageNumber : Option Refusal → ℕ

@@ -1,8 +1,9 @@
-// Why a run has no answer, in the order of document 01's table; specs/Refusals.antt gives each refusal its number.
+// Why a run has no answer: the refusals of document 01's table, then those that later requests add; specs/Refusals.antt
+// gives each refusal its number.
 ghost use mathlib.Core.Path.{_≡_};
 ghost use Rattle.lent.specs.Refusals.{refusalNumber};
 
-// The thirteen refusals.
+// The refusals, in the order of their numbers.
 pub enum Refusal {
     RuleSet,
     ImageTooLong,
@@ -17,6 +18,9 @@ pub enum Refusal {
     UnknownBlock,
     ContentPastSegment,
     NoKeptSegment,
+    WrongSum,
+    LeftOver,
+    OtherEdition,
 }
 
 // The number that the caller gets for a refusal.
@@ -37,5 +41,8 @@ pub fn number(r: Refusal) -> u8
         Refusal::UnknownBlock => 11,
         Refusal::ContentPastSegment => 12,
         Refusal::NoKeptSegment => 13,
+        Refusal::WrongSum => 14,
+        Refusal::LeftOver => 15,
+        Refusal::OtherEdition => 30,
     }
 }

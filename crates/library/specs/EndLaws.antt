@@ -3,9 +3,14 @@ use Prim.Native.Nat.{ℕ, zero, suc, _≤_, _<_}
 use mathlib.Core.Path.{_≡_, refl, sym, ap, subst, _∙_}
 use mathlib.Core.List.{List, [], _∷_, _++_}
 use lib.ListN.{length}
+use Rattle.lent.specs.declared.refusal.Refusal.the-variants.{LeftOver}
+use Rattle.lent.specs.Choice.{if_then_else_}
+use Rattle.omf51.specs.declared.Edition.{Edition}
+use Rattle.omf51.specs.declared.Edition.the-variants.{One}
 use Rattle.omf51.specs.declared.End.{End}
 use Rattle.omf51.specs.declared.End.the-variants.{At, Stop, Refused}
 use Rattle.omf51.specs.Reader.{ReadOutcome, read, stop, refused, Reader, andThen, after, repeat, many, notEmpty, atLeastOne}
+use Rattle.omf51.specs.Record.{leavesOver}
 use Rattle.omf51.specs.Ends.{endOf}
 use Rattle.library.specs.Gathered.{followed, itemsAt}
 use Rattle.library.specs.RepeatLaws.{Moved, Moves, onto, many-turn, items-turn}
@@ -76,11 +81,11 @@ Gave (read (x ∷ xs) next) = Unit
 Gave stop = Unit
 Gave (refused r) = ⊥
 
--- a record ends at its own end, whatever its body's reader leaves of it
-abbrev pub ownEnd : ℕ → End → End
-ownEnd next (At left) = At next
-ownEnd next Stop = Stop
-ownEnd next (Refused r) = Refused r
+-- a record ends at its own end `next` if its body, which goes up to `end`, is used up; in edition 1 it always is
+abbrev pub usedEnd : Edition → ℕ → ℕ → End → End
+usedEnd e end next (At left) = if leavesOver e left end then Refused LeftOver else At next
+usedEnd e end next Stop = Stop
+usedEnd e end next (Refused r) = Refused r
 
 module _ {A : Type 0} (library : List ℕ) (each : Reader (List A)) (gives : (at : ℕ) → Gave (each at)) where
   abbrev Filled : ReadOutcome (List A) → Type 0
@@ -99,18 +104,38 @@ module _ {A : Type 0} (library : List ℕ) (each : Reader (List A)) (gives : (at
       go rest stop g = tt
       go rest (refused r) g = absurd g
 
-  pub least-end : (at next : ℕ) → ownEnd next (endOf (atLeastOne library each at)) ≡ ownEnd next (endOf (each at))
+  -- edition 1: the first entry decides
+  pub least-end : (at end next : ℕ) → usedEnd One end next (endOf (atLeastOne library each at)) ≡ usedEnd One end next (endOf (each at))
   unfolding repeat
-  least-end at next = go (each at) (gives at)
+  least-end at end next = go (each at) (gives at)
     where
-      full : (o : ReadOutcome (List A)) → Filled o → ownEnd next (endOf (andThen o notEmpty)) ≡ At next
+      full : (o : ReadOutcome (List A)) → Filled o → usedEnd One end next (endOf (andThen o notEmpty)) ≡ At next
       full (read [] k) f = absurd f
       full (read (x ∷ xs) k) f = refl
       full stop f = absurd f
       full (refused r) f = absurd f
 
-      go : (o : ReadOutcome (List A)) → Gave o → ownEnd next (endOf (andThen (after (repeat (length library) each) [] at o) notEmpty)) ≡ ownEnd next (endOf o)
+      go : (o : ReadOutcome (List A)) → Gave o → usedEnd One end next (endOf (andThen (after (repeat (length library) each) [] at o) notEmpty)) ≡ usedEnd One end next (endOf o)
       go (read [] k) g = absurd g
       go (read (x ∷ xs) k) g = full (repeat (length library) each (x ∷ xs) k) (filled (length library) x xs k)
+      go stop g = refl
+      go (refused r) g = absurd g
+
+  -- edition 2: behind the first entry, all others
+  pub entries-after : Moves library each → (at : ℕ) {e : End} → endOf (each at) ≡ e
+      → endOf (atLeastOne library each at) ≡ thenEnd (λ k. endOf (many library each k)) e
+  entries-after moves at e =
+      ap (λ o. endOf (andThen o notEmpty)) (many-turn library each moves at) ∙ go (each at) (gives at)
+      ∙ ap (thenEnd (λ k. endOf (many library each k))) e
+    where
+      kept : (x : A) (xs : List A) (o : ReadOutcome (List A)) → endOf (andThen (onto (x ∷ xs) o) notEmpty) ≡ endOf o
+      kept x xs (read ys next) = refl
+      kept x xs stop = refl
+      kept x xs (refused r) = refl
+
+      go : (o : ReadOutcome (List A)) → Gave o
+          → endOf (andThen (after (λ xs k. onto xs (many library each k)) [] at o) notEmpty) ≡ thenEnd (λ k. endOf (many library each k)) (endOf o)
+      go (read [] k) g = absurd g
+      go (read (x ∷ xs) k) g = kept x xs (many library each k)
       go stop g = refl
       go (refused r) g = absurd g

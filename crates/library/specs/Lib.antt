@@ -3,6 +3,7 @@ pub mod Longest
 pub mod Gathered
 pub mod RepeatLaws
 pub mod EndLaws
+pub mod BodyLaws
 pub mod Passes
 pub mod PassLaws
 pub mod SectionLaws

@@ -4,12 +4,13 @@ use mathlib.Core.List.{List}
 use lib.ListN.{length}
 use Rattle.lent.specs.declared.refusal.Refusal.the-variants.{NoModule}
 use Rattle.lent.specs.Refusals.{refusalNumber}
+use Rattle.omf51.specs.declared.Edition.{Edition}
 use Rattle.omf51.specs.declared.End.{End}
 use Rattle.omf51.specs.declared.Frame.{Frame}
-use Rattle.omf51.specs.Reader.{ReadOutcome, read, stop, refused, give}
-use Rattle.omf51.specs.Record.{expected, recordOf}
+use Rattle.omf51.specs.Reader.{ReadOutcome, read, stop, refused}
+use Rattle.omf51.specs.Record.{expected}
 use Rattle.omf51.specs.Module.{Module}
-use Rattle.omf51.specs.File.{file}
+use Rattle.omf51.specs.File.{plainBy, fileBy}
 use Rattle.omf51.specs.Expected.{oneType}
 use Rattle.omf51.specs.Ends.{endOf}
 use Rattle.library.specs.declared.Counted.{Counted}
@@ -37,8 +38,8 @@ readingOf first (read modules next) = Reading.Modules first (length modules)
 readingOf first stop = Reading.Refused NoModule
 readingOf first (refused r) = Reading.Refused r
 
-unfoldable pub reading : List ℕ → Reading
-reading library = readingOf (firstAt library) (file library)
+unfoldable pub reading : Edition → List ℕ → Reading
+reading e library = readingOf (firstAt library) (fileBy e library)
 
 -- document 01's number of an answer, and its value: how many modules were read
 abbrev pub readingNumber : Reading → ℕ
@@ -50,5 +51,5 @@ readingCount (Reading.Modules first count) = count
 readingCount (Reading.Refused r) = 0
 
 -- a record of one type whose body isn't looked at
-abbrev pub typeEnd : List ℕ → ℕ → ℕ → End
-typeEnd library type at = endOf (recordOf library (oneType type) give at)
+abbrev pub typeEnd : Edition → List ℕ → ℕ → ℕ → End
+typeEnd e library type at = endOf (plainBy e library type at)

@@ -8,21 +8,22 @@ use native.Mathlib.Omega.{arith}
 use Rattle.lent.specs.declared.refusal.Refusal.{Refusal}
 use Rattle.lent.specs.ChoiceLaws.{chosen}
 use Rattle.lent.specs.Parts.{byteAt}
+use Rattle.omf51.specs.declared.Edition.{Edition}
 use Rattle.omf51.specs.declared.Frame.{Frame}
 use Rattle.omf51.specs.declared.End.{End}
 use Rattle.omf51.specs.declared.End.the-variants.{At, Stop, Refused}
 use Rattle.omf51.specs.declared.entry.Entries.the-variants.{Fixups}
 use Rattle.omf51.specs.Reader.{ReadOutcome, read, stop, refused, andThen, give, many}
-use Rattle.omf51.specs.Record.{expected, recordOf}
-use Rattle.omf51.specs.RecordLaws.{record-framed}
+use Rattle.omf51.specs.Record.{expectedBy, whole, recordBy}
+use Rattle.omf51.specs.RecordLaws.{record-framed, used-all}
 use Rattle.omf51.specs.Entry.{idSize}
 use Rattle.omf51.specs.EntryLaws.{whole-within, cut-past}
-use Rattle.omf51.specs.Module.{fills, isIdle, fixupsAt, contentBody, Section, sectionAt, sectionsAt}
+use Rattle.omf51.specs.Module.{fills, isIdle, fixupsBy, contentBody, Section, sectionBy, sectionsBy}
 use Rattle.omf51.specs.Ends.{endOf}
 use Rattle.library.specs.RepeatLaws.{Moved, Moves, then-moves, then-stays, many-stays}
 use Rattle.library.specs.EndLaws.{afterEnd, thenEnd, MovedEnd, end-turn, moved-end, then-end}
-use Rattle.library.specs.Passes.{allEnd, sectionsEnd}
-use Rattle.library.specs.PassLaws.{record-moves, fixups-move}
+use Rattle.library.specs.Passes.{allEndBy, sectionsEndBy}
+use Rattle.library.specs.PassLaws.{record-moves, whole-end, fixups-move}
 
 give-end : {A B : Type 0} (g : A → B) (o : ReadOutcome A) → endOf (andThen o λ a. give (g a)) ≡ endOf o
 give-end g (read a next) = refl
@@ -30,61 +31,54 @@ give-end g stop = refl
 give-end g (refused r) = refl
 
 -- a content whose record is known
-module _ (library : List ℕ) (at : ℕ) where
-  content-then : {e : End} → endOf (recordOf library fills (contentBody library) at) ≡ e → endOf (sectionAt library at) ≡ thenEnd (allEnd Fixups library) e
-  unfolding sectionAt
-  content-then e =
-      then-end (recordOf library fills (contentBody library) at) _ (allEnd Fixups library) (λ content next. give-end _ (many library (fixupsAt library) next))
-      ∙ ap (thenEnd (allEnd Fixups library)) e
+module _ (e : Edition) (library : List ℕ) (at : ℕ) where
+  content-then : {x : End} → endOf (recordBy e library fills (contentBody library) at) ≡ x → endOf (sectionBy e library at) ≡ thenEnd (allEndBy e Fixups library) x
+  unfolding sectionBy
+  content-then q =
+      then-end (recordBy e library fills (contentBody library) at) _ (allEndBy e Fixups library) (λ content next. give-end _ (many library (fixupsBy e library) next))
+      ∙ ap (thenEnd (allEndBy e Fixups library)) q
 
-  pub content-halts : expected library fills at ≡ stop → endOf (sectionAt library at) ≡ Stop
-  content-halts e = content-then (ap endOf (record-framed library fills (contentBody library) at e))
+  pub content-halts : expectedBy e library fills at ≡ stop → endOf (sectionBy e library at) ≡ Stop
+  content-halts q = content-then (ap endOf (record-framed e library fills (contentBody library) at q))
 
-  pub content-refuses : {r : Refusal} → expected library fills at ≡ refused r → endOf (sectionAt library at) ≡ Refused r
-  content-refuses e = content-then (ap endOf (record-framed library fills (contentBody library) at e))
+  pub content-refuses : {r : Refusal} → expectedBy e library fills at ≡ refused r → endOf (sectionBy e library at) ≡ Refused r
+  content-refuses q = content-then (ap endOf (record-framed e library fills (contentBody library) at q))
 
-  module _ {f : Frame} {next n : ℕ} (e : expected library fills at ≡ read f next) (ids : n ≡ idSize f) where
-    pub content-cut : f .end < f .body + n + 2 → endOf (sectionAt library at) ≡ Stop
+  module _ {f : Frame} {next n : ℕ} (q : expectedBy e library fills at ≡ read f next) (ids : n ≡ idSize f) where
+    pub content-cut : f .end < f .body + n + 2 → endOf (sectionBy e library at) ≡ Stop
     content-cut h =
-        content-then {e = Stop} (ap endOf (record-framed library fills (contentBody library) at e) ∙ rw (cut-past f _ {next = f .body + idSize f + 2} (omega arith)))
+        content-then {x = Stop} (ap endOf (record-framed e library fills (contentBody library) at q) ∙ rw (cut-past f _ {next = f .body + idSize f + 2} (omega arith)))
 
-    pub content-whole : f .body + n + 2 ≤ f .end → endOf (sectionAt library at) ≡ allEnd Fixups library next
+    pub content-whole : f .body + n + 2 ≤ f .end → endOf (sectionBy e library at) ≡ allEndBy e Fixups library next
     content-whole h =
-        content-then {e = At next} (ap endOf (record-framed library fills (contentBody library) at e) ∙ rw (whole-within f _ {next = f .body + idSize f + 2} (omega arith)))
+        content-then {x = At next}
+        (ap endOf (record-framed e library fills (contentBody library) at q)
+        ∙ rw (whole-within f _ {next = f .body + idSize f + 2} (omega arith)) (ap endOf (used-all e (f .end) _ (f .end) next (omega arith))))
 
   -- one among contents, by its type
-  pub section-content : fills (byteAt library at) ≡ true → endOf (sectionsAt library at) ≡ endOf (sectionAt library at)
-  unfolding sectionsAt
-  section-content e = rw e
+  pub section-content : fills (byteAt library at) ≡ true → endOf (sectionsBy e library at) ≡ endOf (sectionBy e library at)
+  unfolding sectionsBy
+  section-content t = rw t
 
-  pub section-idle : fills (byteAt library at) ≡ false → {o : ReadOutcome Frame} → expected library isIdle at ≡ o
-      → endOf (sectionsAt library at) ≡ endOf o
-  unfolding sectionsAt
-  section-idle n {o} e = rw n (ap endOf (record-framed library isIdle (λ f. give []) at e) ∙ go o)
-    where
-      none : List Section
-      none = []
+  pub section-idle : fills (byteAt library at) ≡ false → {o : ReadOutcome Frame} → expectedBy e library isIdle at ≡ o → endOf (sectionsBy e library at) ≡ endOf o
+  unfolding sectionsBy
+  section-idle n q = rw n (whole-end [] e library isIdle at q)
 
-      go : (o : ReadOutcome Frame) → endOf (andThen o λ f next. read none next) ≡ endOf o
-      go (read f next) = refl
-      go stop = refl
-      go (refused r) = refl
-
-content-moves : (library : List ℕ) → Moves library (sectionAt library)
-unfolding sectionAt
-content-moves library at =
+content-moves : (e : Edition) (library : List ℕ) → Moves library (sectionBy e library)
+unfolding sectionBy
+content-moves e library at =
     then-moves library at _
-    (λ content next h. then-stays library next _ (λ xs k l. (omega arith, l)) (many library (fixupsAt library) next) (many-stays library (fixupsAt library) (fixups-move library) next h))
-    (recordOf library fills (contentBody library) at)
-    (record-moves library fills (contentBody library) at)
+    (λ content next h. then-stays library next _ (λ xs k l. (omega arith, l)) (many library (fixupsBy e library) next) (many-stays library (fixupsBy e library) (fixups-move e library) next h))
+    (recordBy e library fills (contentBody library) at)
+    (record-moves e library fills (contentBody library) at)
 
-pub sections-move : (library : List ℕ) → Moves library (sectionsAt library)
-unfolding sectionsAt
-sections-move library at =
-    chosen (Moved library at) (fills (byteAt library at)) (λ e. content-moves library at) (λ e. record-moves library isIdle (λ f. give []) at)
+pub sections-move : (e : Edition) (library : List ℕ) → Moves library (sectionsBy e library)
+unfolding sectionsBy
+sections-move e library at =
+    chosen (Moved library at) (fills (byteAt library at)) (λ _. content-moves e library at) (λ _. record-moves e library isIdle (whole []) at)
 
-pub sections-turn : (library : List ℕ) (at : ℕ) {e : End} → endOf (sectionsAt library at) ≡ e → sectionsEnd library at ≡ afterEnd (sectionsEnd library) at e
-sections-turn library at e = end-turn library (sectionsAt library) (sections-move library) at e
+pub sections-turn : (e : Edition) (library : List ℕ) (at : ℕ) {x : End} → endOf (sectionsBy e library at) ≡ x → sectionsEndBy e library at ≡ afterEnd (sectionsEndBy e library) at x
+sections-turn e library at q = end-turn library (sectionsBy e library) (sections-move e library) at q
 
-pub section-moved : (library : List ℕ) (at : ℕ) {e : End} → endOf (sectionsAt library at) ≡ e → MovedEnd library at e
-section-moved library at e = subst (MovedEnd library at) e (moved-end library at (sectionsAt library at) (sections-move library at))
+pub section-moved : (e : Edition) (library : List ℕ) (at : ℕ) {x : End} → endOf (sectionsBy e library at) ≡ x → MovedEnd library at x
+section-moved e library at q = subst (MovedEnd library at) q (moved-end library at (sectionsBy e library at) (sections-move e library at))

@@ -1,6 +1,6 @@
 // The module at a place: where its parts stand, if it is whole.
 ghost use mathlib.Core.Path.{_≡_};
-ghost use Rattle.library.specs.Passes.{placesRead, placesAt, restPlaces, lastPlaces};
+ghost use Rattle.library.specs.Passes.{placesRead, placesBy, restPlaces, lastPlaces};
 use crate::ModuleAt;
 use crate::Places;
 use crate::repeat::skip;
@@ -8,6 +8,7 @@ use crate::repeat::skip_sections;
 use lent::names::same_name;
 use lent::part::Part;
 use lent::refusal::Refusal;
+use omf51::Edition;
 use omf51::End;
 use omf51::entry::Entries;
 use omf51::entry::Named;
@@ -16,14 +17,15 @@ use omf51::read_entry::named_at;
 // The end record of a module at a place: it has the header's name again, or the file is refused (8).
 fn last_places(
     library: &[u8],
+    edition: Edition,
     name: Part,
     definitions: usize,
     contents: usize,
     at: usize,
 ) -> ModuleAt
-    ensures { λ r. ⌜ placesRead r ≡ lastPlaces (now (library .entry)) name definitions contents at ⌝ }
+    ensures { λ r. ⌜ placesRead r ≡ lastPlaces edition (now (library .entry)) name definitions contents at ⌝ }
 {
-    match named_at(library, 0x04, 4, at) {
+    match named_at(library, edition, 0x04, 4, at) {
         Named::Read { name: last, next } => {
             if same_name(library, name, last) {
                 return ModuleAt::Whole(Places {
@@ -40,12 +42,12 @@ fn last_places(
 }
 
 // The rest of a module behind its header: definitions, contents, the end record.
-fn rest_places(library: &[u8], name: Part, definitions: usize) -> ModuleAt
-    ensures { λ r. ⌜ placesRead r ≡ restPlaces (now (library .entry)) name definitions ⌝ }
+fn rest_places(library: &[u8], edition: Edition, name: Part, definitions: usize) -> ModuleAt
+    ensures { λ r. ⌜ placesRead r ≡ restPlaces edition (now (library .entry)) name definitions ⌝ }
 {
-    match skip(library, Entries::Definitions, definitions) {
-        End::At(contents) => match skip_sections(library, contents) {
-            End::At(at) => last_places(library, name, definitions, contents, at),
+    match skip(library, edition, Entries::Definitions, definitions) {
+        End::At(contents) => match skip_sections(library, edition, contents) {
+            End::At(at) => last_places(library, edition, name, definitions, contents, at),
             End::Stop => ModuleAt::Stop,
             End::Refused(r) => ModuleAt::Refused(r),
         },
@@ -54,12 +56,12 @@ fn rest_places(library: &[u8], name: Part, definitions: usize) -> ModuleAt
     }
 }
 
-// Where the parts of the module at a place stand, or why there is none.
-pub fn module_at(library: &[u8], at: usize) -> ModuleAt
-    ensures { λ r. ⌜ placesRead r ≡ placesAt (now (library .entry)) at ⌝ }
+// Where the parts of the module at a place stand, read in an edition, or why there is none.
+pub fn module_at(library: &[u8], edition: Edition, at: usize) -> ModuleAt
+    ensures { λ r. ⌜ placesRead r ≡ placesBy edition (now (library .entry)) at ⌝ }
 {
-    match named_at(library, 0x02, 2, at) {
-        Named::Read { name, next } => rest_places(library, name, next),
+    match named_at(library, edition, 0x02, 2, at) {
+        Named::Read { name, next } => rest_places(library, edition, name, next),
         Named::Stop => ModuleAt::Stop,
         Named::Refused(r) => ModuleAt::Refused(r),
     }

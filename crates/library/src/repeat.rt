@@ -1,17 +1,23 @@
 // Going over records without keeping what they say: where each record of entries, each content and each repetition ends.
 ghost use mathlib.Core.Path.{_≡_};
-ghost use Rattle.omf51.specs.Module.{sectionAt, sectionsAt};
-ghost use Rattle.omf51.specs.Ends.{endOf};
-ghost use Rattle.library.specs.Passes.{allowedFor, holds as holdsType, recordEnd, allEnd, sectionsEnd};
-ghost use Rattle.library.specs.EndLaws.{ownEnd};
+ghost use Prim.Native.Nat.{_≤_};
+ghost use lib.ListN.{length};
+ghost use Rattle.omf51.specs.Module.{sectionBy, sectionsBy};
+ghost use Rattle.omf51.specs.Ends.{endOf, restEnd};
+ghost use Rattle.library.specs.Passes.{allowedFor, holds as holdsType, recordEndBy, allEndBy, sectionsEndBy, bodyEnd};
+ghost use Rattle.library.specs.EndLaws.{usedEnd};
+use lent::refusal::Refusal;
+use omf51::Edition;
 use omf51::End;
+use omf51::Frame;
 use omf51::allowed_types::defines;
 use omf51::allowed_types::fills;
+use omf51::by_edition::leaves_over;
+use omf51::by_edition::record_by;
 use omf51::entry::Entries;
 use omf51::read_entry::entry_end;
 use omf51::read_entry::id_size;
 use omf51::read_record::byte_at;
-use omf51::read_record::record_at;
 use omf51::record::Framed;
 use omf51::types::Allowed;
 
@@ -35,13 +41,54 @@ pub fn holds(what: Entries, kind: u8) -> bool
     }
 }
 
-// The end of a record by how reading its first entry ended: a record with one whole entry ends at its own end `next`,
-// whatever its other entries are.
-fn own_end(next: usize, first: End) -> End
-    ensures { λ r. ⌜ r ≡ ownEnd next first ⌝ }
+// Where the entries of a body end from a place on: before the first that is not whole.
+fn rest_end(library: &[u8], what: Entries, f: Frame, from: usize) -> End
+    requires { ⌜ f .end ≤ length (now library) ⌝ }
+    ensures { λ r. ⌜ r ≡ restEnd what (now (library .entry)) f from ⌝ }
 {
+    let mut at = from;
+    loop {
+        match entry_end(library, what, f, at) {
+            End::At(next) => {
+                at = next;
+            }
+            End::Stop => {
+                return End::At(at);
+            }
+            End::Refused(r) => {
+                return End::Refused(r);
+            }
+        }
+    }
+}
+
+// Where the entries of a body end, as far as an edition asks: the first in edition 1, the last whole one in edition 2.
+fn body_end(library: &[u8], edition: Edition, what: Entries, f: Frame) -> End
+    requires { ⌜ f .end ≤ length (now library) ⌝ }
+    ensures { λ r. ⌜ r ≡ bodyEnd edition what (now (library .entry)) f ⌝ }
+{
+    let first = entry_end(library, what, f, f.body);
+    let Edition::Two = edition else {
+        return first;
+    };
     match first {
-        End::At(left) => End::At(next),
+        End::At(next) => rest_end(library, what, f, next),
+        End::Stop => End::Stop,
+        End::Refused(r) => End::Refused(r),
+    }
+}
+
+// The end of a record whose body goes up to `end`, by where its entries end: bytes that are left over are refused (15) in edition 2.
+fn used_end(edition: Edition, end: usize, next: usize, last: End) -> End
+    ensures { λ r. ⌜ r ≡ usedEnd edition end next last ⌝ }
+{
+    match last {
+        End::At(left) => {
+            if leaves_over(edition, left, end) {
+                return End::Refused(Refusal::LeftOver);
+            }
+            End::At(next)
+        }
         End::Stop => End::Stop,
         End::Refused(r) => End::Refused(r),
     }
@@ -49,14 +96,14 @@ fn own_end(next: usize, first: End) -> End
 
 // Where the record at a place ends: a record of such entries, the first of which is whole,
 // or a record that is skipped among them.
-pub fn record_end(library: &[u8], what: Entries, at: usize) -> End
-    ensures { λ r. ⌜ r ≡ recordEnd what (now (library .entry)) at ⌝ }
+pub fn record_end(library: &[u8], edition: Edition, what: Entries, at: usize) -> End
+    ensures { λ r. ⌜ r ≡ recordEndBy edition what (now (library .entry)) at ⌝ }
 {
-    match record_at(library, allowed_for(what), at) {
+    match record_by(library, edition, allowed_for(what), at) {
         Framed::Read(f) => {
             let next = f.end + 1;
             if holds(what, f.kind) {
-                return own_end(next, entry_end(library, what, f, f.body));
+                return used_end(edition, f.end, next, body_end(library, edition, what, f));
             }
             End::At(next)
         }
@@ -66,12 +113,12 @@ pub fn record_end(library: &[u8], what: Entries, at: usize) -> End
 }
 
 // Where all records of such entries from a place on end, one after another.
-pub fn skip(library: &[u8], what: Entries, from: usize) -> End
-    ensures { λ r. ⌜ r ≡ allEnd what (now (library .entry)) from ⌝ }
+pub fn skip(library: &[u8], edition: Edition, what: Entries, from: usize) -> End
+    ensures { λ r. ⌜ r ≡ allEndBy edition what (now (library .entry)) from ⌝ }
 {
     let mut at = from;
     loop {
-        match record_end(library, what, at) {
+        match record_end(library, edition, what, at) {
             End::At(next) => {
                 at = next;
             }
@@ -86,17 +133,17 @@ pub fn skip(library: &[u8], what: Entries, from: usize) -> End
 }
 
 // Where the content at a place and the fixups that follow it at once end; the content's body has an id and an offset at least.
-fn content_end(library: &[u8], at: usize) -> End
-    ensures { λ r. ⌜ r ≡ endOf (sectionAt (now (library .entry)) at) ⌝ }
+fn content_end(library: &[u8], edition: Edition, at: usize) -> End
+    ensures { λ r. ⌜ r ≡ endOf (sectionBy edition (now (library .entry)) at) ⌝ }
 {
-    match record_at(library, Allowed::Contents, at) {
+    match record_by(library, edition, Allowed::Contents, at) {
         Framed::Read(f) => {
             let body = f.body;
             let end = f.end;
             if end - body < id_size(f) + 2 {
                 return End::Stop;
             }
-            skip(library, Entries::Fixups, end + 1)
+            skip(library, edition, Entries::Fixups, end + 1)
         }
         Framed::Stop => End::Stop,
         Framed::Refused(r) => End::Refused(r),
@@ -104,13 +151,13 @@ fn content_end(library: &[u8], at: usize) -> End
 }
 
 // Where the content at a place with its fixups ends, or the record that is skipped among contents.
-pub fn section_end(library: &[u8], at: usize) -> End
-    ensures { λ r. ⌜ r ≡ endOf (sectionsAt (now (library .entry)) at) ⌝ }
+pub fn section_end(library: &[u8], edition: Edition, at: usize) -> End
+    ensures { λ r. ⌜ r ≡ endOf (sectionsBy edition (now (library .entry)) at) ⌝ }
 {
     if fills(byte_at(library, at)) {
-        return content_end(library, at);
+        return content_end(library, edition, at);
     }
-    match record_at(library, Allowed::Idle, at) {
+    match record_by(library, edition, Allowed::Idle, at) {
         Framed::Read(f) => End::At(f.end + 1),
         Framed::Stop => End::Stop,
         Framed::Refused(r) => End::Refused(r),
@@ -118,12 +165,12 @@ pub fn section_end(library: &[u8], at: usize) -> End
 }
 
 // Where all contents of a module, with their fixups, end, one after another.
-pub fn skip_sections(library: &[u8], from: usize) -> End
-    ensures { λ r. ⌜ r ≡ sectionsEnd (now (library .entry)) from ⌝ }
+pub fn skip_sections(library: &[u8], edition: Edition, from: usize) -> End
+    ensures { λ r. ⌜ r ≡ sectionsEndBy edition (now (library .entry)) from ⌝ }
 {
     let mut at = from;
     loop {
-        match section_end(library, at) {
+        match section_end(library, edition, at) {
             End::At(next) => {
                 at = next;
             }

@@ -12,8 +12,8 @@ use Rattle.lent.specs.Parts.{byteAt, sameName}
 use Rattle.omf51.specs.Reader.{ReadOutcome, read, stop, refused, Reader, andThen, after, repeat, many, notEmpty}
 use Rattle.omf51.specs.Record.{recordOf}
 use Rattle.omf51.specs.Entry.{nameWith}
-use Rattle.omf51.specs.Module.{Module, definitionsAt, sectionsAt, moduleAt}
-use Rattle.omf51.specs.File.{file}
+use Rattle.omf51.specs.Module.{Module, definitionsAt, sectionsAt, moduleBy, moduleAt}
+use Rattle.omf51.specs.File.{fileRead, fileBy, file}
 
 -- what is read is not empty
 abbrev Some : {A : Type 0} → ReadOutcome (List A) → Type 0
@@ -35,7 +35,7 @@ then-some stop f h = tt
 then-some (refused r) f h = tt
 
 module-some : (library : List ℕ) (at : ℕ) → Some (moduleAt library at)
-unfolding moduleAt
+unfolding moduleBy
 module-some library at =
     then-some (recordOf library (eqb 0x02) (nameWith 2 library) at) _ λ name a.
     then-some (many library (definitionsAt library) a) _ λ definitions b.
@@ -55,7 +55,7 @@ repeat-full {A} (suc n) each x xs at = go (each at) (repeat-full n each x)
 
 -- 5 for bare modules: exactly if no first module can be read
 pub no-first : (library : List ℕ) → eqb (byteAt library 0) 0x2c ≡ false → (file library ≡ stop) ↔ (moduleAt library 0 ≡ stop)
-unfolding file repeat
+unfolding fileBy fileRead repeat
 no-first library e = ((λ q. there (moduleAt library 0) (module-some library 0) (rw e at q)), λ q. rw (e, q))
   where
     not-stop : (o : ReadOutcome (List Module)) → Full o → andThen o notEmpty ≡ stop → ⊥

@@ -9,7 +9,7 @@ use Rattle.omf51.specs.declared.entry.Entries.{Entries}
 use Rattle.omf51.specs.declared.entry.Entries.the-variants.{Definitions, Fixups}
 use Rattle.omf51.specs.declared.entry.Named.{Named}
 use Rattle.omf51.specs.declared.entry.Named.the-variants as Named
-use Rattle.omf51.specs.Reader.{ReadOutcome, read, stop, refused}
+use Rattle.omf51.specs.Reader.{ReadOutcome, read, stop, refused, many, atLeastOne}
 use Rattle.omf51.specs.Entry.{definitionAt, fixupAt}
 
 abbrev pub endOf : {A : Type 0} → ReadOutcome A → End
@@ -20,6 +20,15 @@ endOf (refused r) = Refused r
 abbrev pub entryEnd : Entries → List ℕ → Frame → ℕ → End
 entryEnd Definitions library f at = endOf (definitionAt library f at)
 entryEnd Fixups library f at = endOf (fixupAt library f at)
+
+-- where the entries of a body end from a place on; and where they end in a body that has one at least
+abbrev pub restEnd : Entries → List ℕ → Frame → ℕ → End
+restEnd Definitions library f at = endOf (many library (definitionAt library f) at)
+restEnd Fixups library f at = endOf (many library (fixupAt library f) at)
+
+abbrev pub entriesEnd : Entries → List ℕ → Frame → End
+entriesEnd Definitions library f = endOf (atLeastOne library (definitionAt library f) (f .body))
+entriesEnd Fixups library f = endOf (atLeastOne library (fixupAt library f) (f .body))
 
 -- the name that was read
 abbrev pub nameRead : Named → ReadOutcome Part

@@ -8,13 +8,15 @@ use lib.Dec.{eqb, leb}
 use lib.ListN.{length, take, drop, length-take, length-drop}
 use borrow.Author.Tests.{le-leb, lt-leb, eq-eqb, ne-eqb}
 use Rattle.lent.specs.declared.part.Part.{Part}
+use Rattle.lent.specs.declared.refusal.Refusal.the-variants.{LeftOver}
 use Rattle.lent.specs.Choice.{if_then_else_}
 use Rattle.lent.specs.Parts.{byteAt, bytesOf}
+use Rattle.omf51.specs.declared.Edition.{Edition}
 use Rattle.omf51.specs.declared.Frame.{Frame}
 use Rattle.omf51.specs.declared.End.the-variants.{At, Stop}
-use Rattle.omf51.specs.Reader.{read, stop, andThen}
+use Rattle.omf51.specs.Reader.{read, stop, refused, andThen}
 use Rattle.omf51.specs.Entry.{ending, namePart, idSize, nameOffset, nameWith, definitionAt, fixupAt}
-use Rattle.omf51.specs.Record.{expected, recordOf}
+use Rattle.omf51.specs.Record.{expectedBy, leavesOver, usedUp, recordBy}
 use Rattle.omf51.specs.RecordLaws.{record-framed}
 use Rattle.omf51.specs.Ends.{endOf}
 
@@ -86,10 +88,18 @@ module _ (library : List ℕ) (f : Frame) (at : ℕ) {n : ℕ} (here : n ≡ byt
   name-whole h =
       rw (← here, whole-within f _ {next = at + 1 + n} (omega arith)) (whole-within f _ {next = at + 1 + n + more} h)
 
--- the record of a header or an end whose frame is known
-module _ (library : List ℕ) (allowed : ℕ → Bool) (more at : ℕ) {f : Frame} {next n : ℕ} (e : expected library allowed at ≡ read f next) (here : n ≡ byteAt library (f .body)) where
-  pub named-cut : f .end < f .body + 1 + n + more → recordOf library allowed (nameWith more library) at ≡ stop
-  named-cut h = record-framed library allowed (nameWith more library) at e ∙ rw (name-cut library f (f .body) here more h)
+-- the record of a header or an end whose frame is known; in edition 2 its name and the bytes behind it are all there is
+module _ (e : Edition) (library : List ℕ) (allowed : ℕ → Bool) (more at : ℕ) {f : Frame} {next n : ℕ} (q : expectedBy e library allowed at ≡ read f next) (here : n ≡ byteAt library (f .body)) where
+  pub named-cut : f .end < f .body + 1 + n + more → recordBy e library allowed (nameWith more library) at ≡ stop
+  named-cut h = record-framed e library allowed (nameWith more library) at q ∙ rw (name-cut library f (f .body) here more h)
 
-  pub named-whole : f .body + 1 + n + more ≤ f .end → recordOf library allowed (nameWith more library) at ≡ read (record { at = f .body + 1; len = n }) next
-  named-whole h = record-framed library allowed (nameWith more library) at e ∙ rw (name-whole library f (f .body) here more h)
+  named-read : f .body + 1 + n + more ≤ f .end
+      → recordBy e library allowed (nameWith more library) at ≡ usedUp e (f .end) (record { at = f .body + 1; len = n }) (f .body + 1 + n + more) next
+  named-read h = record-framed e library allowed (nameWith more library) at q ∙ rw (name-whole library f (f .body) here more h)
+
+  module _ {left : ℕ} (k : left ≡ f .body + 1 + n + more) (h : left ≤ f .end) where
+    pub named-whole : leavesOver e left (f .end) ≡ false → recordBy e library allowed (nameWith more library) at ≡ read (record { at = f .body + 1; len = n }) next
+    named-whole o = named-read (omega (arith, k, h)) ∙ rw (← k, o)
+
+    pub named-over : leavesOver e left (f .end) ≡ true → recordBy e library allowed (nameWith more library) at ≡ refused LeftOver
+    named-over o = named-read (omega (arith, k, h)) ∙ rw (← k, o)

@@ -7,12 +7,14 @@ use Rattle.lent.specs.declared.refusal.Refusal.the-variants.{NamesDiffer}
 use Rattle.lent.specs.Choice.{if_then_else_}
 use Rattle.lent.specs.Lists.{one, isIn}
 use Rattle.lent.specs.Parts.{byteAt, wordAt, sameName}
+use Rattle.omf51.specs.declared.Edition.{Edition}
+use Rattle.omf51.specs.declared.Edition.the-variants.{One}
 use Rattle.omf51.specs.declared.Frame.{Frame}
 use Rattle.omf51.specs.declared.Definition.{Definition}
 use Rattle.omf51.specs.declared.Content.{Content}
 use Rattle.omf51.specs.declared.Fixup.{Fixup}
-use Rattle.omf51.specs.Reader.{Reader, _>>=_, give, refuse, many, atLeastOne}
-use Rattle.omf51.specs.Record.{recordOf}
+use Rattle.omf51.specs.Reader.{read, Reader, andThen, _>>=_, give, refuse, many, atLeastOne}
+use Rattle.omf51.specs.Record.{whole, recordBy}
 use Rattle.omf51.specs.Entry.{ending, nameWith, idSize, idAt, definitionAt, fixupAt}
 
 -- a type is one of the even types, whose records have ids of one byte, or of the odd ones, the same records with ids of two
@@ -46,16 +48,16 @@ rests = eitherOf (0x10 ∷ 0x12 ∷ []) (0x13 ∷ [])
 abbrev pub isIdle : ℕ → Bool
 isIdle type = not (isKnown type) || rests type
 
--- a record among definitions: it has at least one whole entry (a partial entry behind it is dropped), or is of an
+-- a record among definitions: it has at least one whole entry (a partial entry behind it is left over), or is of an
 -- unknown type and skipped
-unfoldable pub definitionsAt : List ℕ → Reader (List Definition)
-definitionsAt library =
-    recordOf library (λ type. defines type || not (isKnown type)) λ f.
-    if defines (f .kind) then atLeastOne library (definitionAt library f) else give []
+unfoldable pub definitionsBy : Edition → List ℕ → Reader (List Definition)
+definitionsBy e library =
+    recordBy e library (λ type. defines type || not (isKnown type)) λ f.
+    if defines (f .kind) then atLeastOne library (definitionAt library f) else whole [] f
 
 -- a record of fixups, with at least one whole fixup
-unfoldable pub fixupsAt : List ℕ → Reader (List Fixup)
-fixupsAt library = recordOf library fixes λ f. atLeastOne library (fixupAt library f)
+unfoldable pub fixupsBy : Edition → List ℕ → Reader (List Fixup)
+fixupsBy e library = recordBy e library fixes λ f. atLeastOne library (fixupAt library f)
 
 -- the body of a content: id, offset (2), and the rest is the data
 abbrev pub contentBody : List ℕ → Frame → Reader Content
@@ -66,7 +68,7 @@ contentBody library f at =
       offset = wordAt library w;
       part = record { at = w + 2; len = f .end - (w + 2) };
     } in
-    ending f content (w + 2)
+    andThen (ending f content (w + 2)) λ content rest. whole content f rest
 
 -- a content, and the fixups of the records that follow it at once
 pub record Section : Type 0 where
@@ -74,16 +76,16 @@ pub record Section : Type 0 where
   pub fixups : List Fixup
 
 -- a content record and all fixup records behind it
-unfoldable pub sectionAt : List ℕ → Reader (List Section)
-sectionAt library = do
-  content ← recordOf library fills (contentBody library)
-  fixups ← many library (fixupsAt library)
+unfoldable pub sectionBy : Edition → List ℕ → Reader (List Section)
+sectionBy e library = do
+  content ← recordBy e library fills (contentBody library)
+  fixups ← many library (fixupsBy e library)
   give (one (record { content = content; fixups = fixups }))
 
 -- a record among contents: a content with its fixups, or a record that is skipped
-unfoldable pub sectionsAt : List ℕ → Reader (List Section)
-sectionsAt library at =
-    if fills (byteAt library at) then sectionAt library at else recordOf library isIdle (λ f. give []) at
+unfoldable pub sectionsBy : Edition → List ℕ → Reader (List Section)
+sectionsBy e library at =
+    if fills (byteAt library at) then sectionBy e library at else recordBy e library isIdle (whole []) at
 
 -- a module: its definitions, and its contents with their fixups, both in file order
 pub record Module : Type 0 where
@@ -91,10 +93,26 @@ pub record Module : Type 0 where
   pub sections : List Section
 
 -- the module at a place: header, definitions, contents, end; it is refused if the end has another name than the header
-unfoldable pub moduleAt : List ℕ → Reader (List Module)
-moduleAt library = do
-  name ← recordOf library (eqb 0x02) (nameWith 2 library)
-  definitions ← many library (definitionsAt library)
-  sections ← many library (sectionsAt library)
-  last ← recordOf library (eqb 0x04) (nameWith 4 library)
+unfoldable pub moduleBy : Edition → List ℕ → Reader (List Module)
+moduleBy e library = do
+  name ← recordBy e library (eqb 0x02) (nameWith 2 library)
+  definitions ← many library (definitionsBy e library)
+  sections ← many library (sectionsBy e library)
+  last ← recordBy e library (eqb 0x04) (nameWith 4 library)
   if sameName library name last then give (one (record { definitions = definitions; sections = sections })) else refuse NamesDiffer
+
+-- in edition 1, by which whole modules are gone over again, whatever the edition that read them
+abbrev pub definitionsAt : List ℕ → Reader (List Definition)
+definitionsAt = definitionsBy One
+
+abbrev pub fixupsAt : List ℕ → Reader (List Fixup)
+fixupsAt = fixupsBy One
+
+abbrev pub sectionAt : List ℕ → Reader (List Section)
+sectionAt = sectionBy One
+
+abbrev pub sectionsAt : List ℕ → Reader (List Section)
+sectionsAt = sectionsBy One
+
+abbrev pub moduleAt : List ℕ → Reader (List Module)
+moduleAt = moduleBy One

@@ -4,6 +4,7 @@ use mathlib.Core.Path.{_≡_, sym, _∙_}
 use mathlib.Core.List.{List}
 use Rattle.lent.specs.OneOutcome.{Determines, by-equation, by-map}
 use Rattle.lent.specs.Parts.{byteAt, wordAt, bytesOf}
+use Rattle.omf51.specs.declared.Edition.{Edition}
 use Rattle.omf51.specs.declared.Frame.{Frame}
 use Rattle.omf51.specs.declared.types.Allowed.{Allowed}
 use Rattle.omf51.specs.declared.record.Framed.{Framed}
@@ -11,7 +12,7 @@ use Rattle.omf51.specs.declared.record.Framed.the-variants as Framed
 use Rattle.omf51.specs.declared.entry.Entries.{Entries}
 use Rattle.omf51.specs.declared.entry.Named.{Named}
 use Rattle.omf51.specs.declared.entry.Named.the-variants as Named
-use Rattle.omf51.specs.Record.{expected, recordOf}
+use Rattle.omf51.specs.Record.{editionOf, expected, expectedBy, leavesOver, recordBy}
 use Rattle.omf51.specs.Entry.{namePart, segmentSize, idSize, isSegment, isPublic, nameOffset, nameWith}
 use Rattle.omf51.specs.Module.{defines, fills}
 use Rattle.omf51.specs.Expected.{oneType, allows, frameRead}
@@ -51,6 +52,15 @@ frames-apart (Framed.Refused r) (Framed.Refused s) e = cc
 pub record-at-one : (library : List ℕ) (what : Allowed) (at : ℕ) → Determines (λ r. frameRead r ≡ expected library (allows what) at)
 record-at-one library what at = by-map frameRead frames-apart (expected library (allows what) at)
 
+pub record-by-one : (library : List ℕ) (edition : Edition) (what : Allowed) (at : ℕ) → Determines (λ r. frameRead r ≡ expectedBy edition library (allows what) at)
+record-by-one library edition what at = by-map frameRead frames-apart (expectedBy edition library (allows what) at)
+
+pub edition-of-one : (number : ℕ) → Determines (λ r. r ≡ editionOf number)
+edition-of-one number = by-equation (editionOf number)
+
+pub leaves-over-one : (edition : Edition) (left end : ℕ) → Determines (λ r. r ≡ leavesOver edition left end)
+leaves-over-one edition left end = by-equation (leavesOver edition left end)
+
 -- names
 pub read-name-one : (library : List ℕ) (at : ℕ) → Determines (λ r. r ≡ bytesOf library (namePart library at))
 read-name-one library at = by-equation (bytesOf library (namePart library at))
@@ -85,5 +95,6 @@ names-apart (Named.Refused r) (Named.Read m k) e = cc
 names-apart (Named.Refused r) Named.Stop e = cc
 names-apart (Named.Refused r) (Named.Refused s) e = cc
 
-pub named-at-one : (library : List ℕ) (kind more at : ℕ) → Determines (λ r. nameRead r ≡ recordOf library (oneType kind) (nameWith more library) at)
-named-at-one library kind more at = by-map nameRead names-apart (recordOf library (oneType kind) (nameWith more library) at)
+pub named-at-one : (library : List ℕ) (edition : Edition) (kind more at : ℕ)
+    → Determines (λ r. nameRead r ≡ recordBy edition library (oneType kind) (nameWith more library) at)
+named-at-one library edition kind more at = by-map nameRead names-apart (recordBy edition library (oneType kind) (nameWith more library) at)

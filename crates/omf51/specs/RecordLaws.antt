@@ -1,24 +1,28 @@
 -- When a record is read, stops the repetition, or is refused. Assumes nothing.
 use Prim.Native.Nat.{ℕ, _+_, _≤_, _<_}
-use mathlib.Core.Path.{_≡_, refl, subst}
+use mathlib.Core.Path.{_≡_, refl, subst, _∙_}
 use mathlib.Core.Bool.{Bool, true, false}
 use mathlib.Core.List.{List}
 use native.Mathlib.Omega.{arith}
 use borrow.Author.Tests.{ltb-true, ltb-false, eqb-true, eqb-false, lt-ltb, le-ltb, eq-eqb, ne-eqb}
 use lib.Dec.{eqb, ltb}
 use lib.ListN.{length}
-use Rattle.lent.specs.declared.refusal.Refusal.the-variants.{BodyPastEnd, LengthZero}
+use Rattle.lent.specs.declared.refusal.Refusal.the-variants.{BodyPastEnd, LengthZero, WrongSum, LeftOver}
+use Rattle.lent.specs.Choice.{if_then_else_}
 use Rattle.lent.specs.ChoiceLaws.{chosen}
 use Rattle.lent.specs.Parts.{byteAt, wordAt}
+use Rattle.omf51.specs.declared.Edition.{Edition}
+use Rattle.omf51.specs.declared.Edition.the-variants.{One, Two}
 use Rattle.omf51.specs.declared.Frame.{Frame}
 use Rattle.omf51.specs.Reader.{ReadOutcome, read, stop, refused, Reader, andThen}
-use Rattle.omf51.specs.Record.{frameAt, expected, recordOf}
+use Rattle.omf51.specs.Record.{frameAt, expected, recordSum, summed, expectedBy, usedUp, recordBy}
 
--- a record whose type is not allowed here never gives 6 or 7: the type byte alone decides
-pub not-allowed : {A : Type 0} (library : List ℕ) (allowed : ℕ → Bool) (inner : Frame → Reader A) (at : ℕ)
-    → allowed (byteAt library at) ≡ false → recordOf library allowed inner at ≡ stop
-unfolding recordOf expected
-not-allowed library allowed inner at e = rw e
+-- a record whose type is not allowed here never gives 6, 7, 14 or 15: the type byte alone decides
+pub not-allowed : {A : Type 0} (e : Edition) (library : List ℕ) (allowed : ℕ → Bool) (inner : Frame → Reader A) (at : ℕ)
+    → allowed (byteAt library at) ≡ false → recordBy e library allowed inner at ≡ stop
+unfolding recordBy expectedBy expected
+not-allowed One library allowed inner at n = rw n
+not-allowed Two library allowed inner at n = rw n
 
 -- the record that is expected at a place, by the test of its type
 pub expected-there : (library : List ℕ) (allowed : ℕ → Bool) (at : ℕ) → allowed (byteAt library at) ≡ true → expected library allowed at ≡ frameAt library at
@@ -30,10 +34,18 @@ unfolding expected
 not-expected library allowed at e = rw e
 
 -- a record whose frame is known
-pub record-framed : {A : Type 0} (library : List ℕ) (allowed : ℕ → Bool) (inner : Frame → Reader A) (at : ℕ) {o : ReadOutcome Frame}
-    → expected library allowed at ≡ o → recordOf library allowed inner at ≡ andThen o λ f next. andThen (inner f (f .body)) λ a left. read a next
-unfolding recordOf
-record-framed library allowed inner at e = rw e
+pub record-framed : {A : Type 0} (e : Edition) (library : List ℕ) (allowed : ℕ → Bool) (inner : Frame → Reader A) (at : ℕ) {o : ReadOutcome Frame}
+    → expectedBy e library allowed at ≡ o → recordBy e library allowed inner at ≡ andThen o λ f next. andThen (inner f (f .body)) λ a left. usedUp e (f .end) a left next
+unfolding recordBy
+record-framed e library allowed inner at q = rw q
+
+-- what goes up to its end is used up in both editions; in edition 2 nothing shorter is
+pub used-all : {A : Type 0} (e : Edition) (end : ℕ) (a : A) (left next : ℕ) → end ≤ left → usedUp e end a left next ≡ read a next
+used-all One end a left next h = refl
+used-all Two end a left next h = rw (le-ltb left end h)
+
+pub used-short : {A : Type 0} (end : ℕ) (a : A) (left next : ℕ) → left < end → usedUp Two end a left next ≡ refused LeftOver
+used-short end a left next h = rw (lt-ltb left end h)
 
 -- 7 exactly if both length bytes are there and the length is 0; 6 exactly if it is not and the body passes the file's end
 module _ (library : List ℕ) (at : ℕ) where
@@ -125,3 +137,58 @@ expected-fits library allowed at = chosen (FrameFits library at) (allowed (byteA
 
 pub read-fits : (library : List ℕ) (allowed : ℕ → Bool) (at : ℕ) {f : Frame} {next : ℕ} → expected library allowed at ≡ read f next → Fits library at f next
 read-fits library allowed at e = subst (FrameFits library at) e (expected-fits library allowed at)
+
+-- edition 1 asks for nothing more
+pub first-expected : (library : List ℕ) (allowed : ℕ → Bool) (at : ℕ) → expectedBy One library allowed at ≡ expected library allowed at
+unfolding expectedBy
+first-expected library allowed at = refl
+
+-- in an edition: edition 2 reads a record if its sum is 0, and refuses it otherwise
+module _ (library : List ℕ) (allowed : ℕ → Bool) (at : ℕ) where
+  pub sum-right : {f : Frame} {next : ℕ} → expected library allowed at ≡ read f next → recordSum library at next ≡ 0
+      → expectedBy Two library allowed at ≡ read f next
+  unfolding expectedBy
+  sum-right {f} {next} e z = rw (e, eq-eqb (recordSum library at next) 0 z)
+
+  pub sum-wrong : {f : Frame} {next : ℕ} → expected library allowed at ≡ read f next → (recordSum library at next ≡ 0 → ⊥)
+      → expectedBy Two library allowed at ≡ refused WrongSum
+  unfolding expectedBy
+  sum-wrong {f} {next} e z = rw (e, ne-eqb (recordSum library at next) 0 z)
+
+  -- where there is none, edition 2 says what edition 1 says
+  pub sum-unasked : {o : ReadOutcome Frame} → expected library allowed at ≡ o → ((f : Frame) (next : ℕ) → o ≡ read f next → ⊥) → expectedBy Two library allowed at ≡ o
+  unfolding expectedBy
+  sum-unasked {o} e n = rw e (go o n)
+    where
+      go : (o : ReadOutcome Frame) → ((f : Frame) (next : ℕ) → o ≡ read f next → ⊥) → andThen o (summed library at) ≡ o
+      go (read f next) n = absurd (n f next refl)
+      go stop n = refl
+      go (refused r) n = refl
+
+  pub fits-by : (e : Edition) → FrameFits library at (expectedBy e library allowed at)
+  unfolding expectedBy
+  fits-by One = expected-fits library allowed at
+  fits-by Two = go (expected library allowed at) (expected-fits library allowed at)
+    where
+      go : (o : ReadOutcome Frame) → FrameFits library at o → FrameFits library at (andThen o (summed library at))
+      go (read f next) h = chosen (FrameFits library at) (eqb (recordSum library at next) 0) (λ _. h) (λ _. tt)
+      go stop h = tt
+      go (refused r) h = tt
+
+  -- what edition 2 reads, edition 1 reads
+  pub read-first : (e : Edition) {f : Frame} {next : ℕ} → expectedBy e library allowed at ≡ read f next → expected library allowed at ≡ read f next
+  unfolding expectedBy
+  read-first One q = q
+  read-first Two {f} {next} q = go (expected library allowed at) refl q
+    where
+      either : (t : Bool) (o : ReadOutcome Frame) → (if t then o else refused WrongSum) ≡ read f next → o ≡ read f next
+      either true o h = h
+      either false o h = let z : _≡_ {A = ℕ} 0 1 = cc in absurd (omega arith)
+
+      go : (o : ReadOutcome Frame) → expected library allowed at ≡ o → andThen o (summed library at) ≡ read f next → expected library allowed at ≡ read f next
+      go (read g k) p h = p ∙ either (eqb (recordSum library at k) 0) (read g k) h
+      go stop p h = let z : _≡_ {A = ℕ} 0 1 = cc in absurd (omega arith)
+      go (refused r) p h = let z : _≡_ {A = ℕ} 0 1 = cc in absurd (omega arith)
+
+  pub read-by : (e : Edition) {f : Frame} {next : ℕ} → expectedBy e library allowed at ≡ read f next → Fits library at f next
+  read-by e q = subst (FrameFits library at) q (fits-by e)

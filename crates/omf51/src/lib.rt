@@ -5,6 +5,7 @@ use lent::part::Part;
 use lent::refusal::Refusal;
 
 pub mod allowed_types;
+pub mod by_edition;
 pub mod entry;
 pub mod read_entry;
 pub mod read_record;
@@ -19,6 +20,12 @@ pub struct Frame {
     pub kind: u8,
     pub body: usize,
     pub end: usize,
+}
+
+// The reading edition: 1 is document 01's; 2 also wants every record to sum to 0, and bodies and the file to be used up.
+pub enum Edition {
+    One,
+    Two,
 }
 
 // How a reading ends: read up to a place; stopped, since what should be read does not stand there; or refused.

@@ -4,16 +4,18 @@ ghost use mathlib.Core.Path.{_≡_};
 ghost use Prim.Native.Nat.{_+_, _≤_, _<_};
 ghost use lib.ListN.{length};
 ghost use Rattle.lent.specs.Parts.{byteAt, bytesOf};
-ghost use Rattle.omf51.specs.Record.{recordOf};
+ghost use Rattle.omf51.specs.Record.{recordBy};
 ghost use Rattle.omf51.specs.Entry.{namePart, idSize, isSegment, isPublic, nameOffset, nameWith, definitionAt, fixupAt};
 ghost use Rattle.omf51.specs.Expected.{oneType};
 ghost use Rattle.omf51.specs.Ends.{endOf, nameRead, entryEnd};
+use crate::Edition;
 use crate::End;
 use crate::Frame;
+use crate::by_edition::leaves_over;
+use crate::by_edition::record_by;
 use crate::entry::Entries;
 use crate::entry::Named;
 use crate::read_record::byte_at;
-use crate::read_record::record_at;
 use crate::record::Framed;
 use crate::types::Allowed;
 use lent::names::name;
@@ -137,17 +139,22 @@ pub fn entry_end(library: &[u8], what: Entries, f: Frame, at: usize) -> End
     }
 }
 
-// The header or end record at a place, by its type `kind`: its body has a name and at least `more` bytes behind it.
-pub fn named_at(library: &[u8], kind: u8, more: u8, at: usize) -> Named
-    ensures { λ r. ⌜ nameRead r ≡ recordOf (now (library .entry)) (oneType kind) (nameWith more (now (library .entry))) at ⌝ }
+// The header or end record at a place, by its type `kind`: its body has a name and `more` bytes behind it; bytes behind these are
+// left over.
+pub fn named_at(library: &[u8], edition: Edition, kind: u8, more: u8, at: usize) -> Named
+    ensures { λ r. ⌜ nameRead r ≡ recordBy edition (now (library .entry)) (oneType kind) (nameWith more (now (library .entry))) at ⌝ }
 {
-    match record_at(library, Allowed::One(kind), at) {
+    match record_by(library, edition, Allowed::One(kind), at) {
         Framed::Read(f) => {
             let body = f.body;
             let end = f.end;
             let len = wide(byte_at(library, body));
-            if end - body < 1 + len + wide(more) {
+            let need = 1 + len + wide(more);
+            if end - body < need {
                 return Named::Stop;
+            }
+            if leaves_over(edition, body + need, end) {
+                return Named::Refused(Refusal::LeftOver);
             }
             let name = name_at(library, body);
             Named::Read {

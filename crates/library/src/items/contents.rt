@@ -11,6 +11,7 @@ use crate::items::entries::start;
 use crate::repeat::section_end;
 use lent::part::Part;
 use omf51::Content;
+use omf51::Edition;
 use omf51::End;
 use omf51::Frame;
 use omf51::read_entry::id_size;
@@ -42,7 +43,7 @@ pub fn next_content(library: &[u8], from: usize) -> NextContent
 {
     let mut at = from;
     loop {
-        let End::At(next) = section_end(library, at) else {
+        let End::At(next) = section_end(library, Edition::One, at) else {
             return NextContent::Done;
         };
         let framed = record_at(library, Allowed::Contents, at);
