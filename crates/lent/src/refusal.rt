@@ -20,6 +20,7 @@ pub enum Refusal {
     NoKeptSegment,
     WrongSum,
     LeftOver,
+    TooManyStretches,
     OtherEdition,
 }
 
@@ -43,6 +44,7 @@ pub fn number(r: Refusal) -> u8
         Refusal::NoKeptSegment => 13,
         Refusal::WrongSum => 14,
         Refusal::LeftOver => 15,
+        Refusal::TooManyStretches => 16,
         Refusal::OtherEdition => 30,
     }
 }

@@ -21,7 +21,7 @@ use Rattle.search_rules.specs.SearchRows.{placedWidth, notedWidth, placedNumber
 use Rattle.search_rules.specs.SearchRowLaws.{placed-take, noted-take}
 use Rattle.listing_rules.specs.Listing.{lineWidth, lineCells, lineNumbers}
 use Rattle.run.specs.declared.Settings.{Settings}
-use Rattle.run.specs.Run.{Lent, Yield, Outcome, libraryRead, stages, counted, refusals, zeroed, filledWith, outcomeOf, runSeen, run, numberOf, noCounts, countsOf}
+use Rattle.run.specs.Run.{Lent, Yield, Outcome, libraryRead, stages, counted, refusals, zeroed, filledWith, outcomeOf, runSeen, run, numberOf, noCounts, countsOf, cover}
 use Rattle.run.specs.Given.{NothingRefused}
 use Rattle.run.specs.Refused.{done-exactly}
 
@@ -41,7 +41,7 @@ module _ (image library : List ℕ) (s : Settings) (lent : Lent) where
   outcome = run image library s lent
 
   abbrev pub yielded : Yield
-  yielded = stages (view image (s .stretch)) library s
+  yielded = stages (view image (cover s)) library s
 
   -- what an outcome has to be, by its number
   pub record Sound (o : Outcome) : Type 0 where
@@ -55,7 +55,7 @@ module _ (image library : List ℕ) (s : Settings) (lent : Lent) where
 
   pub sound : Sound outcome
   unfolding run runSeen
-  sound = go (leading (refusals (view image (s .stretch)) library s lent (counted yielded)))
+  sound = go (leading (refusals (view image (cover s)) library s lent (counted yielded)))
     where
       go : (o : Option Refusal) → Sound (outcomeOf library o yielded lent)
       go none = record {

@@ -9,8 +9,10 @@ use lib.ListN.{length, getD}
 use Rattle.lent.specs.declared.refusal.Refusal.{Refusal}
 use Rattle.lent.specs.OneOutcome.{Determines, by-equation}
 use Rattle.lent.specs.Refusals.{refusalNumber}
-use Rattle.image.specs.View.{view}
-use Rattle.image.specs.ViewLaws.{Agree, view-length}
+use Rattle.image.specs.declared.cover.Stretches.{Stretches}
+use Rattle.image.specs.View.{within, view}
+use Rattle.image.specs.ViewLaws.{Inside, Agree, view-length}
+use Rattle.image.specs.Cover.{coverOf}
 use Rattle.omf51.specs.File.{modulesIn}
 use Rattle.listing_rules.specs.declared.Line.{Line}
 use Rattle.listing_rules.specs.Listing.{lineWidth}
@@ -21,11 +23,11 @@ use Rattle.listing_rules.specs.CompleteLaws.{complete, only}
 use Rattle.listing_rules.specs.OnceLaws.{placed-once, noted-once}
 use Rattle.listing_rules.specs.OrderLaws.{in-order}
 use Rattle.run.specs.declared.Settings.{Settings}
-use Rattle.run.specs.Run.{libraryRead, Lent, Yield, Outcome, askedOf, stages, counted, filledWith, runSeen, run, numberOf, countsOf}
+use Rattle.run.specs.Run.{libraryRead, Lent, Yield, Outcome, askedOf, stages, counted, filledWith, runSeen, run, numberOf, countsOf, cover}
 use Rattle.run.specs.Given.{Given, NothingRefused}
 use Rattle.run.specs.Refused.{given-exactly, done-exactly}
 use Rattle.run.specs.Answers.{SameLengths, Sound, sound, lengths-kept}
-use Rattle.run.specs.Withheld.{same-run, plain-run}
+use Rattle.run.specs.Withheld.{Fit, withholding, same-run, same-cover-run, plain-run}
 use Rattle.run.specs.Own.{Own, Referred}
 use Rattle.run.specs.OwnAddress.{own-address}
 use Rattle.run.specs.NotedAddress.{noted-address}
@@ -46,7 +48,7 @@ module _ (image library : List ℕ) (s : Settings) (lent : Lent) where
 
   -- what the stages give on the view, and its lines
   abbrev pub yield : Yield
-  yield = stages (view image (s .stretch)) library s
+  yield = stages (view image (cover s)) library s
 
   abbrev lines : List Line
   lines = yield .lines
@@ -92,10 +94,10 @@ module _ (image library : List ℕ) (s : Settings) (lent : Lent) where
 
     -- OWN ADDRESS: each row of the list with a grade of 1 to 3, under rule set 1
     pub own-row : s .rules ≡ 1 → numberOf (o .answer) ≡ 0 → (i : ℕ) → i < countsOf (o .answer) .lines → 1 ≤ lineAt (o .left .lines) i .grade
-        → Own library (view image (s .stretch)) (askedOf s) (modulesIn (libraryRead library s)) (lineAt (o .left .lines) i .name) (lineAt (o .left .lines) i .address)
+        → Own library (view image (cover s)) (askedOf s) (modulesIn (libraryRead library s)) (lineAt (o .left .lines) i .name) (lineAt (o .left .lines) i .address)
     own-row r z i h =
         let x = row-of z i h in
-        subst (λ l. 1 ≤ l .grade → Own library (view image (s .stretch)) (askedOf s) (modulesIn (libraryRead library s)) (l .name) (l .address)) (sym (x .is))
+        subst (λ l. 1 ≤ l .grade → Own library (view image (cover s)) (askedOf s) (modulesIn (libraryRead library s)) (l .name) (l .address)) (sym (x .is))
         (own-address image library s r (getD lines i noLine) (at-among lines noLine i (x .number)))
 
     -- SIXTEEN BITS: under rule set 1 no row of the list has an address above FFFFh
@@ -107,25 +109,25 @@ module _ (image library : List ℕ) (s : Settings) (lent : Lent) where
 
     -- GRADE 0: the name of each row with grade 0 is referred to there, under either rule set
     pub noted-row : numberOf (o .answer) ≡ 0 → (i : ℕ) → i < countsOf (o .answer) .lines → lineAt (o .left .lines) i .grade ≡ 0
-        → Referred library (view image (s .stretch)) (askedOf s) (modulesIn (libraryRead library s)) (lineAt (o .left .lines) i .name) (lineAt (o .left .lines) i .address)
+        → Referred library (view image (cover s)) (askedOf s) (modulesIn (libraryRead library s)) (lineAt (o .left .lines) i .name) (lineAt (o .left .lines) i .address)
     noted-row z i h =
         let x = row-of z i h in
-        subst (λ l. l .grade ≡ 0 → Referred library (view image (s .stretch)) (askedOf s) (modulesIn (libraryRead library s)) (l .name) (l .address)) (sym (x .is))
+        subst (λ l. l .grade ≡ 0 → Referred library (view image (cover s)) (askedOf s) (modulesIn (libraryRead library s)) (l .name) (l .address)) (sym (x .is))
         (noted-address image library s (getD lines i noLine) (at-among lines noLine i (x .number)))
 
     -- COMPLETE: the rows of the list are exactly the lines that are to be listed
     pub complete-rows : numberOf (o .answer) ≡ 0 → (l : Line) → ((i : ℕ) × (i < countsOf (o .answer) .lines) × (lineAt (o .left .lines) i ≡ l))
-        ↔ Listed library (view image (s .stretch)) (askedOf s) (s .skip) (yield .segments) (yield .placed) (yield .noted) l
+        ↔ Listed library (view image (cover s)) (askedOf s) (s .skip) (yield .segments) (yield .placed) (yield .noted) l
     unfolding stages
     complete-rows z l = (to, back)
       where
         to : (i : ℕ) × (i < countsOf (o .answer) .lines) × (lineAt (o .left .lines) i ≡ l)
-            → Listed library (view image (s .stretch)) (askedOf s) (s .skip) (yield .segments) (yield .placed) (yield .noted) l
+            → Listed library (view image (cover s)) (askedOf s) (s .skip) (yield .segments) (yield .placed) (yield .noted) l
         to (i, h, e) =
             let x = row-of z i h in
             only library _ _ _ _ _ _ l (Memᴰ·cast (sym e ∙ x .is) (at-among lines noLine i (x .number)))
 
-        back : Listed library (view image (s .stretch)) (askedOf s) (s .skip) (yield .segments) (yield .placed) (yield .noted) l
+        back : Listed library (view image (cover s)) (askedOf s) (s .skip) (yield .segments) (yield .placed) (yield .noted) l
             → (i : ℕ) × (i < countsOf (o .answer) .lines) × (lineAt (o .left .lines) i ≡ l)
         back q =
             let p = place-among noLine lines (complete library _ _ _ _ _ _ l q) in
@@ -138,16 +140,22 @@ module _ (image library : List ℕ) (s : Settings) (lent : Lent) where
     rows-in-order z i j l h =
         let y = row-of z j h in
         let x = row z i (omega (arith, l, y .number)) in
-        rw (x .is, y .is, sym (view-length image (s .stretch)))
+        rw (x .is, y .is, sym (view-length image (cover s)))
         (in-order library _ (askedOf s) (s .skip) _ _ _ (placed-once library _ _ _) (noted-once library _ _ _) (getD lines i noLine) (getD lines j noLine)
         (earlier-at lines noLine i j l (y .number)))
 
--- THE STRETCH: two images of one length that agree outside the stretch give one outcome, if all else is equal
-pub stretch-alone : (a b library : List ℕ) (s : Settings) (lent : Lent) → Agree a b (s .stretch)
+-- THE STRETCHES: two images of one length that agree outside the cover give one outcome, if all else is equal
+pub stretch-alone : (a b library : List ℕ) (s : Settings) (lent : Lent) → Agree a b (cover s)
     → (o p : Outcome) → Contract a library s lent o → Contract b library s lent p → o ≡ p
 stretch-alone a b library s lent h o p c d = c ∙ same-run a b library s lent h ∙ sym d
 
--- NOTHING WITHHELD: with an empty stretch the run is that on the image itself, so that its list is demand 2's
-pub nothing-withheld : (image library : List ℕ) (s : Settings) (lent : Lent) → s .stretch .len ≡ 0
+-- SAME COVER: two lists of stretches, neither refused with 16 or 4, that cover the same bytes give one outcome, if all else is equal
+pub same-cover : (image library : List ℕ) (s : Settings) (lent : Lent) (v w : Stretches) → Fit image v → Fit image w
+    → ((i : ℕ) → i < length image → within (coverOf v) i ≡ within (coverOf w) i)
+    → (o p : Outcome) → Contract image library (withholding s v) lent o → Contract image library (withholding s w) lent p → o ≡ p
+same-cover image library s lent v w f g same o p c d = c ∙ same-cover-run image library s lent v w f g same ∙ sym d
+
+-- NOTHING WITHHELD: where no stretch has a byte the run is that on the image itself, so that its list is demand 2's
+pub nothing-withheld : (image library : List ℕ) (s : Settings) (lent : Lent) → ((i : ℕ) → Inside (cover s) i → ⊥)
     → (o : Outcome) → Contract image library s lent o → o ≡ runSeen image library s lent
 nothing-withheld image library s lent e o c = c ∙ plain-run image library s lent e

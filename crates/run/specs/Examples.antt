@@ -10,7 +10,8 @@ use Rattle.lent.specs.Lists.{one, keep, joined, fold, any, all, placeOf, from, 
 use Rattle.lent.specs.Parts.{same, before}
 use Rattle.lent.specs.Rows.{zeros, flag}
 use Rattle.image.specs.declared.Seat.the-variants.{Anywhere}
-use Rattle.image.specs.View.{view}
+use Rattle.image.specs.View.{stretchesIn, view}
+use Rattle.image.specs.Cover.{noStretches}
 use Rattle.image.specs.Match.{agrees, matchesAt, matches}
 use Rattle.image.specs.declared.fixup.Rules.{Rules}
 use Rattle.image.specs.declared.fixup.Rules.the-variants.{AsFound, Documented}
@@ -91,11 +92,11 @@ table =
     ∷ P 12 (masksOf 3 (one P12)) (0xff ∷ 0xff ∷ 0x00 ∷ [])
     ∷ P 13 (words (describe (text "?C?CLDIDATA")) ++ words (describe (text "?C?CLDIXDATA")))
     (text "char (8-bit) load from idata (indirect ram access)" ++ one 0)
-    ∷ P 14 (matchesP4 (view P4 (record { start = 4; len = 1 }))) (0 ∷ [])
+    ∷ P 14 (matchesP4 (view P4 (one (record { start = 4; len = 1 })))) (0 ∷ [])
     ∷ []
 
 pub all-hold : map (λ e. e .computed) table ≡ map (λ e. e .result) table
-unfolding table matches matchesAt all keep from shown target masksOf fold describe description oneOf placeOf same numbered view
+unfolding table matches matchesAt any all keep from shown target masksOf fold describe description oneOf placeOf same numbered view
 all-hold = refl
 
 -- The whole printed case.
@@ -112,7 +113,7 @@ library =
     ∷ []
 
 abbrev settings : Settings
-settings = record { rules = 0; edition = 1; check = true; minimum = 3; skip = Never; stretch = record { start = 0; len = 0 } }
+settings = record { rules = 0; edition = 1; check = true; minimum = 3; skip = Never; withheld = noStretches }
 
 -- lent for it: one number more than a row for each stage, so that what is left over can be seen to be zero
 abbrev lent : Lent
@@ -145,7 +146,7 @@ outcome = record {
 pub whole : (run image library settings lent ≡ outcome)
     × (printed library (stages image library settings .lines)
     ≡ text "Address | Name                 | Description\n0x0001    ?C?LADD                long (32-bit) addition\n")
-unfolding leading keep joined fold any all placeOf from numbered insert sorted total same before view matchesAt matches shown target
+unfolding leading keep joined fold any all placeOf from numbered insert sorted total same before stretchesIn view matchesAt matches shown target
     repeat frameAt expected recordSum expectedBy recordBy ending definitionOf definitionAt fixupAt definitionsBy fixupsBy sectionBy sectionsBy moduleBy libraryBy fileRead fileBy
     kept named fixupRefusal contentRefusal tests collectRefusal masksOf ored merged filled referencesOf symbolsOf keptSegment absoluteSegment
     moduleSegments collect segmentRowsFrom segmentNumbers referenceNumbers symbolNumbers patternBytes patternMasks positionsOf allMatches isValid

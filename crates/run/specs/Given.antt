@@ -4,9 +4,10 @@ use mathlib.Core.Logic.{_⊎_}
 use mathlib.Core.List.{List}
 use lib.ListN.{length}
 use Rattle.lent.specs.declared.refusal.Refusal.{Refusal}
-use Rattle.lent.specs.declared.refusal.Refusal.the-variants.{RuleSet, ImageTooLong, LibraryTooLong, StretchPastEnd, NoModule, BodyPastEnd, LengthZero, NamesDiffer, TooFewRows, UnknownKind, UnknownBlock, ContentPastSegment, NoKeptSegment, WrongSum, LeftOver, OtherEdition}
+use Rattle.lent.specs.declared.refusal.Refusal.the-variants.{RuleSet, ImageTooLong, LibraryTooLong, StretchPastEnd, NoModule, BodyPastEnd, LengthZero, NamesDiffer, TooFewRows, UnknownKind, UnknownBlock, ContentPastSegment, NoKeptSegment, WrongSum, LeftOver, TooManyStretches, OtherEdition}
 use Rattle.lent.specs.FirstOf.{Quiet, First}
 use Rattle.image.specs.View.{view}
+use Rattle.image.specs.CoverLaws.{SomePasses, AllFit}
 use Rattle.omf51.specs.declared.Edition.{Edition}
 use Rattle.omf51.specs.Record.{editionOf}
 use Rattle.omf51.specs.File.{modulesIn}
@@ -18,7 +19,7 @@ use Rattle.search_rules.specs.SearchRows.{placedWidth, notedWidth}
 use Rattle.listing_rules.specs.Listing.{lineWidth}
 use Rattle.run.specs.declared.Settings.{Settings}
 use Rattle.run.specs.declared.Counts.{Counts}
-use Rattle.run.specs.Run.{Lent, libraryRead, stages, counted}
+use Rattle.run.specs.Run.{Lent, libraryRead, stages, counted, cover}
 
 -- n rows of a width do not fit into what was lent
 abbrev pub Over : ℕ → List ℕ → ℕ → Type 0
@@ -42,18 +43,19 @@ ListOver lent c = Over lineWidth (lent .lines) (c .lines)
 abbrev pub NoEdition : ℕ → Type 0
 NoEdition n = (n < 1) ⊎ (2 < n)
 
--- none of refusals 1, 30, 2, 3 and 4 applies
+-- none of refusals 1, 30, 2, 3, 16 and 4 applies
 pub record Accepted (image library : List ℕ) (s : Settings) : Type 0 where
   pub rule-set : s .rules ≤ 1
   pub edition : NoEdition (s .edition) → ⊥
   pub image-fits : length image ≤ 65536
   pub library-fits : length library ≤ 1048576
-  pub stretch-fits : s .stretch .start + s .stretch .len ≤ length image
+  pub few : s .withheld .count ≤ 16
+  pub stretches-fit : AllFit (length image) (cover s)
 
 -- for a run's image, library, settings and lent lists: when each refusal is given, with all earlier ones ruled out
 module _ (image library : List ℕ) (s : Settings) (lent : Lent) where
   abbrev pub counts : Counts
-  counts = counted (stages (view image (s .stretch)) library s)
+  counts = counted (stages (view image (cover s)) library s)
 
   -- the library, in the edition of the settings
   abbrev pub e : Edition
@@ -81,8 +83,10 @@ module _ (image library : List ℕ) (s : Settings) (lent : Lent) where
   Given OtherEdition = (s .rules ≤ 1) × NoEdition (s .edition)
   Given ImageTooLong = (s .rules ≤ 1) × (NoEdition (s .edition) → ⊥) × (65536 < length image)
   Given LibraryTooLong = (s .rules ≤ 1) × (NoEdition (s .edition) → ⊥) × (length image ≤ 65536) × (1048576 < length library)
+  Given TooManyStretches =
+      (s .rules ≤ 1) × (NoEdition (s .edition) → ⊥) × (length image ≤ 65536) × (length library ≤ 1048576) × (16 < s .withheld .count)
   Given StretchPastEnd =
-      (s .rules ≤ 1) × (NoEdition (s .edition) → ⊥) × (length image ≤ 65536) × (length library ≤ 1048576) × (length image < s .stretch .start + s .stretch .len)
+      (s .rules ≤ 1) × (NoEdition (s .edition) → ⊥) × (length image ≤ 65536) × (length library ≤ 1048576) × (s .withheld .count ≤ 16) × SomePasses (length image) (cover s)
   Given NoModule = Accepted image library s × NothingRead e library
   Given BodyPastEnd = Accepted image library s × BodyPasses e library
   Given LengthZero = Accepted image library s × LengthIsZero e library

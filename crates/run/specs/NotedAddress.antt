@@ -36,7 +36,7 @@ use Rattle.listing_rules.specs.declared.Line.{Line}
 use Rattle.listing_rules.specs.Listing.{notedLine}
 use Rattle.listing_rules.specs.CompleteLaws.{noted-line}
 use Rattle.run.specs.declared.Settings.{Settings}
-use Rattle.run.specs.Run.{libraryRead, askedOf, stages}
+use Rattle.run.specs.Run.{libraryRead, askedOf, stages, cover}
 use Rattle.run.specs.Own.{ByFixup, RefersTo, Referred}
 
 -- the first that passes a test is in the list, and passes
@@ -170,13 +170,13 @@ module _ (library cells : List ℕ) (a : Asked) (modules : List Module) where
       }
 
 -- GRADE 0: the name beside an address is referred to there
-pub noted-address : (image library : List ℕ) (s : Settings) (l : Line) → l among stages (view image (s .stretch)) library s .lines → l .grade ≡ 0
-    → Referred library (view image (s .stretch)) (askedOf s) (modulesIn (libraryRead library s)) (l .name) (l .address)
+pub noted-address : (image library : List ℕ) (s : Settings) (l : Line) → l among stages (view image (cover s)) library s .lines → l .grade ≡ 0
+    → Referred library (view image (cover s)) (askedOf s) (modulesIn (libraryRead library s)) (l .name) (l .address)
 unfolding stages
 noted-address image library s l i h = go (noted-line library cells a (s .skip) gs (placed library cells a gs) (noted library cells a gs) l i h)
   where
     cells : List ℕ
-    cells = view image (s .stretch)
+    cells = view image (cover s)
 
     a : Asked
     a = askedOf s

@@ -10,7 +10,7 @@ use borrow.Author.Tests.{ltb-true, lt-ltb}
 use lib.Dec.{ltb}
 use lib.ListN.{length}
 use Rattle.lent.specs.declared.refusal.Refusal.{Refusal}
-use Rattle.lent.specs.declared.refusal.Refusal.the-variants.{RuleSet, ImageTooLong, LibraryTooLong, StretchPastEnd, NoModule, BodyPastEnd, LengthZero, NamesDiffer, TooFewRows, UnknownKind, UnknownBlock, ContentPastSegment, NoKeptSegment, WrongSum, LeftOver, OtherEdition}
+use Rattle.lent.specs.declared.refusal.Refusal.the-variants.{RuleSet, ImageTooLong, LibraryTooLong, StretchPastEnd, NoModule, BodyPastEnd, LengthZero, NamesDiffer, TooFewRows, UnknownKind, UnknownBlock, ContentPastSegment, NoKeptSegment, WrongSum, LeftOver, TooManyStretches, OtherEdition}
 use Rattle.lent.specs.Choice.{when, leading}
 use Rattle.lent.specs.FirstOf.{Quiet, none≢some, leading-none, none-leading}
 use Rattle.lent.specs.Lists.{all}
@@ -18,6 +18,8 @@ use Rattle.lent.specs.Refusals.{refusalNumber}
 use Rattle.lent.specs.RefusalLaws.{number-tells, same-number, numbered}
 use Rattle.image.specs.View.{view}
 use Rattle.image.specs.ViewLaws.{view-length}
+use Rattle.image.specs.Cover.{tooManyStretches, passesEnd}
+use Rattle.image.specs.CoverLaws.{SomePasses, AllFit, some-passes, all-fit}
 use Rattle.omf51.specs.declared.Edition.{Edition}
 use Rattle.omf51.specs.File.{modulesIn}
 use Rattle.omf51.specs.Reaches.{FileRead, Ends}
@@ -26,14 +28,14 @@ use Rattle.segments.specs.Refuse.{Test, testRefusal, tests, collectRefusal}
 use Rattle.segments.specs.RefuseLaws.{KindAbove, BlockAbove, PastSegment, NowhereKept, gives-10, gives-11, gives-12, gives-13, collect-gives}
 use Rattle.listing_rules.specs.Listing.{lineWidth}
 use Rattle.run.specs.declared.Settings.{Settings}
-use Rattle.run.specs.Run.{Lent, Yield, libraryRead, stages, counted, collectOver, searchOver, listOver, otherEdition, refusals, outcomeOf, runSeen, run, numberOf}
+use Rattle.run.specs.Run.{Lent, Yield, libraryRead, stages, counted, collectOver, searchOver, listOver, otherEdition, refusals, outcomeOf, runSeen, run, numberOf, cover}
 use Rattle.run.specs.Order.{Stage, firstOf, Silent, silent-both, Beyond, or-else, after-none, at-stage}
 use Rattle.run.specs.Given.{CollectionOver, SearchOver, ListOver, NoEdition, Accepted, e, Reached, FirstTest, TooLittle, Given, NothingRefused}
 use Rattle.run.specs.StageLaws.{when-some, when-none, when-stage, reading-stage, collecting-stage, over, or-true-iff, not-over, collection-over, search-over, less, not-less}
 
 module _ (image library : List ℕ) (s : Settings) (lent : Lent) where
   abbrev cells : List ℕ
-  cells = view image (s .stretch)
+  cells = view image (cover s)
 
   abbrev yield : Yield
   yield = stages cells library s
@@ -57,11 +59,14 @@ module _ (image library : List ℕ) (s : Settings) (lent : Lent) where
   abbrev library-stage : Stage
   library-stage = when-stage (ltb 1048576 (length library)) LibraryTooLong
 
+  abbrev count-stage : Stage
+  count-stage = when-stage (tooManyStretches (s .withheld)) TooManyStretches
+
   abbrev stretch-stage : Stage
-  stretch-stage = when-stage (ltb (length cells) (s .stretch .start + s .stretch .len)) StretchPastEnd
+  stretch-stage = when-stage (passesEnd (length cells) (cover s)) StretchPastEnd
 
   abbrev settings-stages : List Stage
-  settings-stages = rules-stage ∷ edition-stage ∷ image-stage ∷ library-stage ∷ stretch-stage ∷ []
+  settings-stages = rules-stage ∷ edition-stage ∷ image-stage ∷ library-stage ∷ count-stage ∷ stretch-stage ∷ []
 
   abbrev room-stage : Stage
   room-stage = when-stage (collectOver lent (counted yield)) TooFewRows
@@ -109,13 +114,18 @@ module _ (image library : List ℕ) (s : Settings) (lent : Lent) where
   edition-fine = Iff·trans (when-none (otherEdition (s .edition)) OtherEdition) (not-over (otherEdition (s .edition)) edition-other)
 
   image-fine : (image-stage .out ≡ none) ↔ (length image ≤ 65536)
-  image-fine = rw (view-length image (s .stretch)) (not-less 65536 (length image) ImageTooLong)
+  image-fine = rw (view-length image (cover s)) (not-less 65536 (length image) ImageTooLong)
 
   library-fine : (library-stage .out ≡ none) ↔ (length library ≤ 1048576)
   library-fine = not-less 1048576 (length library) LibraryTooLong
 
-  stretch-fine : (stretch-stage .out ≡ none) ↔ (s .stretch .start + s .stretch .len ≤ length image)
-  stretch-fine = rw (view-length image (s .stretch)) (not-less (length image) (s .stretch .start + s .stretch .len) StretchPastEnd)
+  count-fine : (count-stage .out ≡ none) ↔ (s .withheld .count ≤ 16)
+  count-fine = not-less 16 (s .withheld .count) TooManyStretches
+
+  stretch-fine : (stretch-stage .out ≡ none) ↔ AllFit (length image) (cover s)
+  stretch-fine =
+      rw (view-length image (cover s))
+      (Iff·trans (when-none (passesEnd (length image) (cover s)) StretchPastEnd) (all-fit (length image) (cover s)))
 
   room-fine : (room-stage .out ≡ none) ↔ (CollectionOver lent (counted yield) → ⊥)
   room-fine =
@@ -141,11 +151,12 @@ module _ (image library : List ℕ) (s : Settings) (lent : Lent) where
       edition = edition-fine .0 (q .1 .0);
       image-fits = image-fine .0 (q .1 .1 .0);
       library-fits = library-fine .0 (q .1 .1 .1 .0);
-      stretch-fits = stretch-fine .0 (q .1 .1 .1 .1 .0);
+      few = count-fine .0 (q .1 .1 .1 .1 .0);
+      stretches-fit = stretch-fine .0 (q .1 .1 .1 .1 .1 .0);
     }),
     λ a. (
       rules-fine .1 (a .rule-set),
-      (edition-fine .1 (a .edition), (image-fine .1 (a .image-fits), (library-fine .1 (a .library-fits), (stretch-fine .1 (a .stretch-fits), tt)))),
+      (edition-fine .1 (a .edition), (image-fine .1 (a .image-fits), (library-fine .1 (a .library-fits), (count-fine .1 (a .few), (stretch-fine .1 (a .stretches-fit), tt))))),
     ),
   )
 
@@ -232,31 +243,38 @@ module _ (image library : List ℕ) (s : Settings) (lent : Lent) where
   unfolding all
   given-exactly RuleSet =
       let this = less 1 (s .rules) RuleSet in
-      Iff·trans (by-settings RuleSet [] rules-stage (edition-stage ∷ image-stage ∷ library-stage ∷ stretch-stage ∷ reading-stage edition library ∷ later-stages) refl refl refl)
+      Iff·trans (by-settings RuleSet [] rules-stage (edition-stage ∷ image-stage ∷ library-stage ∷ count-stage ∷ stretch-stage ∷ reading-stage edition library ∷ later-stages) refl refl refl)
       ((λ h. this .0 (h .1)), λ h. (tt, this .1 h))
   given-exactly OtherEdition =
       let this = Iff·trans (when-some (otherEdition (s .edition)) OtherEdition) edition-other in
-      Iff·trans (by-settings OtherEdition (rules-stage ∷ []) edition-stage (image-stage ∷ library-stage ∷ stretch-stage ∷ reading-stage edition library ∷ later-stages) refl refl refl)
+      Iff·trans (by-settings OtherEdition (rules-stage ∷ []) edition-stage (image-stage ∷ library-stage ∷ count-stage ∷ stretch-stage ∷ reading-stage edition library ∷ later-stages) refl refl refl)
       ((λ h. (rules-fine .0 (h .0 .0), this .0 (h .1))), λ h. ((rules-fine .1 (h .0), tt), this .1 (h .1)))
   given-exactly ImageTooLong =
       let this : (image-stage .out ≡ some ImageTooLong) ↔ (65536 < length image) =
-      rw (view-length image (s .stretch)) (less 65536 (length image) ImageTooLong) in
-      Iff·trans (by-settings ImageTooLong (rules-stage ∷ edition-stage ∷ []) image-stage (library-stage ∷ stretch-stage ∷ reading-stage edition library ∷ later-stages) refl refl refl) (
+      rw (view-length image (cover s)) (less 65536 (length image) ImageTooLong) in
+      Iff·trans (by-settings ImageTooLong (rules-stage ∷ edition-stage ∷ []) image-stage (library-stage ∷ count-stage ∷ stretch-stage ∷ reading-stage edition library ∷ later-stages) refl refl refl) (
         (λ h. (rules-fine .0 (h .0 .0), edition-fine .0 (h .0 .1 .0), this .0 (h .1))),
         λ h. ((rules-fine .1 (h .0), (edition-fine .1 (h .1), tt)), this .1 (h .2)),
       )
   given-exactly LibraryTooLong =
       let this = less 1048576 (length library) LibraryTooLong in
-      Iff·trans (by-settings LibraryTooLong (rules-stage ∷ edition-stage ∷ image-stage ∷ []) library-stage (stretch-stage ∷ reading-stage edition library ∷ later-stages) refl refl refl) (
+      Iff·trans (by-settings LibraryTooLong (rules-stage ∷ edition-stage ∷ image-stage ∷ []) library-stage (count-stage ∷ stretch-stage ∷ reading-stage edition library ∷ later-stages) refl refl refl) (
         (λ h. (rules-fine .0 (h .0 .0), edition-fine .0 (h .0 .1 .0), image-fine .0 (h .0 .1 .1 .0), this .0 (h .1))),
         λ h. ((rules-fine .1 (h .0), (edition-fine .1 (h .1), (image-fine .1 (h .2), tt))), this .1 (h .3)),
       )
-  given-exactly StretchPastEnd =
-      let this : (stretch-stage .out ≡ some StretchPastEnd) ↔ (length image < s .stretch .start + s .stretch .len) =
-      rw (view-length image (s .stretch)) (less (length image) (s .stretch .start + s .stretch .len) StretchPastEnd) in
-      Iff·trans (by-settings StretchPastEnd (rules-stage ∷ edition-stage ∷ image-stage ∷ library-stage ∷ []) stretch-stage (reading-stage edition library ∷ later-stages) refl refl refl) (
+  given-exactly TooManyStretches =
+      let this = less 16 (s .withheld .count) TooManyStretches in
+      Iff·trans (by-settings TooManyStretches (rules-stage ∷ edition-stage ∷ image-stage ∷ library-stage ∷ []) count-stage (stretch-stage ∷ reading-stage edition library ∷ later-stages) refl refl refl) (
         (λ h. (rules-fine .0 (h .0 .0), edition-fine .0 (h .0 .1 .0), image-fine .0 (h .0 .1 .1 .0), library-fine .0 (h .0 .1 .1 .1 .0), this .0 (h .1))),
         λ h. ((rules-fine .1 (h .0), (edition-fine .1 (h .1), (image-fine .1 (h .2), (library-fine .1 (h .3), tt)))), this .1 (h .4)),
+      )
+  given-exactly StretchPastEnd =
+      let this : (stretch-stage .out ≡ some StretchPastEnd) ↔ SomePasses (length image) (cover s) =
+      rw (view-length image (cover s))
+      (Iff·trans (when-some (passesEnd (length image) (cover s)) StretchPastEnd) (some-passes (length image) (cover s))) in
+      Iff·trans (by-settings StretchPastEnd (rules-stage ∷ edition-stage ∷ image-stage ∷ library-stage ∷ count-stage ∷ []) stretch-stage (reading-stage edition library ∷ later-stages) refl refl refl) (
+        (λ h. (rules-fine .0 (h .0 .0), edition-fine .0 (h .0 .1 .0), image-fine .0 (h .0 .1 .1 .0), library-fine .0 (h .0 .1 .1 .1 .0), count-fine .0 (h .0 .1 .1 .1 .1 .0), this .0 (h .1))),
+        λ h. ((rules-fine .1 (h .0), (edition-fine .1 (h .1), (image-fine .1 (h .2), (library-fine .1 (h .3), (count-fine .1 (h .4), tt))))), this .1 (h .5)),
       )
   given-exactly NoModule = by-reading NoModule refl refl
   given-exactly BodyPastEnd = by-reading BodyPastEnd refl refl

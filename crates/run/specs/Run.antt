@@ -6,12 +6,14 @@ use mathlib.Core.Option.{Option, none, some}
 use lib.Dec.{ltb}
 use lib.ListN.{length}
 use Rattle.lent.specs.declared.refusal.Refusal.{Refusal}
-use Rattle.lent.specs.declared.refusal.Refusal.the-variants.{RuleSet, ImageTooLong, LibraryTooLong, StretchPastEnd, TooFewRows, OtherEdition}
+use Rattle.lent.specs.declared.refusal.Refusal.the-variants.{RuleSet, ImageTooLong, LibraryTooLong, TooManyStretches, StretchPastEnd, TooFewRows, OtherEdition}
 use Rattle.lent.specs.Choice.{if_then_else_, when, leading}
 use Rattle.lent.specs.Lists.{total}
 use Rattle.lent.specs.Refusals.{refusalNumber, zeroes}
 use Rattle.lent.specs.Rows.{zeros, padded, tooMany}
+use Rattle.image.specs.declared.Stretch.{Stretch}
 use Rattle.image.specs.View.{view}
+use Rattle.image.specs.Cover.{tooManyStretches, coverOf, passesEnd}
 use Rattle.image.specs.fixup.Target.{rulesOf}
 use Rattle.omf51.specs.Record.{editionOf}
 use Rattle.omf51.specs.Module.{Module}
@@ -57,6 +59,10 @@ pub record Yield : Type 0 where
 pub record Outcome : Type 0 where
   pub answer : Answer
   pub left : Lent
+
+-- the stretches that the settings withhold
+abbrev pub cover : Settings → List Stretch
+cover s = coverOf (s .withheld)
 
 -- what the settings ask of the search
 abbrev pub askedOf : Settings → Asked
@@ -113,7 +119,8 @@ refusals cells library s lent c =
     ∷ when (otherEdition (s .edition)) OtherEdition
     ∷ when (ltb 65536 (length cells)) ImageTooLong
     ∷ when (ltb 1048576 (length library)) LibraryTooLong
-    ∷ when (ltb (length cells) (s .stretch .start + s .stretch .len)) StretchPastEnd
+    ∷ when (tooManyStretches (s .withheld)) TooManyStretches
+    ∷ when (passesEnd (length cells) (cover s)) StretchPastEnd
     ∷ fileRefusal (libraryRead library s)
     ∷ when (collectOver lent c) TooFewRows
     ∷ collectRefusal (modulesIn (libraryRead library s))
@@ -162,9 +169,9 @@ runSeen cells library s lent =
     let y = stages cells library s in
     outcomeOf library (leading (refusals cells library s lent (counted y))) y lent
 
--- THE RUN on an image: it sees only the view, in which the stretch is withheld
+-- THE RUN on an image: it sees only the view, in which the stretches are withheld
 unfoldable pub run : List ℕ → List ℕ → Settings → Lent → Outcome
-run image library s lent = runSeen (view image (s .stretch)) library s lent
+run image library s lent = runSeen (view image (cover s)) library s lent
 
 -- the number of an answer: 0, or that of the refusal
 abbrev pub numberOf : Answer → ℕ

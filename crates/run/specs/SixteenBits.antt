@@ -20,7 +20,7 @@ use Rattle.listing_rules.specs.declared.Line.{Line}
 use Rattle.listing_rules.specs.Listed.{Listed, ofSymbol, ofName, pastEnd}
 use Rattle.listing_rules.specs.CompleteLaws.{only}
 use Rattle.run.specs.declared.Settings.{Settings}
-use Rattle.run.specs.Run.{libraryRead, askedOf, stages}
+use Rattle.run.specs.Run.{libraryRead, askedOf, stages, cover}
 
 -- a name is noted at no target above FFFFh
 noted-within : (library cells : List ℕ) (a : Asked) (segments : List Collected) → a .rules ≡ Documented
@@ -33,12 +33,12 @@ noted-within library cells a segments r n i =
 
 -- and each line is that of a place in the image, or of a noted name
 pub sixteen-bits : (image library : List ℕ) (s : Settings) → s .rules ≡ 1 → length image ≤ 65536
-    → (l : Line) → l among stages (view image (s .stretch)) library s .lines → l .address < 65536
+    → (l : Line) → l among stages (view image (cover s)) library s .lines → l .address < 65536
 unfolding stages
 sixteen-bits image library s r fits l i = go (only library cells a (s .skip) gs (placed library cells a gs) (noted library cells a gs) l i)
   where
     cells : List ℕ
-    cells = view image (s .stretch)
+    cells = view image (cover s)
 
     a : Asked
     a = askedOf s
@@ -47,7 +47,7 @@ sixteen-bits image library s r fits l i = go (only library cells a (s .skip) gs 
     gs = collect (a .rules) library (modulesIn (libraryRead library s))
 
     within : length cells ≤ 65536
-    within = omega (arith, view-length image (s .stretch), fits)
+    within = omega (arith, view-length image (cover s), fits)
 
     go : Listed library cells a (s .skip) gs (placed library cells a gs) (noted library cells a gs) l → l .address < 65536
     go (ofSymbol o) = rw (o .line-is) (omega (arith, o .inside, within))

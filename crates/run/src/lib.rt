@@ -1,17 +1,18 @@
 // The whole run, from an image and a library to the list: what the caller asks, and what the caller gets.
-use image::Stretch;
+use image::cover::Stretches;
 use lent::refusal::Refusal;
 use listing_rules::Skip;
 
 // What the caller asks: the number of the rule set (0 as found, 1 as documented), the number of the edition in which the
-// library is read (1 as document 01 reads it, 2 with sums and nothing left over), whether references are checked, how many masks other than 0 make a match valid, the skip amount, and the stretch of the image that is withheld.
+// library is read (1 as document 01 reads it, 2 with sums and nothing left over), whether references are checked, how many masks other than 0 make a match valid, the skip amount, and the
+// stretches of the image that are withheld.
 pub struct Settings {
     pub rules: u64,
     pub edition: u64,
     pub check: bool,
     pub minimum: usize,
     pub skip: Skip,
-    pub stretch: Stretch,
+    pub withheld: Stretches,
 }
 
 // How many rows each stage wrote, and how many pattern bytes.
