@@ -11,9 +11,11 @@ use borrow.Author.Tests.{ltb-true, ltb-false, lt-ltb, le-ltb}
 use lib.Dec.{ltb}
 use lib.ListN.{length}
 use Rattle.lent.specs.declared.refusal.Refusal.{Refusal}
-use Rattle.lent.specs.declared.refusal.Refusal.the-variants.{RuleSet, OtherEdition, ImageTooLong, LibraryTooLong, StretchPastEnd}
+use Rattle.lent.specs.declared.refusal.Refusal.the-variants.{RuleSet, OtherEdition, ImageTooLong, LibraryTooLong, TooManyStretches, StretchPastEnd}
 use Rattle.lent.specs.Choice.{when, orElse, leading}
 use Rattle.lent.specs.FirstOf.{none≢some}
+use Rattle.image.specs.Cover.{passesEnd}
+use Rattle.image.specs.CoverLaws.{all-fit}
 use Rattle.omf51.specs.Reader.{ReadOutcome, read, stop, refused}
 use Rattle.omf51.specs.Module.{Module}
 use Rattle.omf51.specs.Record.{editionOf}
@@ -23,7 +25,7 @@ use Rattle.library.specs.declared.Reading.the-variants as Reading
 use Rattle.library.specs.Reading.{firstAt, readingOf, reading}
 use Rattle.library.specs.StandLaws.{modules-stand, reading-refused}
 use Rattle.run.specs.declared.Settings.{Settings}
-use Rattle.run.specs.Run.{libraryRead, otherEdition}
+use Rattle.run.specs.Run.{libraryRead, otherEdition, cover}
 use Rattle.run.specs.Given.{NoEdition, Accepted}
 use Rattle.libfind.specs.declared.begin.Checked.{Checked}
 use Rattle.libfind.specs.declared.begin.Checked.the-variants as Checked
@@ -31,15 +33,7 @@ use Rattle.libfind.specs.declared.begin.Beginning.{Beginning}
 use Rattle.libfind.specs.declared.begin.Beginning.the-variants as Beginning
 use Rattle.libfind.specs.Begin.{settingsRefusal, checked, beginsAt, beginning, Begun}
 
--- a sum and a difference, compared
-pub past-end : (len start more : ℕ) → start ≤ len → ltb (len - start) more ≡ ltb len (start + more)
-past-end len start more h = go (ltb (len - start) more) refl
-  where
-    go : (t : Bool) → ltb (len - start) more ≡ t → t ≡ ltb len (start + more)
-    go true e = sym (lt-ltb len (start + more) (omega (arith, ltb-true (len - start) more e)))
-    go false e = sym (le-ltb len (start + more) (omega (arith, ltb-false (len - start) more e)))
-
--- 1, 30, 2, 3 and 4, one after another
+-- 1, 30, 2, 3, 16 and 4, one after another
 module _ (image library : ℕ) (s : Settings) where
   pub refused-1 : 1 < s .rules → Checked.Refused RuleSet ≡ checked (settingsRefusal image library s)
   unfolding settingsRefusal leading
@@ -61,24 +55,30 @@ module _ (image library : ℕ) (s : Settings) where
         refused-3 h = rw (le-ltb 1 (s .rules) a, e, le-ltb 65536 image b, lt-ltb 1048576 library h) refl
 
         module _ (c : library ≤ 1048576) where
-          pub refused-4 : ltb image (s .stretch .start + s .stretch .len) ≡ true → Checked.Refused StretchPastEnd ≡ checked (settingsRefusal image library s)
+          pub refused-16 : 16 < s .withheld .count → Checked.Refused TooManyStretches ≡ checked (settingsRefusal image library s)
           unfolding settingsRefusal leading
-          refused-4 h = rw (le-ltb 1 (s .rules) a, e, le-ltb 65536 image b, le-ltb 1048576 library c, h) refl
+          refused-16 h = rw (le-ltb 1 (s .rules) a, e, le-ltb 65536 image b, le-ltb 1048576 library c, lt-ltb 16 (s .withheld .count) h) refl
 
-          pub is-accepted : ltb image (s .stretch .start + s .stretch .len) ≡ false → Checked.Accepted ≡ checked (settingsRefusal image library s)
-          unfolding settingsRefusal leading
-          is-accepted h = rw (le-ltb 1 (s .rules) a, e, le-ltb 65536 image b, le-ltb 1048576 library c, h) refl
+          module _ (d : s .withheld .count ≤ 16) where
+            pub refused-4 : passesEnd image (cover s) ≡ true → Checked.Refused StretchPastEnd ≡ checked (settingsRefusal image library s)
+            unfolding settingsRefusal leading
+            refused-4 h = rw (le-ltb 1 (s .rules) a, e, le-ltb 65536 image b, le-ltb 1048576 library c, le-ltb 16 (s .withheld .count) d, h) refl
 
-none-of : (a e b c d : Bool)
-    → leading (when a RuleSet ∷ when e OtherEdition ∷ when b ImageTooLong ∷ when c LibraryTooLong ∷ when d StretchPastEnd ∷ []) ≡ none
-    → (a ≡ false) × (e ≡ false) × (b ≡ false) × (c ≡ false) × (d ≡ false)
+            pub is-accepted : passesEnd image (cover s) ≡ false → Checked.Accepted ≡ checked (settingsRefusal image library s)
+            unfolding settingsRefusal leading
+            is-accepted h = rw (le-ltb 1 (s .rules) a, e, le-ltb 65536 image b, le-ltb 1048576 library c, le-ltb 16 (s .withheld .count) d, h) refl
+
+none-of : (a e b c f d : Bool)
+    → leading (when a RuleSet ∷ when e OtherEdition ∷ when b ImageTooLong ∷ when c LibraryTooLong ∷ when f TooManyStretches ∷ when d StretchPastEnd ∷ []) ≡ none
+    → (a ≡ false) × (e ≡ false) × (b ≡ false) × (c ≡ false) × (f ≡ false) × (d ≡ false)
 unfolding leading
-none-of false false false false false q = (refl, refl, refl, refl, refl)
-none-of false false false false true q = absurd (none≢some (sym q))
-none-of false false false true d q = absurd (none≢some (sym q))
-none-of false false true c d q = absurd (none≢some (sym q))
-none-of false true b c d q = absurd (none≢some (sym q))
-none-of true e b c d q = absurd (none≢some (sym q))
+none-of false false false false false false q = (refl, refl, refl, refl, refl, refl)
+none-of false false false false false true q = absurd (none≢some (sym q))
+none-of false false false false true d q = absurd (none≢some (sym q))
+none-of false false false true f d q = absurd (none≢some (sym q))
+none-of false false true c f d q = absurd (none≢some (sym q))
+none-of false true b c f d q = absurd (none≢some (sym q))
+none-of true e b c f d q = absurd (none≢some (sym q))
 
 -- a number that passes the test is 1 or 2
 neither : (a b : Bool) → (a || b) ≡ false → (a ≡ false) × (b ≡ false)
@@ -116,13 +116,14 @@ module _ (image library : List ℕ) (s : Settings) where
   accepted : settings ≡ none → Accepted image library s
   unfolding settingsRefusal
   accepted e =
-      let n = none-of _ _ _ _ _ e in
+      let n = none-of _ _ _ _ _ _ e in
       record {
         rule-set = ltb-false 1 (s .rules) (n .0);
         edition = is-edition (s .edition) (n .1);
         image-fits = ltb-false 65536 (length image) (n .2);
         library-fits = ltb-false 1048576 (length library) (n .3);
-        stretch-fits = ltb-false (length image) (s .stretch .start + s .stretch .len) (n .4);
+        few = ltb-false 16 (s .withheld .count) (n .4);
+        stretches-fit = all-fit (length image) (cover s) .0 (n .5);
       }
 
   fine : (o : Option Refusal) → Checked.Accepted ≡ checked o → o ≡ none

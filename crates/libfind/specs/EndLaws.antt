@@ -10,7 +10,7 @@ use borrow.Author.Tests.{le-ltb, leb-true}
 use lib.Dec.{leb, ltb}
 use lib.ListN.{length}
 use Rattle.lent.specs.declared.refusal.Refusal.{Refusal}
-use Rattle.lent.specs.declared.refusal.Refusal.the-variants.{RuleSet, OtherEdition, ImageTooLong, LibraryTooLong, StretchPastEnd, TooFewRows}
+use Rattle.lent.specs.declared.refusal.Refusal.the-variants.{RuleSet, OtherEdition, ImageTooLong, LibraryTooLong, TooManyStretches, StretchPastEnd, TooFewRows}
 use Rattle.lent.specs.Choice.{when, orElse, leading}
 use Rattle.lent.specs.ChoiceLaws.{both, either}
 use Rattle.lent.specs.FirstOf.{none≢some}
@@ -19,6 +19,8 @@ use Rattle.lent.specs.RefusalLaws.{same-number, zeroes-late, zeroes-not}
 use Rattle.lent.specs.Rows.{zeros}
 use Rattle.image.specs.View.{view}
 use Rattle.image.specs.ViewLaws.{view-length}
+use Rattle.image.specs.Cover.{tooManyStretches, passesEnd}
+use Rattle.image.specs.CoverLaws.{all-fit}
 use Rattle.image.specs.fixup.Target.{rulesOf}
 use Rattle.omf51.specs.Module.{Module, moduleAt}
 use Rattle.omf51.specs.Record.{editionOf}
@@ -38,7 +40,7 @@ use Rattle.search.specs.Outcome.{searchZeroed as zeroedSearch, searchFilled as 
 use Rattle.listing.specs.Outcome.{Yield as Findings, yields, refusalOf as refusalOfFinding, findOutcomeOf as findingOf, findOutcome}
 use Rattle.run.specs.declared.Settings.{Settings}
 use Rattle.run.specs.declared.Answer.the-variants.{Done, Refused}
-use Rattle.run.specs.Run.{Lent, lentLists, Yield, askedOf, libraryRead, otherEdition, stages, counted, collectOver, searchOver, listOver, refusals, zeroed, filledWith, outcomeOf, runSeen, run}
+use Rattle.run.specs.Run.{Lent, lentLists, Yield, askedOf, libraryRead, otherEdition, stages, counted, collectOver, searchOver, listOver, refusals, zeroed, filledWith, outcomeOf, runSeen, run, cover}
 use Rattle.run.specs.StageLaws.{reading-stage}
 use Rattle.libfind.specs.Begin.{settingsRefusal, Begun}
 use Rattle.libfind.specs.BeginLaws.{known-edition}
@@ -59,7 +61,7 @@ countsIn (Collection.Refused r) = record { segments = 0; references = 0; symbols
 
 module _ (image library : List ℕ) (s : Settings) (lent : Lent) where
   abbrev cells : List ℕ
-  cells = view image (s .stretch)
+  cells = view image (cover s)
 
   abbrev modules : List Module
   modules = modulesIn (libraryRead library s)
@@ -80,30 +82,31 @@ module _ (image library : List ℕ) (s : Settings) (lent : Lent) where
   abbrev finding : Option Refusal
   finding = leading (when (searchOver lent (counted yield)) TooFewRows ∷ when (listOver lent (counted yield)) TooFewRows ∷ [])
 
-  in-turn : (a b c d e f g h : Option Refusal) (rest : List (Option Refusal))
-      → leading (a ∷ b ∷ c ∷ d ∷ e ∷ f ∷ g ∷ h ∷ rest) ≡ orElse (orElse (leading (a ∷ b ∷ c ∷ d ∷ e ∷ [])) f) (orElse (orElse g h) (leading rest))
+  in-turn : (a b c d e f g h i : Option Refusal) (rest : List (Option Refusal))
+      → leading (a ∷ b ∷ c ∷ d ∷ e ∷ f ∷ g ∷ h ∷ i ∷ rest) ≡ orElse (orElse (leading (a ∷ b ∷ c ∷ d ∷ e ∷ f ∷ [])) g) (orElse (orElse h i) (leading rest))
   unfolding leading
-  in-turn none none none none none none none h rest = refl
-  in-turn none none none none none none (some r) h rest = refl
-  in-turn none none none none none (some r) g h rest = refl
-  in-turn none none none none (some r) f g h rest = refl
-  in-turn none none none (some r) e f g h rest = refl
-  in-turn none none (some r) d e f g h rest = refl
-  in-turn none (some r) c d e f g h rest = refl
-  in-turn (some r) b c d e f g h rest = refl
+  in-turn none none none none none none none none i rest = refl
+  in-turn none none none none none none none (some r) i rest = refl
+  in-turn none none none none none none (some r) h i rest = refl
+  in-turn none none none none none (some r) g h i rest = refl
+  in-turn none none none none (some r) f g h i rest = refl
+  in-turn none none none (some r) e f g h i rest = refl
+  in-turn none none (some r) d e f g h i rest = refl
+  in-turn none (some r) c d e f g h i rest = refl
+  in-turn (some r) b c d e f g h i rest = refl
 
   run-is : run image library s lent ≡ outcomeOf library (orElse early (orElse collecting finding)) yield lent
   unfolding run runSeen refusals settingsRefusal
-  run-is = ap (λ o. outcomeOf library o yield lent) (go (view-length image (s .stretch)))
+  run-is = ap (λ o. outcomeOf library o yield lent) (go (view-length image (cover s)))
     where
       go : length cells ≡ length image → leading (refusals cells library s lent (counted yield)) ≡ orElse early (orElse collecting finding)
-      go e = in-turn _ _ _ _ _ _ _ _ _ ∙ rw e refl
+      go e = in-turn _ _ _ _ _ _ _ _ _ _ ∙ rw e refl
 
   -- REFUSED EARLY: nothing is written
   writes-nothing : {r : Refusal} → early ≡ some r → zeroes r ≡ false
   unfolding settingsRefusal leading
   writes-nothing {r} q =
-      go (ltb 1 (s .rules)) (otherEdition (s .edition)) (ltb 65536 (length image)) (ltb 1048576 (length library)) (ltb (length image) (s .stretch .start + s .stretch .len))
+      go (ltb 1 (s .rules)) (otherEdition (s .edition)) (ltb 65536 (length image)) (ltb 1048576 (length library)) (tooManyStretches (s .withheld)) (passesEnd (length image) (cover s))
       (fileRefusal (libraryRead library s)) (λ x h. apart x (reading-stage (editionOf (s .edition)) library .told x h)) q
     where
       same : {x : Refusal} → zeroes x ≡ false → some x ≡ some r → zeroes r ≡ false
@@ -116,14 +119,16 @@ module _ (image library : List ℕ) (s : Settings) (lent : Lent) where
           between (inl l) = zeroes-not x (inl (omega (arith, leb-true (refusalNumber x) 8 (both (leb 5 (refusalNumber x)) (leb (refusalNumber x) 8) l .1))))
           between (inr l) = zeroes-not x (inr (omega (arith, leb-true 14 (refusalNumber x) (both (leb 14 (refusalNumber x)) (leb (refusalNumber x) 15) l .0))))
 
-      go : (a e b c d : Bool) (o : Option Refusal) → ((x : Refusal) → o ≡ some x → zeroes x ≡ false)
-          → orElse (leading (when a RuleSet ∷ when e OtherEdition ∷ when b ImageTooLong ∷ when c LibraryTooLong ∷ when d StretchPastEnd ∷ [])) o ≡ some r → zeroes r ≡ false
-      go true e b c d o h q = same refl q
-      go false true b c d o h q = same refl q
-      go false false true c d o h q = same refl q
-      go false false false true d o h q = same refl q
-      go false false false false true o h q = same refl q
-      go false false false false false o h q = h r q
+      go : (a e b c f d : Bool) (o : Option Refusal) → ((x : Refusal) → o ≡ some x → zeroes x ≡ false)
+          → orElse (leading (when a RuleSet ∷ when e OtherEdition ∷ when b ImageTooLong ∷ when c LibraryTooLong ∷ when f TooManyStretches ∷ when d StretchPastEnd ∷ [])) o ≡ some r
+          → zeroes r ≡ false
+      go true e b c f d o h q = same refl q
+      go false true b c f d o h q = same refl q
+      go false false true c f d o h q = same refl q
+      go false false false true f d o h q = same refl q
+      go false false false false true d o h q = same refl q
+      go false false false false false true o h q = same refl q
+      go false false false false false false o h q = h r q
 
   pub refused-early : {r : Refusal} → early ≡ some r → record { answer = Refused r; left = lent } ≡ run image library s lent
   refused-early {r} e =
@@ -140,7 +145,8 @@ module _ (image library : List ℕ) (s : Settings) (lent : Lent) where
           known-edition (s .edition) (a .edition),
           le-ltb 65536 (length image) (a .image-fits),
           le-ltb 1048576 (length library) (a .library-fits),
-          le-ltb (length image) (s .stretch .start + s .stretch .len) (a .stretch-fits),
+          le-ltb 16 (s .withheld .count) (a .few),
+          all-fit (length image) (cover s) .1 (a .stretches-fit),
           b .is-read,
         )
         refl
@@ -213,7 +219,7 @@ module _ (image library : List ℕ) (s : Settings) (lent : Lent) where
           recalled = collection-recalled (rulesOf (s .rules)) library modules (collectable lent) fits
 
           in-order : refusalOfFinding cells (findable filled lent) findings ≡ finding
-          in-order = rw (view-length image (s .stretch), le-ltb 65536 (length image) (b .accepted .image-fits)) refl
+          in-order = rw (view-length image (cover s), le-ltb 65536 (length image) (b .accepted .image-fits)) refl
 
       rest-is : (o : Option Refusal) → finding ≡ o → concluded (countedIn gs) (findingOf library o findings (findable filled lent)) ≡ outcomeOf library o yield lent
       unfolding leading counted countedIn stages yields filledWith filledCollection filledSearch zeroed zeroedCollection zeroedSearch

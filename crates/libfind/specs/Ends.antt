@@ -14,7 +14,7 @@ use Rattle.listing.specs.Outcome.{FindLists, FindOutcome as Finding, findOutcom
 use Rattle.run.specs.declared.Settings.{Settings}
 use Rattle.run.specs.declared.Answer.{Answer}
 use Rattle.run.specs.declared.Answer.the-variants.{Done, Refused}
-use Rattle.run.specs.Run.{Lent, Outcome, askedOf, run}
+use Rattle.run.specs.Run.{Lent, Outcome, askedOf, run, cover}
 use Rattle.libfind.specs.Begin.{Begun}
 
 -- the five lists that are lent to the collection
@@ -71,7 +71,7 @@ concluded c o = record { answer = answerBy c (o .answer); left = allOf (o .left)
 abbrev pub FindsCollected : List ℕ → List ℕ → Settings → Stored → Lent → Answer → Lent → Type 0
 FindsCollected image library s c before r after =
     length image ≤ 65536
-    → record { answer = r; left = after } ≡ concluded c (findOutcome (view image (s .stretch)) (askedOf s) (s .skip) library (c .segments) (givenLists before))
+    → record { answer = r; left = after } ≡ concluded c (findOutcome (view image (cover s)) (askedOf s) (s .skip) library (c .segments) (givenLists before))
 
 -- the same with heads that are blank before
 abbrev pub FindsByHeads : List ℕ → List ℕ → Settings → Stored → Lent → List ℕ → List ℕ → Answer → Lent → Type 0

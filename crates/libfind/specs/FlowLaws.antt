@@ -21,21 +21,19 @@ use Rattle.listing.specs.Ends.{ListsFound}
 use Rattle.run.specs.declared.Settings.{Settings}
 use Rattle.run.specs.declared.Answer.{Answer}
 use Rattle.run.specs.declared.Answer.the-variants.{Refused}
-use Rattle.run.specs.Run.{Lent, Outcome, askedOf}
+use Rattle.run.specs.Run.{Lent, Outcome, askedOf, cover}
 use Rattle.libfind.specs.Ends.{givenLists, allOf, answerBy, concluded}
 
-module _ (image library : List ℕ) (s : Settings) (c : CollectCounts) (lent : Lent) (short : length image ≤ 65536) where
-  abbrev cells : List ℕ
-  cells = view image (s .stretch)
-
+-- the cells are those of the view, as the code lends what is withheld
+module _ (image library : List ℕ) (s : Settings) (c : CollectCounts) (lent : Lent) (short : length image ≤ 65536) {cells : List ℕ} (is : cells ≡ view image (cover s)) where
   abbrev before : SearchLists
   before = givenLists lent .searched
 
   abbrev whole : Outcome
-  whole = concluded c (findOutcome cells (askedOf s) (s .skip) library (c .segments) (givenLists lent))
+  whole = concluded c (findOutcome (view image (cover s)) (askedOf s) (s .skip) library (c .segments) (givenLists lent))
 
   seen : length cells ≤ 65536
-  seen = omega (arith, view-length image (s .stretch))
+  seen = omega (arith, ap length is, view-length image (cover s))
 
   module _ {asked : Asked} (ask : asked ≡ askedOf s) {answer : Searched} {left : SearchLists} {positions goals : List ℕ}
       (found : SearchFound cells asked library (c .segments) before (record { answer = answer; left = left }) positions goals) where
@@ -48,7 +46,8 @@ module _ (image library : List ℕ) (s : Settings) (c : CollectCounts) (lent : L
         ap (λ x. record { answer = x; left = allOf (record { searched = left′; lines = lines′ }) }) e
         ∙ ap (concluded c)
         (lists before seen (sym p) (sym q) (search-done cells asked library (c .segments) before seen rows left (ap (λ x. record { answer = x; left = left }) (sym d) ∙ found .same)) (found .sought rows d)
-        ∙ ap (λ x. findOutcome cells x (s .skip) library (c .segments) (givenLists lent)) ask)
+        ∙ ap (λ x. findOutcome cells x (s .skip) library (c .segments) (givenLists lent)) ask
+        ∙ ap (λ x. findOutcome x (askedOf s) (s .skip) library (c .segments) (givenLists lent)) is)
 
     -- THE SEARCH IS REFUSED: nothing is listed, and the lines are zero too
     pub unlisted : {r : Refusal} → answer ≡ Searched.Refused r → {lines′ : List ℕ} → lines′ ≡ zeros (length (lent .lines))
@@ -57,4 +56,5 @@ module _ (image library : List ℕ) (s : Settings) (c : CollectCounts) (lent : L
         ap (concluded c)
         (refused-is cells asked (s .skip) library (c .segments) (givenLists lent) seen r left lines′
         (search-refused cells asked library (c .segments) before seen r left (ap (λ x. record { answer = x; left = left }) (sym d) ∙ found .same)) z
-        ∙ ap (λ x. findOutcome cells x (s .skip) library (c .segments) (givenLists lent)) ask)
+        ∙ ap (λ x. findOutcome cells x (s .skip) library (c .segments) (givenLists lent)) ask
+        ∙ ap (λ x. findOutcome x (askedOf s) (s .skip) library (c .segments) (givenLists lent)) is)

@@ -1,11 +1,11 @@
 // The beginning of a run, before anything is written: the settings, the lengths, and whether the library can be read.
 ghost use mathlib.Core.Path.{_≡_};
-ghost use Prim.Native.Nat.{_+_};
-ghost use lib.Dec.{ltb};
 ghost use Rattle.run.specs.Run.{otherEdition};
 ghost use Rattle.libfind.specs.Begin.{settingsRefusal, checked, beginning};
 use image::LONGEST_IMAGE;
-use image::Stretch;
+use image::cover::MOST_STRETCHES;
+use image::cover::first_pairs;
+use image::cover::passes_end;
 use lent::refusal::Refusal;
 use library::LONGEST_LIBRARY;
 use library::Reading;
@@ -13,7 +13,7 @@ use library::file::read;
 use omf51::by_edition::edition_of;
 use run::Settings;
 
-// Whether the settings and lengths are accepted, or the first of refusals 1, 30, 2, 3 and 4 that applies.
+// Whether the settings and lengths are accepted, or the first of refusals 1, 30, 2, 3, 16 and 4 that applies.
 pub enum Checked {
     Accepted,
     Refused(Refusal),
@@ -35,16 +35,6 @@ fn is_other_edition(number: u64) -> bool
     2 < number
 }
 
-// Whether the stretch passes the end of an image of this length. No sum is taken that could be too large.
-fn passes_end(s: Stretch, len: usize) -> bool
-    ensures { λ r. ⌜ r ≡ ltb len (s .start + s .len) ⌝ }
-{
-    if len < s.start {
-        return true;
-    }
-    len - s.start < s.len
-}
-
 // Checks the settings, and the lengths of the image and of the library.
 fn check(image: usize, library: usize, settings: Settings) -> Checked
     ensures { λ r. ⌜ r ≡ checked (settingsRefusal image library settings) ⌝ }
@@ -61,7 +51,12 @@ fn check(image: usize, library: usize, settings: Settings) -> Checked
     if LONGEST_LIBRARY < library {
         return Checked::Refused(Refusal::LibraryTooLong);
     }
-    if passes_end(settings.stretch, image) {
+    let withheld = settings.withheld;
+    if MOST_STRETCHES < withheld.count {
+        return Checked::Refused(Refusal::TooManyStretches);
+    }
+    let pairs = withheld.pairs;
+    if passes_end(first_pairs(&pairs, withheld.count), image) {
         return Checked::Refused(Refusal::StretchPastEnd);
     }
     Checked::Accepted

@@ -7,6 +7,7 @@ ghost use Rattle.tables.specs.by_name.Heads.{near};
 ghost use Rattle.run.specs.Run.{lentLists, askedOf};
 ghost use Rattle.libfind.specs.Ends.{answerBy, FindsCollected, FindsByHeads};
 use collect::stored::CollectCounts;
+use image::cover::first_pairs;
 use image::fixup::Rules;
 use lent::rows::clear;
 use listing::FindAnswer;
@@ -110,13 +111,15 @@ fn find_by_heads(
         (lentLists (now (segments .entry)) (now (references .entry)) (now (symbols .entry)) (now (bytes .entry)) (now (masks .entry)) (now (placed .entry)) (now (noted .entry)) (now (lines .entry))) (now (positions .entry)) (now (goals .entry)) r
         (lentLists (now (segments .exit)) (now (references .exit)) (now (symbols .exit)) (now (bytes .exit)) (now (masks .exit)) (now (placed .exit)) (now (noted .exit)) (now (lines .exit))) ⌝ }
 {
-    let stretch = settings.stretch;
+    let withheld = settings.withheld;
+    let pairs = withheld.pairs;
+    let s = first_pairs(&pairs, withheld.count);
     let skip = settings.skip;
     let asked = asked_of(settings);
     let n = collected.segments;
     match search(
         image,
-        stretch,
+        s,
         asked,
         library,
         n,
@@ -133,7 +136,7 @@ fn find_by_heads(
         Searched::Done(found) => {
             let listed = list(
                 image,
-                stretch,
+                s,
                 asked,
                 skip,
                 library,

@@ -1,10 +1,12 @@
--- `check`: 1, 30, 2, 3 and 4, in their order. Assumes nothing.
+-- `check`: 1, 30, 2, 3, 16 and 4, in their order. Assumes nothing.
 use Prim.Native.Nat.{_≤_}
-use mathlib.Core.Path.{_≡_, sym, _∙_}
+use mathlib.Core.Path.{_≡_, sym, ap, _∙_}
 use mathlib.Core.Bool.{false}
 use native.Mathlib.Omega.{arith}
-use Rattle.run.specs.Run.{otherEdition}
-use Rattle.libfind.specs.BeginLaws.{refused-1, refused-30, refused-2, refused-3, refused-4, is-accepted}
+use Rattle.image.specs.View.{stretchesIn}
+use Rattle.image.specs.Cover.{passesEnd}
+use Rattle.run.specs.Run.{otherEdition, cover}
+use Rattle.libfind.specs.BeginLaws.{refused-1, refused-30, refused-2, refused-3, refused-16, refused-4, is-accepted}
 use borrow.Author.Needs.{needs}
 use Rattle.libfind.proofs.begin.check.Statement.{statement}
 use Rattle.libfind.proofs.begin.check.Tie as tie
@@ -12,6 +14,12 @@ use Rattle.libfind.proofs.begin.check.Tie as tie
 -- The ladder: places of the code that the answers cite, each as it is seen from a later place.
 abbrev at-entry : tie.After-is-other-edition → tie.Start
 at-entry c = c .before .before .before
+
+abbrev at-else5 : tie.After-passes-end → tie.Else5
+at-else5 c = c .before .before .before .before
+
+abbrev at-else4 : tie.After-passes-end → tie.Else4
+at-else4 c = at-else5 c .before .before
 
 -- the rule set and the edition are fine
 rules-fine : (c : tie.After-is-other-edition) → at-entry c .args .settings .rules ≤ 1
@@ -40,21 +48,36 @@ returns-4 c =
     let a = at-entry (edition .before) .args in
     refused-3 (a .image) (a .library) (a .settings) (rules-fine (edition .before)) (edition-fine edition) (omega (arith, c .before .if3 .left)) (omega (arith, c .if4 .taken))
 
+-- the lengths are fine
+fitting : (c : tie.Else4) → (at-entry (c .before .before .before) .args .image ≤ 65536) × (at-entry (c .before .before .before) .args .library ≤ 1048576)
+fitting c = (omega (arith, c .before .if3 .left), omega (arith, c .if4 .left))
+
 returns-5 : tie.Need-returns-5
 returns-5 c =
     let last = c .before .before in
     let edition = last .before .before in
     let a = at-entry (edition .before) .args in
-    refused-4 (a .image) (a .library) (a .settings) (rules-fine (edition .before)) (edition-fine edition) (omega (arith, last .before .if3 .left)) (omega (arith, last .if4 .left))
-    (sym (c .before .passes-end .ensures) ∙ c .if5 .taken)
+    refused-16 (a .image) (a .library) (a .settings) (rules-fine (edition .before)) (edition-fine edition) (fitting last .0) (fitting last .1) (omega (arith, c .if5 .taken))
+
+-- what is lent of the pairs is the cover
+passing : (c : tie.After-passes-end) → let a = at-entry (at-else4 c .before .before .before) .args in c .passes-end .result ≡ passesEnd (a .image) (cover (a .settings))
+passing c = let a = at-entry (at-else4 c .before .before .before) .args in c .passes-end .ensures ∙ ap (λ pairs. passesEnd (a .image) (stretchesIn pairs)) (c .before .first-pairs .ensures)
 
 returns-6 : tie.Need-returns-6
 returns-6 c =
-    let last = c .before .before in
+    let last = at-else4 (c .before) in
     let edition = last .before .before in
     let a = at-entry (edition .before) .args in
-    is-accepted (a .image) (a .library) (a .settings) (rules-fine (edition .before)) (edition-fine edition) (omega (arith, last .before .if3 .left)) (omega (arith, last .if4 .left))
-    (sym (c .before .passes-end .ensures) ∙ c .if5 .left)
+    refused-4 (a .image) (a .library) (a .settings) (rules-fine (edition .before)) (edition-fine edition) (fitting last .0) (fitting last .1) (omega (arith, at-else5 (c .before) .if5 .left))
+    (sym (passing (c .before)) ∙ c .if6 .taken)
+
+returns-7 : tie.Need-returns-7
+returns-7 c =
+    let last = at-else4 (c .before) in
+    let edition = last .before .before in
+    let a = at-entry (edition .before) .args in
+    is-accepted (a .image) (a .library) (a .settings) (rules-fine (edition .before)) (edition-fine edition) (fitting last .0) (fitting last .1) (omega (arith, at-else5 (c .before) .if5 .left))
+    (sym (passing (c .before)) ∙ c .if6 .left)
 
 pub check-spec : {M : Type 1} → statement M
 check-spec =
@@ -65,6 +88,8 @@ check-spec =
     returns-2
     returns-3
     returns-4
-    (λ c κs. search needs)
     returns-5
-    returns-6)
+    (λ c κs. search needs)
+    (λ c κs. search needs)
+    returns-6
+    returns-7)
