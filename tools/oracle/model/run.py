@@ -5,6 +5,7 @@ from dataclasses import dataclass
 from model import collection, listing, reader, search
 
 LONGEST_LIBRARY = 1 << 20
+MOST_STRETCHES = 16
 LISTS = ("segments", "references", "symbols", "bytes", "masks", "placed", "noted", "lines")
 # How wide the rows of the eight lent lists are.
 WIDTHS = (*collection.WIDTHS, search.PLACED, search.NOTED, listing.LINE)
@@ -21,8 +22,9 @@ class Run:
     minimum: int = 1
     skip: int = None
     rules: int = collection.FOUND
-    # What is withheld of the image: from where on, and how many bytes.
+    # What is withheld of the image: from where on, and how many bytes; and further stretches.
     stretch: tuple = (0, 0)
+    more: tuple = ()
     # The library that the Rust is asked about, where it cannot answer for `library` itself.
     asked: bytes = None
     # Bytes of names that stand for others in `asked`: (in asked, in library).
@@ -31,7 +33,7 @@ class Run:
     must: tuple = None
 
     def settings(self):
-        return self.rules, self.check, self.minimum, self.skip, self.stretch
+        return self.rules, self.check, self.minimum, self.skip, self.stretch, self.more
 
     def shown(self):
         """The run as plain values: hexadecimal for bytes, nothing for what is not given."""
@@ -65,14 +67,16 @@ class Watched(search.Search):
 
 
 def at_once(run):
-    """The first of 1 to 4 that is due, or 0."""
+    """The first of 1, 2, 3, 16 and 4 that is due, or 0."""
     if run.rules not in (collection.FOUND, collection.DOCUMENTED):
         return 1
     if len(run.image) > search.LONGEST_IMAGE:
         return 2
     if len(run.library) > LONGEST_LIBRARY:
         return 3
-    return 4 if sum(run.stretch) > len(run.image) else 0
+    if 1 + len(run.more) > MOST_STRETCHES:
+        return 16
+    return 4 if any(sum(stretch) > len(run.image) for stretch in (run.stretch, *run.more)) else 0
 
 
 class Stages:
@@ -90,7 +94,7 @@ class Stages:
         if self.number == 0:
             self.segments, self.fault = collection.collected(self.modules, run.rules)
             if self.fault == 0:
-                asked = search.Asked(run.rules, run.check, run.minimum, run.stretch)
+                asked = search.Asked(run.rules, run.check, run.minimum, run.stretch, run.more)
                 found = Watched(run.image, asked, run.library, self.segments)
                 self.listing = listing.Listing(found, run.skip)
         self.rows = self.yielded()
@@ -135,10 +139,10 @@ class Stages:
         return self.fault or (9 if any(short) else 0)
 
     def outcome(self, lent):
-        """With lists of these lengths. 1 to 8 write nothing; a number after them leaves zeros."""
+        """With lists of these lengths. 9 to 13 leave zeros; the other numbers write nothing."""
         number = self.number_with(lent)
         if number:
-            left = BEFORE if number < 9 else (0,) * 8
+            left = (0,) * 8 if 9 <= number <= 13 else BEFORE
             return Outcome(number, (0,) * 7, [[each] * n for each, n in zip(left, lent)], b"")
         lists = [rows + [0] * (n - len(rows)) for rows, n in zip(self.rows, lent)]
         counts = [n // width for n, width in zip(self.needed, WIDTHS)]

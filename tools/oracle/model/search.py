@@ -21,8 +21,9 @@ class Asked:
     rules: int
     check: bool
     minimum: int
-    # What is withheld of the image: from where on, and how many bytes.
+    # What is withheld of the image: from where on, and how many bytes; and further stretches.
     stretch: tuple = (0, 0)
+    more: tuple = ()
 
 
 @dataclass
@@ -58,12 +59,12 @@ class Search:
                 self.visit(number, s, at)
 
     def is_withheld(self, at, count):
-        """Whether one of so many bytes is in the stretch."""
-        start, length = self.asked.stretch
-        return max(at, start) < min(at + count, start + length)
+        """Whether one of so many bytes is in a stretch."""
+        stretches = (self.asked.stretch, *self.asked.more)
+        return any(max(at, start) < min(at + count, start + length) for start, length in stretches)
 
     def matches(self, s):
-        """Where all of a pattern fits, shares no byte with the stretch, and agrees with the image on all mask bits."""
+        """Where all of a pattern fits, shares no byte with a stretch, and agrees with the image on all mask bits."""
         for at in range(len(self.image) + 1) if s.address is None else [s.address]:
             window = self.image[at:at + len(s.bytes)]
             if at + len(s.bytes) <= len(self.image) and not self.is_withheld(at, len(s.bytes)):

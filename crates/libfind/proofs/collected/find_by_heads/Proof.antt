@@ -2,7 +2,8 @@
 use borrow.Author.Needs.{needs}
 use Rattle.libfind.proofs.collected.find_by_heads.Statement.{statement}
 use Rattle.libfind.proofs.collected.find_by_heads.Tie as tie
-use mathlib.Core.Path.{_∙_}
+use mathlib.Core.Path.{ap, _∙_}
+use Rattle.image.specs.View.{stretchesIn, view}
 use Rattle.run.specs.Run.{lentLists}
 use Rattle.libfind.specs.FlowLaws.{listed-then, unlisted}
 
@@ -13,17 +14,14 @@ after-references c = c .before .before .before .before .before .before .before .
 abbrev after-asked-of : tie.After-placed → tie.After-asked-of
 after-asked-of c = after-references c .before .before .before .before .before .before .before .before .before .before .before .before .before
 
-abbrev at-entry : tie.After-placed → tie.Start
-at-entry c = after-asked-of c .before .before .before .before .before .before .before .before .before .before .before .before .before .before
+abbrev after-slice-known3 : tie.After-positions → tie.After-slice-known3
+after-slice-known3 c = after-asked-of (c .before .before .before .before) .before .before .before .before .before .before .before .before .before .before .before .before .before
 
-abbrev after-noted : tie.After-slice-known28 → tie.After-noted
-after-noted c = c .before .before .before .before .before .before .before .before .before .before .before .before
+abbrev after-positions : tie.After-slice-known28 → tie.After-positions
+after-positions c = c .before .before .before .before .before .before .before .before .before .before
 
 abbrev after-found : tie.After-references2 → tie.After-found
 after-found c = c .before .before .before .before .before .before .before .before .before .before .before .before .before .before .before
-
-abbrev after-positions : tie.After-references2 → tie.After-positions
-after-positions c = after-found c .before .before .before .before .before
 
 abbrev after-placed2 : tie.After-conclude → tie.After-placed2
 after-placed2 c = c .before .before .before .before .before .before
@@ -31,8 +29,11 @@ after-placed2 c = c .before .before .before .before .before .before
 abbrev after-references2 : tie.After-conclude → tie.After-references2
 after-references2 c = after-placed2 c .before .before .before .before .before .before .before .before
 
+abbrev after-noted : tie.After-conclude → tie.After-noted
+after-noted c = after-found (after-references2 c) .before .before .before .before .before .before .before
+
 abbrev after-placed : tie.After-conclude → tie.After-placed
-after-placed c = after-positions (after-references2 c) .before .before .before .before
+after-placed c = after-noted c .before .before
 
 same-length : tie.Need-same-length
 same-length c = after-references2 c .before .before .segments2 .given ∙ after-references (after-placed c) .before .before .segments .given
@@ -53,39 +54,43 @@ same-length-6 : tie.Need-same-length-6
 same-length-6 c = after-placed2 c .placed2 .given ∙ after-placed c .placed .given
 
 same-length-7 : tie.Need-same-length-7
-same-length-7 c = c .before .before .before .before .noted2 .given ∙ after-positions (after-references2 c) .before .before .noted .given
+same-length-7 c = c .before .before .before .before .noted2 .given ∙ after-noted c .noted .given
 
 same-length-9 : tie.Need-same-length-9
-same-length-9 c = after-positions (after-references2 c) .positions .given
+same-length-9 c = after-found (after-references2 c) .before .before .before .before .before .positions .given
 
 returns : tie.Need-returns
 returns c =
-    let references2 = after-references2 c in
+    let found = after-found (after-references2 c) in
     let placed = after-placed c in
-    let a = at-entry placed .args in
+    let a = after-slice-known3 (found .before .before .before .before .before) .before .before .before .before .before .args in
     let search = after-references placed .before .before .before .search in
     λ blank blank₂ short.
     listed-then (a .image .now) (a .library .now) (a .settings) (a .collected)
     (lentLists (a .segments .now) (a .references .now) (a .symbols .now) (a .bytes .now) (a .masks .now) (a .placed .now) (a .noted .now)
-    (a .lines .now)) short (after-asked-of placed .asked-of .ensures)
-    (search .ensures blank blank₂) (after-found references2 .found .given .1) (placed .placed .given)
-    (after-positions references2 .before .before .noted .given) (references2 .before .before .before .list .ensures) (c .conclude .ensures)
+    (a .lines .now)) short
+    (ap (λ pairs. view (a .image .now) (stretchesIn pairs)) (after-asked-of placed .before .first-pairs .ensures)) (after-asked-of placed .asked-of .ensures)
+    (search .ensures blank blank₂) (found .found .given .1) (placed .placed .given)
+    (after-noted c .noted .given) (after-references2 c .before .before .before .list .ensures) (c .conclude .ensures)
 
 returns-2 : tie.Need-returns-2
 returns-2 c =
-    let noted = after-noted c in
-    let a = at-entry (noted .before .before) .args in
-    let search = after-references (noted .before .before) .before .before .before .search in
+    let positions = after-positions c in
+    let a = after-slice-known3 positions .before .before .before .before .before .args in
+    let search = after-references (positions .before .before .before .before) .before .before .before .search in
     λ blank blank₂ short.
     unlisted (a .image .now) (a .library .now) (a .settings) (a .collected)
     (lentLists (a .segments .now) (a .references .now) (a .symbols .now) (a .bytes .now) (a .masks .now) (a .placed .now) (a .noted .now)
-    (a .lines .now)) short (after-asked-of (noted .before .before) .asked-of .ensures)
+    (a .lines .now)) short
+    (ap (λ pairs. view (a .image .now) (stretchesIn pairs)) (after-asked-of (positions .before .before .before .before) .before .first-pairs .ensures))
+    (after-asked-of (positions .before .before .before .before) .asked-of .ensures)
     (search .ensures blank blank₂) (c .before .before .before .before .before .r .given .1) (c .before .before .clear .ensures)
 
 pub find-by-heads-spec : {M : Type 1} → statement M
 find-by-heads-spec =
     tie.close
     (tie.spec
+    (λ c κs. search needs)
     (λ c κs. search needs)
     (λ c κs. search needs)
     (λ c. search needs)
