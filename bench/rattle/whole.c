@@ -1,5 +1,5 @@
-/* rattle-whole WHAT CHECK MINIMUM SKIP IMAGE LIBRARY [COUNTS]: the port's whole run, so that its instructions can be counted; CHECK is 1 or 0, SKIP is none or the
-   skip amount. COUNTS are how many rows of segments, references and symbols, pattern bytes, and rows of placed symbols, noted names and lines are lent; without
+/* rattle-whole WHAT CHECK MINIMUM SKIP IMAGE LIBRARY [COUNTS]: the port's whole run, so that its instructions can be counted; CHECK is 1 or 0, and with a
+   2 behind it the library is read in edition 2; SKIP is none or the skip amount. COUNTS are how many rows of segments, references and symbols, pattern bytes, and rows of placed symbols, noted names and lines are lent; without
    them it is more than any of the loads takes.
      load   both files are loaded, and nothing else is done
      find   the library is also read, its segments collected, the image searched for them, and what was found listed, once
@@ -20,7 +20,7 @@ static uint8_t bytes[1 << 21], masks[1 << 21];
 
 static int found(char **words, const uint8_t *image, size_t in_image, const uint8_t *library, size_t length, const size_t *lent, uint64_t *counts)
 {
-    return sillmarble_find(image, in_image, library, length, 0, words[2][0] == '1', strtoul(words[3], NULL, 10), strcmp(words[4], "none") != 0,
+    return sillmarble_find(image, in_image, library, length, 0, words[2][1] == '2' ? 2 : 1, words[2][0] == '1', strtoul(words[3], NULL, 10), strcmp(words[4], "none") != 0,
                            strtoul(words[4], NULL, 10), 0, 0, counts, COUNTS, segments, 8 * lent[SEGMENTS], references, 6 * lent[REFERENCES], symbols,
                            3 * lent[SYMBOLS], bytes, lent[PATTERN], masks, lent[PATTERN], placed, 8 * lent[PLACED], noted, 6 * lent[NOTED], lines,
                            4 * lent[LINES]);

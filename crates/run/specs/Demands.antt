@@ -28,6 +28,7 @@ use Rattle.run.specs.Given.{Given, NothingRefused}
 use Rattle.run.specs.Refused.{given-exactly, done-exactly}
 use Rattle.run.specs.Answers.{SameLengths, Sound, sound, lengths-kept}
 use Rattle.run.specs.Withheld.{Fit, withholding, same-run, same-cover-run, plain-run}
+use Rattle.run.specs.Editions.{inEdition, edition-alone}
 use Rattle.run.specs.Own.{Own, Referred}
 use Rattle.run.specs.OwnAddress.{own-address}
 use Rattle.run.specs.NotedAddress.{noted-address}
@@ -159,3 +160,9 @@ same-cover image library s lent v w f g same o p c d = c ∙ same-cover-run imag
 pub nothing-withheld : (image library : List ℕ) (s : Settings) (lent : Lent) → ((i : ℕ) → Inside (cover s) i → ⊥)
     → (o : Outcome) → Contract image library s lent o → o ≡ runSeen image library s lent
 nothing-withheld image library s lent e o c = c ∙ plain-run image library s lent e
+
+-- THE TWO EDITIONS: what edition 2 does not refuse with 14 or 15, it answers and leaves as edition 1 does
+pub editions-agree : (image library : List ℕ) (s : Settings) (lent : Lent) (two one : Outcome) → Contract image library (inEdition 2 s) lent two
+    → Contract image library (inEdition 1 s) lent one → (numberOf (two .answer) ≡ 14 → ⊥) → (numberOf (two .answer) ≡ 15 → ⊥) → two ≡ one
+editions-agree image library s lent two one c d sum left =
+    c ∙ edition-alone image library s lent (λ e. sum (ap (λ o. numberOf (o .answer)) c ∙ e)) (λ e. left (ap (λ o. numberOf (o .answer)) c ∙ e)) ∙ sym d

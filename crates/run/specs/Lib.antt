@@ -12,4 +12,5 @@ pub mod OwnAddress
 pub mod NotedAddress
 pub mod SixteenBits
 pub mod ListedRows
+pub mod Editions
 pub mod Demands
