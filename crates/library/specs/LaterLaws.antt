@@ -6,9 +6,10 @@ use mathlib.Core.List.{List, [], _∷_}
 use lib.Dec.{eqb}
 use Rattle.lent.specs.Lists.{one}
 use Rattle.lent.specs.Parts.{byteAt}
+use Rattle.omf51.specs.declared.Edition.the-variants.{One}
 use Rattle.omf51.specs.Reader.{read, stop, andThen, after, many, notEmpty}
 use Rattle.omf51.specs.Module.{Module, moduleAt}
-use Rattle.omf51.specs.File.{file}
+use Rattle.omf51.specs.File.{fileRead, fileBy, file}
 use Rattle.library.specs.RepeatLaws.{onto, many-turn}
 use Rattle.library.specs.WholeLaws.{modules-move}
 
@@ -19,13 +20,13 @@ InRow library at (m ∷ ms) end = (next : ℕ) × (moduleAt library at ≡ read 
 
 many-row : (library : List ℕ) (at : ℕ) (ms : List Module) (end : ℕ) → InRow library at ms end → moduleAt library end ≡ stop → many library (moduleAt library) at ≡ read ms end
 unfolding InRow
-many-row library at [] end r s = many-turn library (moduleAt library) (modules-move library) at ∙ rw (r, s)
+many-row library at [] end r s = many-turn library (moduleAt library) (modules-move One library) at ∙ rw (r, s)
 many-row library at (m ∷ ms) end (next, e, r) s =
-    many-turn library (moduleAt library) (modules-move library) at
+    many-turn library (moduleAt library) (modules-move One library) at
     ∙ ap (after (λ xs k. onto xs (many library (moduleAt library) k)) [] at) e
     ∙ ap (onto (one m)) (many-row library next ms end r s)
 
 pub damaged-later : (library : List ℕ) (m : Module) (ms : List Module) (end : ℕ) → eqb (byteAt library 0) 0x2c ≡ false
     → InRow library 0 (m ∷ ms) end → moduleAt library end ≡ stop → file library ≡ read (m ∷ ms) end
-unfolding file
+unfolding fileBy fileRead
 damaged-later library m ms end bare r s = rw bare (ap (λ o. andThen o notEmpty) (many-row library 0 (m ∷ ms) end r s))

@@ -8,9 +8,10 @@ use lib.ListN.{length}
 use Rattle.lent.specs.declared.refusal.Refusal.{Refusal}
 use Rattle.lent.specs.Refusals.{stageNumber}
 use Rattle.lent.specs.RefusalLaws.{stage-tells}
+use Rattle.omf51.specs.declared.Edition.{Edition}
 use Rattle.omf51.specs.Reader.{ReadOutcome, read, stop, refused}
 use Rattle.omf51.specs.Module.{Module}
-use Rattle.omf51.specs.File.{file, fileRefusal, modulesIn}
+use Rattle.omf51.specs.File.{fileBy, fileRefusal, modulesIn}
 use Rattle.omf51.specs.Reaches.{Ends}
 use Rattle.omf51.specs.OnePath.{reading-exactly}
 use Rattle.library.specs.declared.Reading.{Reading}
@@ -26,18 +27,18 @@ count-of first (read modules next) = refl
 count-of first stop = refl
 count-of first (refused r) = refl
 
-module _ (library : List ℕ) (r : Reading) (c : r ≡ reading library) where
-  numbered : readingNumber r ≡ stageNumber (fileRefusal (file library))
+module _ (e : Edition) (library : List ℕ) (r : Reading) (c : r ≡ reading e library) where
+  numbered : readingNumber r ≡ stageNumber (fileRefusal (fileBy e library))
   unfolding reading
-  numbered = ap readingNumber c ∙ number-of (firstAt library) (file library)
+  numbered = ap readingNumber c ∙ number-of (firstAt library) (fileBy e library)
 
-  -- each of 5 to 8, and 0, is said exactly if reading ends so
-  pub read-exactly : (o : Option Refusal) → (readingNumber r ≡ stageNumber o) ↔ Ends library o
+  -- each of 5 to 8, 14 and 15, and 0, is said exactly if reading ends so
+  pub read-exactly : (o : Option Refusal) → (readingNumber r ≡ stageNumber o) ↔ Ends e library o
   read-exactly o =
-      let exactly = reading-exactly library o in
-      ((λ e. exactly .0 (stage-tells (fileRefusal (file library)) o (sym numbered ∙ e))), λ h. numbered ∙ ap stageNumber (exactly .1 h))
+      let exactly = reading-exactly e library o in
+      ((λ q. exactly .0 (stage-tells (fileRefusal (fileBy e library)) o (sym numbered ∙ q))), λ h. numbered ∙ ap stageNumber (exactly .1 h))
 
   -- and the count is that of the modules read
-  pub read-counts : readingCount r ≡ length (modulesIn (file library))
+  pub read-counts : readingCount r ≡ length (modulesIn (fileBy e library))
   unfolding reading
-  read-counts = ap readingCount c ∙ count-of (firstAt library) (file library)
+  read-counts = ap readingCount c ∙ count-of (firstAt library) (fileBy e library)

@@ -11,11 +11,14 @@ use lib.ListN.{length}
 use Rattle.lent.specs.declared.refusal.Refusal.{Refusal}
 use Rattle.lent.specs.Choice.{if_then_else_}
 use Rattle.lent.specs.Parts.{byteAt}
+use Rattle.omf51.specs.declared.Edition.{Edition}
+use Rattle.omf51.specs.declared.Edition.the-variants.{One, Two}
 use Rattle.omf51.specs.Reader.{ReadOutcome, read, stop, refused, Reader, andThen, give}
-use Rattle.omf51.specs.Record.{expected, recordOf}
+use Rattle.omf51.specs.Record.{expected, expectedBy, recordBy}
 use Rattle.omf51.specs.RecordLaws.{not-expected}
 use Rattle.omf51.specs.Module.{Module, moduleAt}
-use Rattle.omf51.specs.File.{modulesAt, libraryAt, file, fileRefusal, modulesIn}
+use Rattle.omf51.specs.File.{plainBy, libraryBy, fileRead, fileBy, modulesAt, file, fileRefusal, modulesIn}
+use Rattle.omf51.specs.EditionLaws.{editions-agree}
 use Rattle.omf51.specs.Expected.{oneType}
 use Rattle.library.specs.declared.Reading.{Reading}
 use Rattle.library.specs.declared.Reading.the-variants.{Modules, Refused}
@@ -31,17 +34,17 @@ then-kept stop f e P h = let z : _≡_ {A = ℕ} 0 1 = cc in absurd (omega arith
 then-kept (refused r) f e P h = let z : _≡_ {A = ℕ} 0 1 = cc in absurd (omega arith)
 
 first-found : (library : List ℕ) {modules : List Module} {end : ℕ} → file library ≡ read modules end → modules ≡ itemsAt library (moduleAt library) (firstAt library)
-unfolding file libraryAt recordOf
+unfolding fileBy fileRead libraryBy recordBy expectedBy
 first-found library {modules} {end} = go (eqb (byteAt library 0) 0x2c) refl
   where
-    go : (t : Bool) → eqb (byteAt library 0) 0x2c ≡ t → (if t then libraryAt library 0 else modulesAt library 0) ≡ read modules end
+    go : (t : Bool) → eqb (byteAt library 0) 0x2c ≡ t → (if t then libraryBy One library 0 else modulesAt library 0) ≡ read modules end
         → modules ≡ itemsAt library (moduleAt library) (firstAt library)
     go true t e =
-        then-kept (recordOf library (eqb 0x2c) give 0) _ e _ λ f k p q.
+        then-kept (plainBy One library 0x2c 0) _ e _ λ f k p q.
         then-kept (modulesAt library k) _ q _ λ ms a m r.
-        then-kept (recordOf library (eqb 0x28) give a) _ r _ λ _ b _ s.
-        then-kept (recordOf library (eqb 0x26) give b) _ s _ λ _ c _ u.
-        then-kept (recordOf library (eqb 0x2a) give c) _ u _ λ _ d _ v.
+        then-kept (plainBy One library 0x28 a) _ r _ λ _ b _ s.
+        then-kept (plainBy One library 0x26 b) _ s _ λ _ c _ u.
+        then-kept (plainBy One library 0x2a c) _ u _ λ _ d _ v.
         then-kept (expected library (oneType 0x2c) 0) _ p _ λ g n x y.
         let same : ms ≡ modules = cc in
         let place : n ≡ k = cc in
@@ -50,26 +53,32 @@ first-found library {modules} {end} = go (eqb (byteAt library 0) 0x2c) refl
         let other : eqb 0x2c (byteAt library 0) ≡ false = ne-eqb 0x2c (byteAt library 0) (λ q. eqb-false (byteAt library 0) 0x2c t (sym q)) in
         least-items library (moduleAt library) 0 e ∙ ap (itemsAt library (moduleAt library)) (sym (ap placeAfter (not-expected library (oneType 0x2c) 0 other)))
 
-pub record Stand (library : List ℕ) (first count : ℕ) : Type 0 where
-  pub unrefused : fileRefusal (file library) ≡ none
-  pub there : modulesIn (file library) ≡ itemsAt library (moduleAt library) first
-  pub number : length (modulesIn (file library)) ≡ count
+-- whatever the edition, the modules that were read are those of edition 1
+found-first : (e : Edition) (library : List ℕ) {modules : List Module} {end : ℕ} → fileBy e library ≡ read modules end → modules ≡ itemsAt library (moduleAt library) (firstAt library)
+found-first One library q = first-found library q
+found-first Two library q = first-found library (editions-agree library q)
 
-abbrev Says : List ℕ → Reading → Type 0
-Says library (Modules first count) = Stand library first count
-Says library (Refused r) = fileRefusal (file library) ≡ some r
+pub record Stand (e : Edition) (library : List ℕ) (first count : ℕ) : Type 0 where
+  pub unrefused : fileRefusal (fileBy e library) ≡ none
+  pub there : modulesIn (fileBy e library) ≡ itemsAt library (moduleAt library) first
+  pub number : length (modulesIn (fileBy e library)) ≡ count
 
-says : (library : List ℕ) → Says library (reading library)
-unfolding reading
-says library = go (file library) refl
-  where
-    go : (o : ReadOutcome (List Module)) → file library ≡ o → Says library (readingOf (firstAt library) o)
-    go (read modules end) e = record { unrefused = ap fileRefusal e; there = ap modulesIn e ∙ first-found library e; number = ap (λ o. length (modulesIn o)) e }
-    go stop e = ap fileRefusal e
-    go (refused r) e = ap fileRefusal e
+module _ (e : Edition) (library : List ℕ) where
+  abbrev Says : Reading → Type 0
+  Says (Modules first count) = Stand e library first count
+  Says (Refused r) = fileRefusal (fileBy e library) ≡ some r
 
-pub modules-stand : (library : List ℕ) {first count : ℕ} → reading library ≡ Modules first count → Stand library first count
-modules-stand library e = subst (Says library) e (says library)
+  says : Says (reading e library)
+  unfolding reading
+  says = go (fileBy e library) refl
+    where
+      go : (o : ReadOutcome (List Module)) → fileBy e library ≡ o → Says (readingOf (firstAt library) o)
+      go (read modules end) q = record { unrefused = ap fileRefusal q; there = ap modulesIn q ∙ found-first e library q; number = ap (λ o. length (modulesIn o)) q }
+      go stop q = ap fileRefusal q
+      go (refused r) q = ap fileRefusal q
 
-pub reading-refused : (library : List ℕ) {r : Refusal} → reading library ≡ Refused r → fileRefusal (file library) ≡ some r
-reading-refused library e = subst (Says library) e (says library)
+  pub modules-stand : {first count : ℕ} → reading e library ≡ Modules first count → Stand e library first count
+  modules-stand q = subst Says q says
+
+  pub reading-refused : {r : Refusal} → reading e library ≡ Refused r → fileRefusal (fileBy e library) ≡ some r
+  reading-refused q = subst Says q says

@@ -5,6 +5,7 @@ pub mod RecordLaws
 pub mod Entry
 pub mod Module
 pub mod File
+pub mod EditionLaws
 pub mod BareLaws
 pub mod Expected
 pub mod TypeLaws

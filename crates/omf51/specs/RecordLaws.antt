@@ -1,6 +1,6 @@
 -- When a record is read, stops the repetition, or is refused. Assumes nothing.
 use Prim.Native.Nat.{ℕ, _+_, _≤_, _<_}
-use mathlib.Core.Path.{_≡_, refl, subst}
+use mathlib.Core.Path.{_≡_, refl, subst, _∙_}
 use mathlib.Core.Bool.{Bool, true, false}
 use mathlib.Core.List.{List}
 use native.Mathlib.Omega.{arith}
@@ -8,6 +8,7 @@ use borrow.Author.Tests.{ltb-true, ltb-false, eqb-true, eqb-false, lt-ltb, le-lt
 use lib.Dec.{eqb, ltb}
 use lib.ListN.{length}
 use Rattle.lent.specs.declared.refusal.Refusal.the-variants.{BodyPastEnd, LengthZero, WrongSum, LeftOver}
+use Rattle.lent.specs.Choice.{if_then_else_}
 use Rattle.lent.specs.ChoiceLaws.{chosen}
 use Rattle.lent.specs.Parts.{byteAt, wordAt}
 use Rattle.omf51.specs.declared.Edition.{Edition}
@@ -137,6 +138,11 @@ expected-fits library allowed at = chosen (FrameFits library at) (allowed (byteA
 pub read-fits : (library : List ℕ) (allowed : ℕ → Bool) (at : ℕ) {f : Frame} {next : ℕ} → expected library allowed at ≡ read f next → Fits library at f next
 read-fits library allowed at e = subst (FrameFits library at) e (expected-fits library allowed at)
 
+-- edition 1 asks for nothing more
+pub first-expected : (library : List ℕ) (allowed : ℕ → Bool) (at : ℕ) → expectedBy One library allowed at ≡ expected library allowed at
+unfolding expectedBy
+first-expected library allowed at = refl
+
 -- in an edition: edition 2 reads a record if its sum is 0, and refuses it otherwise
 module _ (library : List ℕ) (allowed : ℕ → Bool) (at : ℕ) where
   pub sum-right : {f : Frame} {next : ℕ} → expected library allowed at ≡ read f next → recordSum library at next ≡ 0
@@ -168,6 +174,21 @@ module _ (library : List ℕ) (allowed : ℕ → Bool) (at : ℕ) where
       go (read f next) h = chosen (FrameFits library at) (eqb (recordSum library at next) 0) (λ _. h) (λ _. tt)
       go stop h = tt
       go (refused r) h = tt
+
+  -- what edition 2 reads, edition 1 reads
+  pub read-first : (e : Edition) {f : Frame} {next : ℕ} → expectedBy e library allowed at ≡ read f next → expected library allowed at ≡ read f next
+  unfolding expectedBy
+  read-first One q = q
+  read-first Two {f} {next} q = go (expected library allowed at) refl q
+    where
+      either : (t : Bool) (o : ReadOutcome Frame) → (if t then o else refused WrongSum) ≡ read f next → o ≡ read f next
+      either true o h = h
+      either false o h = let z : _≡_ {A = ℕ} 0 1 = cc in absurd (omega arith)
+
+      go : (o : ReadOutcome Frame) → expected library allowed at ≡ o → andThen o (summed library at) ≡ read f next → expected library allowed at ≡ read f next
+      go (read g k) p h = p ∙ either (eqb (recordSum library at k) 0) (read g k) h
+      go stop p h = let z : _≡_ {A = ℕ} 0 1 = cc in absurd (omega arith)
+      go (refused r) p h = let z : _≡_ {A = ℕ} 0 1 = cc in absurd (omega arith)
 
   pub read-by : (e : Edition) {f : Frame} {next : ℕ} → expectedBy e library allowed at ≡ read f next → Fits library at f next
   read-by e q = subst (FrameFits library at) q (fits-by e)

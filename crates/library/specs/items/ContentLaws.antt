@@ -12,14 +12,15 @@ use Rattle.lent.specs.Lists.{one}
 use Rattle.lent.specs.Parts.{byteAt}
 use Rattle.omf51.specs.declared.End.{End}
 use Rattle.omf51.specs.declared.End.the-variants.{At, Stop, Refused}
+use Rattle.omf51.specs.declared.Edition.the-variants.{One}
 use Rattle.omf51.specs.declared.Frame.{Frame}
 use Rattle.omf51.specs.declared.Content.{Content}
 use Rattle.omf51.specs.declared.Fixup.{Fixup}
 use Rattle.omf51.specs.Reader.{ReadOutcome, read, stop, refused, andThen, give, many}
-use Rattle.omf51.specs.Record.{expected, recordOf}
-use Rattle.omf51.specs.RecordLaws.{record-framed, not-expected}
+use Rattle.omf51.specs.Record.{expected, expectedBy, whole, recordBy, recordOf}
+use Rattle.omf51.specs.RecordLaws.{record-framed, not-expected, first-expected}
 use Rattle.omf51.specs.Entry.{ending, idSize}
-use Rattle.omf51.specs.Module.{fills, isIdle, fixupsAt, contentBody, Section, sectionAt, sectionsAt}
+use Rattle.omf51.specs.Module.{fills, isIdle, contentBody, Section, sectionBy, sectionsBy, fixupsAt, sectionAt, sectionsAt}
 use Rattle.omf51.specs.Ends.{endOf}
 use Rattle.library.specs.Gathered.{itemsAt}
 use Rattle.library.specs.RepeatLaws.{many-items}
@@ -82,9 +83,9 @@ never-refused e = let z : _≡_ {A = ℕ} 0 1 = cc in absurd (omega arith)
 
 module _ (library : List ℕ) (at : ℕ) {f : Frame} {k : ℕ} (o : expected library fills at ≡ read f k) where
   content-passed : {next : ℕ} → endOf (sectionAt library at) ≡ At next → Passed library f k (sectionAt library at) next
-  unfolding sectionAt ending
+  unfolding sectionBy ending
   content-passed {next} =
-      rw (record-framed library fills (contentBody library) at o) (go (leb (f .body + idSize f + 2) (f .end)) (leb-true (f .body + idSize f + 2) (f .end)))
+      rw (record-framed One library fills (contentBody library) at (first-expected library fills at ∙ o)) (go (leb (f .body + idSize f + 2) (f .end)) (leb-true (f .body + idSize f + 2) (f .end)))
     where
       fixed : f .body + idSize f + 2 ≤ f .end → (w : ReadOutcome (List Fixup)) → many library (fixupsAt library) k ≡ w
           → endOf (andThen w λ fixups. give (sectionOf (contentHere library f) fixups)) ≡ At next
@@ -94,26 +95,26 @@ module _ (library : List ℕ) (at : ℕ) {f : Frame} {k : ℕ} (o : expected lib
       fixed r (refused x) q e = never-refused e
 
       go : (t : Bool) → (t ≡ true → f .body + idSize f + 2 ≤ f .end)
-          → endOf (andThen (andThen (if t then read (contentHere library f) (f .body + idSize f + 2) else stop) λ a left. read a k) λ content. λ m. andThen (many library (fixupsAt library) m) λ fixups. give (sectionOf content fixups)) ≡ At next
-          → Passed library f k (andThen (andThen (if t then read (contentHere library f) (f .body + idSize f + 2) else stop) λ a left. read a k) λ content. λ m. andThen (many library (fixupsAt library) m) λ fixups. give (sectionOf content fixups)) next
+          → endOf (andThen (andThen (andThen (if t then read (contentHere library f) (f .body + idSize f + 2) else stop) λ c rest. whole c f rest) λ a left. read a k) λ content. λ m. andThen (many library (fixupsAt library) m) λ fixups. give (sectionOf content fixups)) ≡ At next
+          → Passed library f k (andThen (andThen (andThen (if t then read (contentHere library f) (f .body + idSize f + 2) else stop) λ c rest. whole c f rest) λ a left. read a k) λ content. λ m. andThen (many library (fixupsAt library) m) λ fixups. give (sectionOf content fixups)) next
       go true r e = fixed (r refl) (many library (fixupsAt library) k) refl e
       go false r e = never e
 
   pub section-passed : {next : ℕ} → endOf (sectionsAt library at) ≡ At next → Passed library f k (sectionsAt library at) next
-  unfolding sectionsAt
+  unfolding sectionsBy
   section-passed {next} = go (fills (byteAt library at)) refl
     where
       none : stop ≡ read f k → {B : Type 0} → B
       none e = let z : _≡_ {A = ℕ} 0 1 = cc in absurd (omega arith)
 
-      go : (t : Bool) → fills (byteAt library at) ≡ t → endOf (if t then sectionAt library at else recordOf library isIdle (λ f. give []) at) ≡ At next
-          → Passed library f k (if t then sectionAt library at else recordOf library isIdle (λ f. give []) at) next
+      go : (t : Bool) → fills (byteAt library at) ≡ t → endOf (if t then sectionAt library at else recordOf library isIdle (whole []) at) ≡ At next
+          → Passed library f k (if t then sectionAt library at else recordOf library isIdle (whole []) at) next
       go true t e = content-passed e
       go false t e = none (sym (not-expected library fills at t) ∙ o)
 
 -- a record that was skipped
 pub section-skipped : (library : List ℕ) (at : ℕ) {next : ℕ} → Absent (expected library fills at) → endOf (sectionsAt library at) ≡ At next → sectionsAt library at ≡ read [] next
-unfolding sectionsAt sectionAt recordOf
+unfolding sectionsBy sectionBy recordBy expectedBy
 section-skipped library at {next} a = go (fills (byteAt library at))
   where
     idle : (o : ReadOutcome Frame) → endOf (andThen o λ f k. read noSection k) ≡ At next → (andThen o λ f k. read noSection k) ≡ read [] next
@@ -128,7 +129,7 @@ section-skipped library at {next} a = go (fills (byteAt library at))
     content stop a e = never e
     content (refused r) a e = never-refused e
 
-    go : (t : Bool) → endOf (if t then sectionAt library at else recordOf library isIdle (λ f. give []) at) ≡ At next
-        → (if t then sectionAt library at else recordOf library isIdle (λ f. give []) at) ≡ read [] next
+    go : (t : Bool) → endOf (if t then sectionAt library at else recordOf library isIdle (whole []) at) ≡ At next
+        → (if t then sectionAt library at else recordOf library isIdle (whole []) at) ≡ read [] next
     go true e = content (expected library fills at) a e
     go false e = idle (expected library isIdle at) e

@@ -9,11 +9,12 @@ use Rattle.lent.specs.ChoiceLaws.{chosen}
 use Rattle.lent.specs.Parts.{byteAt, wordAt}
 use Rattle.omf51.specs.declared.End.{End}
 use Rattle.omf51.specs.declared.End.the-variants.{At, Stop, Refused}
+use Rattle.omf51.specs.declared.Edition.the-variants.{One}
 use Rattle.omf51.specs.declared.Frame.{Frame}
 use Rattle.omf51.specs.declared.Content.{Content}
 use Rattle.omf51.specs.Reader.{ReadOutcome, read, stop, refused, many}
 use Rattle.omf51.specs.Record.{expected}
-use Rattle.omf51.specs.RecordLaws.{Framed, cut, empty, past, unclosed, whole, framed, not-expected, read-fits}
+use Rattle.omf51.specs.RecordLaws.{Framed, cut, empty, past, unclosed, whole, framed, not-expected, read-fits, first-expected}
 use Rattle.omf51.specs.Module.{fills, fixupsAt, sectionsAt}
 use Rattle.omf51.specs.Ends.{endOf}
 use Rattle.library.specs.RepeatLaws.{Stayed, many-stays}
@@ -73,14 +74,14 @@ module _ (library : List ℕ) (at : ℕ) {f : Frame} {k next : ℕ} (o : expecte
   behind =
       let p = section-passed library at o e in
       let w = read-fits library fills at o in
-      let s = section-content library at (is-content (fills (byteAt library at)) refl) in
-      stayed library k next (many library (fixupsAt library) k) (many-stays library (fixupsAt library) (fixups-move library) k (w .inside)) (sym (content-whole library at o refl (p .room)) ∙ sym s ∙ e)
+      let s = section-content One library at (is-content (fills (byteAt library at)) refl) in
+      stayed library k next (many library (fixupsAt library) k) (many-stays library (fixupsAt library) (fixups-move One library) k (w .inside)) (sym (content-whole One library at (first-expected library fills at ∙ o) refl (p .room)) ∙ sym s ∙ e)
 
   content-large : ContentGoes library at (contentHere library f) next
   content-large =
       let p = section-passed library at o e in
       let w = read-fits library fills at o in
-      let m : MovedEnd library at (At next) = section-moved library at e in
+      let m : MovedEnd library at (At next) = section-moved One library at e in
       record {
         later = omega (arith, behind, p .room, w);
         inside = m .1;
@@ -112,10 +113,10 @@ seek-goes (suc n) library at = section (endOf (sectionsAt library at)) refl (see
         → Sought library at (contentOr library (seek n library next) next o)
     content next e rest (read f k) q = content-large library at q e
     content next e rest stop q =
-        let m : MovedEnd library at (At next) = section-moved library at e in
+        let m : MovedEnd library at (At next) = section-moved One library at e in
         further library at next (seek n library next) (omega arith) (rest next)
     content next e rest (refused r) q =
-        let m : MovedEnd library at (At next) = section-moved library at e in
+        let m : MovedEnd library at (At next) = section-moved One library at e in
         further library at next (seek n library next) (omega arith) (rest next)
 
     section : (e : End) → endOf (sectionsAt library at) ≡ e → ((k : ℕ) → Sought library k (seek n library k))

@@ -7,10 +7,11 @@ use native.Mathlib.Omega.{arith}
 use Rattle.lent.specs.declared.refusal.Refusal.{Refusal}
 use Rattle.lent.specs.Choice.{if_then_else_}
 use Rattle.lent.specs.Parts.{byteAt}
+use Rattle.omf51.specs.declared.Edition.the-variants.{One}
 use Rattle.omf51.specs.declared.Frame.{Frame}
 use Rattle.omf51.specs.declared.End.the-variants.{At, Stop, Refused}
-use Rattle.omf51.specs.Reader.{ReadOutcome, read, stop, refused, Reader, andThen, give, atLeastOne}
-use Rattle.omf51.specs.Record.{expected, recordOf}
+use Rattle.omf51.specs.Reader.{ReadOutcome, read, stop, refused, Reader, andThen, atLeastOne}
+use Rattle.omf51.specs.Record.{expected, expectedBy, whole, recordBy, recordOf}
 use Rattle.omf51.specs.RecordLaws.{Fits, FrameFits, expected-fits}
 use Rattle.omf51.specs.Ends.{endOf}
 use Rattle.library.specs.Gathered.{itemsAt}
@@ -21,7 +22,7 @@ use Rattle.library.specs.items.Walk.{frameTo}
 module _ {A : Type 0} (library : List ℕ) (allowed has : ℕ → Bool) (each : Frame → Reader (List A)) where
   -- a body's entries, or none where the record is skipped
   abbrev body : Frame → Reader (List A)
-  body f = if has (f .kind) then atLeastOne library (each f) else give []
+  body f = if has (f .kind) then atLeastOne library (each f) else whole [] f
 
   abbrev held : ℕ → ℕ → List A
   held at next = if has (byteAt library at) then itemsAt library (each (frameTo library at next)) (at + 3) else []
@@ -29,13 +30,13 @@ module _ {A : Type 0} (library : List ℕ) (allowed has : ℕ → Bool) (each : 
   body-found : (f : Frame) (at next : ℕ) → f ≡ frameTo library at next → {what : List A} {end : ℕ} → body f (f .body) ≡ read what end → what ≡ held at next
   body-found f at next g {what} {end} e = go (has (byteAt library at)) (rw g at e)
     where
-      go : (t : Bool) → (if t then atLeastOne library (each (frameTo library at next)) else give []) (at + 3) ≡ read what end
+      go : (t : Bool) → (if t then atLeastOne library (each (frameTo library at next)) else whole [] (frameTo library at next)) (at + 3) ≡ read what end
           → what ≡ (if t then itemsAt library (each (frameTo library at next)) (at + 3) else [])
       go true q = least-items library (each (frameTo library at next)) (at + 3) q
       go false q = cc
 
   passed : (at : ℕ) {next : ℕ} → endOf (recordOf library allowed body at) ≡ At next → recordOf library allowed body at ≡ read (held at next) next
-  unfolding recordOf
+  unfolding recordBy expectedBy
   passed at {next} = go (expected library allowed at) (expected-fits library allowed at)
     where
       never : {B : Type 0} → Stop ≡ At next → B
@@ -64,4 +65,4 @@ module _ {A : Type 0} (library : List ℕ) (allowed has : ℕ → Bool) (each : 
   -- what is found from a record on: what it holds, and then the rest
   pub enter : (at : ℕ) {next : ℕ} → endOf (recordOf library allowed body at) ≡ At next
       → itemsAt library (recordOf library allowed body) at ≡ held at next ++ itemsAt library (recordOf library allowed body) next
-  enter at e = items-turn library (recordOf library allowed body) (record-moves library allowed body) at (passed at e)
+  enter at e = items-turn library (recordOf library allowed body) (record-moves One library allowed body) at (passed at e)

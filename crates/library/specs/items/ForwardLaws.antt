@@ -14,6 +14,7 @@ use Rattle.omf51.specs.declared.Fixup.{Fixup}
 use Rattle.omf51.specs.declared.End.{End}
 use Rattle.omf51.specs.declared.End.the-variants.{At, Stop, Refused}
 use Rattle.omf51.specs.declared.entry.Entries.{Entries}
+use Rattle.omf51.specs.declared.Edition.the-variants.{One}
 use Rattle.omf51.specs.declared.entry.Entries.the-variants.{Definitions, Fixups}
 use Rattle.omf51.specs.Entry.{isSegment, isPublic, nameOffset}
 use Rattle.omf51.specs.Ends.{entryEnd}
@@ -82,7 +83,7 @@ steps-forward (suc n) what library c o = entry (steps-forward n what library) (e
     later : ((k : Cursor) → Ordered k → Steps library (entrySize what) (k .at) (steps n what library k)) → (e : End) → recordEnd what library (c .next) ≡ e
         → Steps library (entrySize what) (c .at) (afterRecord (steps n what library) what library (c .next) e)
     later rest (At next) q =
-        let m : MovedEnd library (c .next + 3) (At next) = record-moved what library (c .next) q in
+        let m : MovedEnd library (c .next + 3) (At next) = record-moved One what library (c .next) q in
         let p = place next (holds what (byteAt library (c .next))) (m .0) in
         let k : Cursor = enteredAt what library (c .next) next in
         weaker (steps n what library k) (omega (arith, p, o .before)) (rest k (record { before = p .1; body-before = omega arith }))

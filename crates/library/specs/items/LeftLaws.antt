@@ -13,6 +13,7 @@ use Rattle.lent.specs.Parts.{byteAt}
 use Rattle.omf51.specs.declared.Frame.{Frame}
 use Rattle.omf51.specs.declared.End.{End}
 use Rattle.omf51.specs.declared.End.the-variants.{At, Stop, Refused}
+use Rattle.omf51.specs.declared.Edition.the-variants.{One}
 use Rattle.omf51.specs.declared.entry.Entries.{Entries}
 use Rattle.omf51.specs.Reader.{read, Reader}
 use Rattle.omf51.specs.Ends.{endOf, entryEnd}
@@ -65,7 +66,7 @@ module _ {A : Type 0} (what : Entries) (library : List ℕ) (each : Frame → Re
   in-record : (at : ℕ) {next : ℕ} → recordEnd what library at ≡ At next → itemsAt library records at ≡ left library each records (enteredAt what library at next)
   in-record at {next} e =
       let f : Frame = frameTo library at next in
-      let m : MovedEnd library (at + 3) (At next) = record-moved what library at e in
+      let m : MovedEnd library (at + 3) (At next) = record-moved One what library at e in
       let none = items-none library (each f) (w .entries-move f (omega (arith, m))) (f .end) refl (w .last-halts f) in
       let inside : leftIn library each (enteredAt what library at next) ≡ itemsAt library (each f) (if holds what (byteAt library at) then at + 3 else next - 1) =
       rw (le-leb (f .end) (length library) (omega (arith, m))) in
@@ -88,7 +89,7 @@ module _ {A : Type 0} (what : Entries) (library : List ℕ) (each : Frame → Re
       later : (e : End) → recordEnd what library (c .next) ≡ e → ((k : Cursor) → length library - k .next < n → left library each records k ≡ unwound (steps n what library k))
           → itemsAt library records (c .next) ≡ unwound (afterRecord (steps n what library) what library (c .next) e)
       later (At next) q rest =
-          let m : MovedEnd library (c .next + 3) (At next) = record-moved what library (c .next) q in
+          let m : MovedEnd library (c .next + 3) (At next) = record-moved One what library (c .next) q in
           in-record (c .next) q ∙ rest (enteredAt what library (c .next) next) (omega (arith, m, h))
       later Stop q rest = no-record (c .next) (subst Halts (sym q) tt)
       later (Refused r) q rest = no-record (c .next) (subst Halts (sym q) tt)

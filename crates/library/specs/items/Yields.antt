@@ -4,6 +4,7 @@ use mathlib.Core.Path.{_≡_, refl, sym, subst, _∙_}
 use mathlib.Core.List.{List, [], _∷_, _++_}
 use native.Mathlib.Omega.{arith}
 use lib.ListN.{length}
+use Rattle.omf51.specs.declared.Edition.the-variants.{One}
 use Rattle.omf51.specs.declared.Frame.{Frame}
 use Rattle.omf51.specs.declared.End.{End}
 use Rattle.omf51.specs.declared.End.the-variants.{At, Stop, Refused}
@@ -13,7 +14,7 @@ use Rattle.omf51.specs.declared.entry.Entries.the-variants.{Definitions, Fixups
 use Rattle.omf51.specs.Reader.{ReadOutcome, read, stop, refused}
 use Rattle.omf51.specs.Record.{expected}
 use Rattle.omf51.specs.Entry.{definitionAt, fixupAt}
-use Rattle.omf51.specs.Module.{fills, Section, definitionsAt, fixupsAt, sectionsAt}
+use Rattle.omf51.specs.Module.{fills, Section, definitionsBy, fixupsBy, definitionsAt, fixupsAt, sectionsAt}
 use Rattle.omf51.specs.Ends.{endOf}
 use Rattle.library.specs.Gathered.{itemsAt, followed}
 use Rattle.library.specs.RepeatLaws.{Moved, items-turn}
@@ -56,14 +57,14 @@ definition-forward : (library : List ℕ) (f : Frame) (at end : ℕ) → endOf (
 definition-forward library f at end e = let r = definition-room library f at e in (omega arith, r .1)
 
 definitions-walked : (library : List ℕ) → Walked Definitions library (definitionAt library) (definitionsAt library) (definitionHere library)
-unfolding definitionsAt
+unfolding definitionsBy
 definitions-walked library = record {
   entry-ends = λ f at. refl;
   record-ends = λ at. refl;
   entry-reads = definition-read library;
   entries-move = λ f h at. ends-within library f at (definitionAt library f at) h (definition-forward library f at);
   last-halts = λ f. none-last f (endOf (definitionAt library f (f .end))) (definition-forward library f (f .end));
-  records-move = definitions-move library;
+  records-move = definitions-move One library;
   enters = enter library _ (holds Definitions) (definitionAt library);
 }
 
@@ -86,14 +87,14 @@ fixup-forward : (library : List ℕ) (f : Frame) (at end : ℕ) → endOf (fixup
 fixup-forward library f at end e = let r = fixup-room library f at e in (omega arith, r .1)
 
 fixups-walked : (library : List ℕ) → Walked Fixups library (fixupAt library) (fixupsAt library) (fixupHere library)
-unfolding fixupsAt
+unfolding fixupsBy
 fixups-walked library = record {
   entry-ends = λ f at. refl;
   record-ends = λ at. refl;
   entry-reads = fixup-read library;
   entries-move = λ f h at. ends-within library f at (fixupAt library f at) h (fixup-forward library f at);
   last-halts = λ f. none-last f (endOf (fixupAt library f (f .end))) (fixup-forward library f (f .end));
-  records-move = fixups-move library;
+  records-move = fixups-move One library;
   enters = enter library _ (holds Fixups) (fixupAt library);
 }
 
@@ -122,24 +123,24 @@ seek-yields zero library at h = absurd (omega arith)
 seek-yields (suc n) library at h = section (endOf (sectionsAt library at)) refl (seek-yields n library)
   where
     turn : {o : ReadOutcome (List Section)} → sectionsAt library at ≡ o → itemsAt library (sectionsAt library) at ≡ followed (itemsAt library (sectionsAt library)) o
-    turn e = items-turn library (sectionsAt library) (sections-move library) at e
+    turn e = items-turn library (sectionsAt library) (sections-move One library) at e
 
     content : (next : ℕ) → endOf (sectionsAt library at) ≡ At next → ((k : ℕ) → length library - k < n → itemsAt library (sectionsAt library) k ≡ sectionsAfter library (seek n library k))
         → (o : ReadOutcome Frame) → expected library fills at ≡ o
         → itemsAt library (sectionsAt library) at ≡ sectionsAfter library (contentOr library (seek n library next) next o)
     content next e rest (read f k) q = turn (section-passed library at q e .is) ∙ rw (fixups-start library k)
     content next e rest stop q =
-        let m : MovedEnd library at (At next) = section-moved library at e in
+        let m : MovedEnd library at (At next) = section-moved One library at e in
         turn (section-skipped library at (subst Absent (sym q) tt) e) ∙ rest next (omega (arith, m, h))
     content next e rest (refused r) q =
-        let m : MovedEnd library at (At next) = section-moved library at e in
+        let m : MovedEnd library at (At next) = section-moved One library at e in
         turn (section-skipped library at (subst Absent (sym q) tt) e) ∙ rest next (omega (arith, m, h))
 
     section : (e : End) → endOf (sectionsAt library at) ≡ e → ((k : ℕ) → length library - k < n → itemsAt library (sectionsAt library) k ≡ sectionsAfter library (seek n library k))
         → itemsAt library (sectionsAt library) at ≡ sectionsAfter library (afterSection library (seek n library) (expected library fills at) e)
     section (At next) e rest = content next e rest (expected library fills at) refl
-    section Stop e rest = items-none library (sectionsAt library) (sections-move library) at e tt
-    section (Refused r) e rest = items-none library (sectionsAt library) (sections-move library) at e tt
+    section Stop e rest = items-none library (sectionsAt library) (sections-move One library) at e tt
+    section (Refused r) e rest = items-none library (sectionsAt library) (sections-move One library) at e tt
 
 pub next-content-yields : (library : List ℕ) (at : ℕ) → itemsAt library (sectionsAt library) at ≡ sectionsAfter library (nextContent library at)
 next-content-yields library at = seek-yields (suc (length library)) library at (omega arith)

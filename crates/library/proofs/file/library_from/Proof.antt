@@ -11,28 +11,30 @@ after-modules-at c = c .before .before .before .before
 
 returns : tie.Need-returns
 returns c =
-    let modules-at = after-modules-at (c .before .before .before) in
+    let closing-end = c .before .before .before .before in
+    let modules-at = after-modules-at closing-end in
     let a = modules-at .before .before .args in
-    sym (library-closed (a .library .now) (a .first)
-    (sym (modules-at .modules-at .ensures) ∙ c .before .before .before .before .before .count .given .1) (sym (c .before .before .before .closing-end .ensures) ∙ c .before .end .given .1))
+    c .used-reading .ensures
+    ∙ sym (library-closed (a .edition) (a .library .now) (a .first)
+    (sym (modules-at .modules-at .ensures) ∙ closing-end .before .before .count .given .1) (sym (closing-end .closing-end .ensures) ∙ c .before .before .end .given .1))
 
 returns-2 : tie.Need-returns-2
 returns-2 c =
     let modules-at = after-modules-at (c .before .before) in
     let a = modules-at .before .before .args in
-    sym (library-closed (a .library .now) (a .first) (sym (modules-at .modules-at .ensures) ∙ c .before .before .before .before .count .given .1)
+    sym (library-closed (a .edition) (a .library .now) (a .first) (sym (modules-at .modules-at .ensures) ∙ c .before .before .before .before .count .given .1)
     (sym (c .before .before .closing-end .ensures) ∙ c .enum-told .given .1))
 
 returns-3 : tie.Need-returns-3
 returns-3 c =
     let modules-at = after-modules-at (c .before .before .before) in
     let a = modules-at .before .before .args in
-    sym (library-closed (a .library .now) (a .first)
+    sym (library-closed (a .edition) (a .library .now) (a .first)
     (sym (modules-at .modules-at .ensures) ∙ c .before .before .before .before .before .count .given .1) (sym (c .before .before .before .closing-end .ensures) ∙ c .before .r .given .1))
 
 returns-4 : tie.Need-returns-4
 returns-4 c = let a = c .before .before .before .before .before .args in sym
-    (library-known (a .library .now) (a .first) (sym (c .before .before .before .modules-at .ensures) ∙ c .before .r2 .given .1))
+    (library-known (a .edition) (a .library .now) (a .first) (sym (c .before .before .before .modules-at .ensures) ∙ c .before .r2 .given .1))
 
 pub library-from-spec : {M : Type 1} → statement M
 library-from-spec =
@@ -42,6 +44,7 @@ library-from-spec =
     (λ c. search needs)
     (λ c κs. search needs)
     (λ c. search needs)
+    (λ c κs. search needs)
     (λ c. search needs)
     (λ c. search needs)
     (λ c. search needs)

@@ -3,8 +3,8 @@ use mathlib.Core.Path.{_≡_, sym, ap, _∙_}
 use native.Mathlib.Omega.{arith}
 use denote.Ref.{now}
 use Rattle.omf51.specs.declared.record.Framed.{Framed}
-use Rattle.omf51.specs.Record.{expected}
-use Rattle.omf51.specs.RecordLaws.{read-fits}
+use Rattle.omf51.specs.Record.{expectedBy}
+use Rattle.omf51.specs.RecordLaws.{read-by}
 use Rattle.omf51.specs.Expected.{oneType, frameRead}
 use Rattle.omf51.specs.Ends.{endOf}
 use Rattle.library.specs.Reading.{typeEnd}
@@ -13,17 +13,17 @@ use borrow.Author.Needs.{needs}
 use Rattle.library.proofs.file.type_end.Statement.{statement}
 use Rattle.library.proofs.file.type_end.Tie as tie
 
-framed : (c : tie.After-record-at) {r : Framed} → c .record-at .result ≡ r → expected (now (c .before .before .args .library))
+framed : (c : tie.After-record-by) {r : Framed} → c .record-by .result ≡ r → expectedBy (c .before .before .args .edition) (now (c .before .before .args .library))
     (oneType (c .before .before .args .kind)) (c .before .before .args .at) ≡ frameRead r
-framed c e = sym (c .record-at .ensures) ∙ ap frameRead e
+framed c e = sym (c .record-by .ensures) ∙ ap frameRead e
 
-ended : (c : tie.After-record-at) {r : Framed} → c .record-at .result ≡ r → endOf (frameRead r) ≡ typeEnd (now (c .before .before .args .library))
+ended : (c : tie.After-record-by) {r : Framed} → c .record-by .result ≡ r → endOf (frameRead r) ≡ typeEnd (c .before .before .args .edition) (now (c .before .before .args .library))
     (c .before .before .args .kind) (c .before .before .args .at)
-ended c e = let a = c .before .before .args in sym (type-known (a .library .now) (a .kind) (a .at) (framed c e))
+ended c e = let a = c .before .before .args in sym (type-known (a .edition) (a .library .now) (a .kind) (a .at) (framed c e))
 
-add-t9 : tie.Need-add-t9
-add-t9 c = let a = c .before .before .before .before .before .before .args in omega
-    (arith, read-fits (a .library .now) (oneType (a .kind)) (a .at) (framed (c .before .before .before .before) (c .before .before .f .given .1)))
+add-t10 : tie.Need-add-t10
+add-t10 c = let a = c .before .before .before .before .before .before .args in omega
+    (arith, read-by (a .library .now) (oneType (a .kind)) (a .at) (a .edition) (framed (c .before .before .before .before) (c .before .before .f .given .1)))
 
 returns : tie.Need-returns
 returns c = ended (c .before .before .before .before) (c .before .before .f .given .1)
@@ -40,7 +40,7 @@ type-end-spec =
     (tie.spec
     (λ c κs. search needs)
     (λ c. search needs)
-    add-t9
+    add-t10
     (λ c. search needs)
     (λ c. search needs)
     returns

@@ -3,17 +3,17 @@ use Prim.Native.Nat.{_-_}
 use mathlib.Core.Path.{_≡_, refl, sym, _∙_}
 use native.Mathlib.Omega.{arith}
 use lib.ListN.{length}
-use Rattle.library.specs.Passes.{allEnd}
+use Rattle.library.specs.Passes.{allEndBy}
 use Rattle.library.specs.PassLaws.{all-turn, record-moved}
 use borrow.Author.Needs.{needs}
 use Rattle.library.proofs.repeat.skip.Statement.{statement}
 use Rattle.library.proofs.repeat.skip.Tie as tie
 
 abbrev Inv-loop : tie.InvT-loop
-Inv-loop library what from at₀ at = allEnd what library at ≡ allEnd what library from
+Inv-loop library edition what from at₀ at = allEndBy edition what library at ≡ allEndBy edition what library from
 
 abbrev μ-loop : tie.MeasureT-loop
-μ-loop library what from at₀ at = length library - at
+μ-loop library edition what from at₀ at = length library - at
 
 -- The ladder: places of the code that the answers cite, each as it is seen from a later place.
 abbrev after-record-end : tie.After-known-told Inv-loop μ-loop → tie.After-record-end Inv-loop μ-loop
@@ -23,26 +23,26 @@ loop-less : tie.Need-loop-less Inv-loop μ-loop
 loop-less c =
     let record-end = after-record-end c in
     let a = record-end .before .before .before .args in
-    omega (arith, record-moved (a .what) (a .library .now) (record-end .before .loop .at) (sym (record-end .record-end .ensures) ∙ c .before .next .given .1))
+    omega (arith, record-moved (a .edition) (a .what) (a .library .now) (record-end .before .loop .at) (sym (record-end .record-end .ensures) ∙ c .before .next .given .1))
 
 loop-again : tie.Need-loop-again Inv-loop μ-loop
 loop-again c =
     let record-end = after-record-end c in
     let loop = record-end .before in
     let a = loop .before .before .args in
-    sym (all-turn (a .what) (a .library .now) (loop .loop .at) (sym (record-end .record-end .ensures) ∙ c .before .next .given .1)) ∙ loop .loop .inv
+    sym (all-turn (a .edition) (a .what) (a .library .now) (loop .loop .at) (sym (record-end .record-end .ensures) ∙ c .before .next .given .1)) ∙ loop .loop .inv
 
 returns : tie.Need-returns Inv-loop μ-loop
 returns c =
     let loop = c .before .before .before in
     let a = loop .before .before .args in
-    sym (all-turn (a .what) (a .library .now) (loop .loop .at) (sym (c .before .before .record-end .ensures) ∙ c .enum-told .given .1)) ∙ loop .loop .inv
+    sym (all-turn (a .edition) (a .what) (a .library .now) (loop .loop .at) (sym (c .before .before .record-end .ensures) ∙ c .enum-told .given .1)) ∙ loop .loop .inv
 
 returns-2 : tie.Need-returns-2 Inv-loop μ-loop
 returns-2 c =
     let loop = c .before .before .before .before in
     let a = loop .before .before .args in
-    sym (all-turn (a .what) (a .library .now) (loop .loop .at) (sym (c .before .before .before .record-end .ensures) ∙ c .before .r .given .1)) ∙ loop .loop .inv
+    sym (all-turn (a .edition) (a .what) (a .library .now) (loop .loop .at) (sym (c .before .before .before .record-end .ensures) ∙ c .before .r .given .1)) ∙ loop .loop .inv
 
 pub skip-spec : {M : Type 1} → statement M
 skip-spec =

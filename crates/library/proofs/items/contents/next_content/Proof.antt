@@ -16,6 +16,7 @@ use Rattle.omf51.specs.declared.End.the-variants.{At, Stop, Refused}
 use Rattle.omf51.specs.declared.record.Framed.{Framed}
 use Rattle.omf51.specs.declared.record.Framed.the-variants as Framed
 use Rattle.omf51.specs.Reader.{read}
+use Rattle.omf51.specs.declared.Edition.the-variants.{One}
 use Rattle.omf51.specs.Record.{expected}
 use Rattle.omf51.specs.RecordLaws.{Fits, read-fits}
 use Rattle.omf51.specs.Module.{fills, sectionsAt}
@@ -101,7 +102,7 @@ returns-2 c =
 loop-less : tie.Need-loop-less Inv-loop μ-loop
 loop-less c = omega (
   arith,
-  section-moved (c .before .before .before .before .before .before .before .before .args .library .now)
+  section-moved One (c .before .before .before .before .before .before .before .before .args .library .now)
       (c .before .before .before .before .before .before .loop .at) (sym (c .before .before .before .before .before .section-end .ensures) ∙ c .before .before .before .next .given .1),
 )
 
@@ -110,7 +111,7 @@ loop-again c =
     let entry = c .before .before .before .before .before .before .before .before in
     let l = c .before .before .before .before .before .before .loop in
     let e = sym (c .before .before .before .before .before .section-end .ensures) ∙ c .before .before .before .next .given .1 in
-    let m = section-moved (entry .args .library .now) (l .at) e in
+    let m = section-moved One (entry .args .library .now) (l .at) e in
     let none = subst Absent (c .before .record-at .ensures) (absent (c .before .record-at .result) (c .match2 .keys2)) in
     record {
       count = l .inv .count - 1;

@@ -12,6 +12,7 @@ use Rattle.omf51.proofs.End.{the-type}
 use Rattle.omf51.specs.declared.End.{End}
 use Rattle.omf51.specs.declared.End.the-variants.{At, Stop, Refused}
 use Rattle.omf51.specs.declared.entry.Entries.{Entries}
+use Rattle.omf51.specs.declared.Edition.the-variants.{One}
 use Rattle.library.specs.EndLaws.{Halts}
 use Rattle.library.specs.PassLaws.{record-moved}
 use Rattle.library.specs.declared.items.Cursor.{Cursor}
@@ -64,7 +65,7 @@ returns-2 c =
     sym (step-done (l .inv .count) (a .what) (a .library .now) (l .c) (omega (arith, l .inv .enough)) (no-entry (c .before .before)) none) ∙ l .inv .same
 
 entered-requires : tie.Need-entered-requires Inv-loop μ-loop
-entered-requires c κs = let a = at-loop c .before .before .args in record-moved (a .what) (a .library .now) (at-loop c .loop .c .next)
+entered-requires c κs = let a = at-loop c .before .before .args in record-moved One (a .what) (a .library .now) (at-loop c .loop .c .next)
     (sym (c .before .before .before .record-end .ensures) ∙ c .before .next .given .1)
 
 loop-less : tie.Need-loop-less Inv-loop μ-loop
@@ -72,7 +73,7 @@ loop-less c =
     let a = at-loop (c .before) .before .before .args in
     rw (c .entered .ensures) (omega (
       arith,
-      record-moved (a .what) (a .library .now) (at-loop (c .before) .loop .c .next)
+      record-moved One (a .what) (a .library .now) (at-loop (c .before) .loop .c .next)
           (sym (c .before .before .before .before .record-end .ensures) ∙ c .before .before .next .given .1),
     ))
 
@@ -81,7 +82,7 @@ loop-again c =
     let a = at-loop (c .before) .before .before .args in
     let l = at-loop (c .before) .loop in
     let e = sym (c .before .before .before .before .record-end .ensures) ∙ c .before .before .next .given .1 in
-    let m = record-moved (a .what) (a .library .now) (l .c .next) e in
+    let m = record-moved One (a .what) (a .library .now) (l .c .next) e in
     rw (c .entered .ensures) (record {
       count = l .inv .count - 1;
       enough = omega (arith, m, l .inv .enough);
