@@ -1,17 +1,19 @@
 -- The three ends of the collection: done, no room, refused. Assumes nothing.
 use Prim.Native.Nat.{ℕ, _≤_, _<_}
 use mathlib.Core.Path.{_≡_, refl, sym, ap, subst, _∙_}
+use mathlib.Core.Bool.{true}
 use mathlib.Core.List.{List, []}
 use mathlib.Core.Option.{Option, none, some}
 use native.Mathlib.Omega.{arith}
-use borrow.Author.Tests.{lt-leb, lt-ltb}
+use borrow.Author.Tests.{lt-ltb}
 use lib.ListN.{length, length-replicate}
 use Rattle.lent.specs.declared.refusal.Refusal.{Refusal}
 use Rattle.lent.specs.declared.refusal.Refusal.the-variants.{LibraryTooLong, TooFewRows}
 use Rattle.lent.specs.Choice.{leading}
 use Rattle.lent.specs.Lists.{joined}
 use Rattle.lent.specs.ListLaws.{joined-joined}
-use Rattle.lent.specs.Refusals.{refusalNumber}
+use Rattle.lent.specs.Refusals.{zeroes}
+use Rattle.lent.specs.RefusalLaws.{zeroes-late}
 use Rattle.lent.specs.Rows.{zeros, padded}
 use Rattle.image.specs.declared.fixup.Rules.{Rules}
 use Rattle.omf51.specs.Module.{Module}
@@ -87,17 +89,17 @@ module _ (rules : Rules) (library : List ℕ) (modules : List Module) (l after :
       rw (counted gs s, stored-fills gs n s) refl
       ∙ by-refusal (refused-late library modules l (countedIn gs) short (sym (few-same (countedIn gs) n) ∙ stored-room gs s) r)
 
-  zero-left : {left : CollectLists} (r : Refusal) → 9 ≤ refusalNumber r → left ≡ collectZeroed after → comes (Refused r) left ≡ collectOutcomeOf (some r) gs l
-  zero-left r h e = rw (lt-leb (refusalNumber r) 8 (omega arith), e) (ap (comes (Refused r)) (zeroed-same n))
+  zero-left : {left : CollectLists} (r : Refusal) → zeroes r ≡ true → left ≡ collectZeroed after → comes (Refused r) left ≡ collectOutcomeOf (some r) gs l
+  zero-left r h e = rw (h, e) (ap (comes (Refused r)) (zeroed-same n))
 
   pub lacks-is : {left : CollectLists} → (Room gs after → ⊥) → left ≡ collectZeroed after → comes (Refused TooFewRows) left ≡ collection rules library modules l
   lacks-is lacks e =
       let even = masks-take rules library modules ∙ sym (bytes-take gs) in
-      zero-left TooFewRows (omega arith) e ∙ by-refusal (refused-9 library modules l (countedIn gs) short (sym (few-same (countedIn gs) n) ∙ no-room gs even lacks))
+      zero-left TooFewRows refl e ∙ by-refusal (refused-9 library modules l (countedIn gs) short (sym (few-same (countedIn gs) n) ∙ no-room gs even lacks))
 
   pub refused-is : {c : CollectCounts} {r : Refusal} {left : CollectLists} → Stores gs after c → collectRefusal modules ≡ some r → left ≡ collectZeroed after → comes (Refused r) left ≡ collection rules library modules l
   refused-is {c} {r} s q e =
-      zero-left r (omega (arith, collect-late modules q)) e ∙ by-refusal (refused-late library modules l (countedIn gs) short (sym (few-same (countedIn gs) n) ∙ stored-room gs s) q)
+      zero-left r (let n = collect-late modules q in zeroes-late r (omega (arith, n .0)) (n .1)) e ∙ by-refusal (refused-late library modules l (countedIn gs) short (sym (few-same (countedIn gs) n) ∙ stored-room gs s) q)
 
 -- all five lists set to zero
 pub zeroed-is : (l : CollectLists) {a b c d e : List ℕ} → a ≡ zeros (length (l .segments)) → b ≡ zeros (length (l .references)) → c ≡ zeros (length (l .symbols)) → d ≡ zeros (length (l .bytes)) → e ≡ zeros (length (l .masks))

@@ -3,13 +3,13 @@ use Prim.Native.Nat.{ℕ}
 use mathlib.Core.Bool.{Bool, _||_}
 use mathlib.Core.List.{List, [], _∷_}
 use mathlib.Core.Option.{Option, none, some}
-use lib.Dec.{leb, ltb}
+use lib.Dec.{ltb}
 use lib.ListN.{length}
 use Rattle.lent.specs.declared.refusal.Refusal.{Refusal}
 use Rattle.lent.specs.declared.refusal.Refusal.the-variants.{LibraryTooLong, TooFewRows}
 use Rattle.lent.specs.Choice.{if_then_else_, when, leading}
 use Rattle.lent.specs.Lists.{total}
-use Rattle.lent.specs.Refusals.{refusalNumber}
+use Rattle.lent.specs.Refusals.{zeroes}
 use Rattle.lent.specs.Rows.{zeros, padded, tooMany}
 use Rattle.image.specs.declared.fixup.Rules.{Rules}
 use Rattle.omf51.specs.Module.{Module}
@@ -70,7 +70,7 @@ collectFilled gs l = record {
 -- the outcome with a refusal or without: refusals up to 8 write nothing, 9 to 13 set all lent lists to zero
 abbrev pub collectOutcomeOf : Option Refusal → List Collected → CollectLists → CollectOutcome
 collectOutcomeOf none gs l = record { answer = Done (countedIn gs); left = collectFilled gs l }
-collectOutcomeOf (some r) gs l = record { answer = Refused r; left = if leb (refusalNumber r) 8 then l else collectZeroed l }
+collectOutcomeOf (some r) gs l = record { answer = Refused r; left = if zeroes r then collectZeroed l else l }
 
 -- the collection of the segments of all modules
 unfoldable pub collection : Rules → List ℕ → List Module → CollectLists → CollectOutcome

@@ -12,6 +12,7 @@ use lent::refusal::number;
 use lent::rows::put;
 use library::Reading;
 use library::file::read;
+use omf51::Edition;
 use listing::all_rows::list_rows;
 use listing_rules::Skip;
 use printing::Printed;
@@ -23,7 +24,7 @@ use search_rules::Asked;
 // Reads a library and goes over it once; gives a sum over all that it says, or 0 for a refusal.
 #[no_mangle]
 pub extern "C" fn count_reading(library: &[u8]) -> usize {
-    match read(library) {
+    match read(library, Edition::One) {
         Reading::Modules { first, count } => over_modules(library, first, count),
         Reading::Refused(r) => 0,
     }
@@ -32,7 +33,7 @@ pub extern "C" fn count_reading(library: &[u8]) -> usize {
 // Reads a library, and gives the number of its modules, or 0 for a refusal.
 #[no_mangle]
 pub extern "C" fn count_places(library: &[u8]) -> usize {
-    match read(library) {
+    match read(library, Edition::One) {
         Reading::Modules { first, count } => count,
         Reading::Refused(r) => 0,
     }
@@ -50,7 +51,7 @@ pub extern "C" fn count_collecting(
     bytes: &mut [u8],
     masks: &mut [u8],
 ) -> u8 {
-    match read(library) {
+    match read(library, Edition::One) {
         Reading::Modules { first, count } => match collect(
             library,
             Rules::AsFound,

@@ -1,20 +1,23 @@
 -- A refusal is known by its number. Assumes nothing.
-use Prim.Native.Nat.{ℕ, _≤_}
+use Prim.Native.Nat.{ℕ, _≤_, _<_}
 use mathlib.Core.Path.{_≡_, refl, sym, ap, _∙_}
+use mathlib.Core.Logic.{_⊎_, inl, inr}
+use mathlib.Core.Bool.{true, false, and-false}
 use mathlib.Core.List.{List, [], _∷_}
 use mathlib.Core.Option.{Option, none, some}
 use native.Mathlib.Omega.{arith}
-use lib.Dec.{eqb}
+use borrow.Author.Tests.{le-leb, lt-leb}
+use lib.Dec.{eqb, leb}
 use Rattle.lent.specs.declared.refusal.Refusal.{Refusal}
-use Rattle.lent.specs.declared.refusal.Refusal.the-variants.{RuleSet, ImageTooLong, LibraryTooLong, StretchPastEnd, NoModule, BodyPastEnd, LengthZero, NamesDiffer, TooFewRows, UnknownKind, UnknownBlock, ContentPastSegment, NoKeptSegment, WrongSum, LeftOver, Edition}
+use Rattle.lent.specs.declared.refusal.Refusal.the-variants.{RuleSet, ImageTooLong, LibraryTooLong, StretchPastEnd, NoModule, BodyPastEnd, LengthZero, NamesDiffer, TooFewRows, UnknownKind, UnknownBlock, ContentPastSegment, NoKeptSegment, WrongSum, LeftOver, OtherEdition}
 use Rattle.lent.specs.Choice.{if_then_else_}
-use Rattle.lent.specs.Refusals.{refusalNumber, stageNumber}
+use Rattle.lent.specs.Refusals.{refusalNumber, zeroes, stageNumber}
 
 -- every refusal, in the order of their numbers
 abbrev pub everyRefusal : List Refusal
 everyRefusal =
     RuleSet ∷ ImageTooLong ∷ LibraryTooLong ∷ StretchPastEnd ∷ NoModule ∷ BodyPastEnd ∷ LengthZero ∷ NamesDiffer ∷ TooFewRows
-    ∷ UnknownKind ∷ UnknownBlock ∷ ContentPastSegment ∷ NoKeptSegment ∷ WrongSum ∷ LeftOver ∷ Edition ∷ []
+    ∷ UnknownKind ∷ UnknownBlock ∷ ContentPastSegment ∷ NoKeptSegment ∷ WrongSum ∷ LeftOver ∷ OtherEdition ∷ []
 
 -- the refusal of a number among some refusals, and else the first
 among : List Refusal → ℕ → Refusal
@@ -38,7 +41,7 @@ number-back ContentPastSegment = refl
 number-back NoKeptSegment = refl
 number-back WrongSum = refl
 number-back LeftOver = refl
-number-back Edition = refl
+number-back OtherEdition = refl
 
 pub number-tells : (a b : Refusal) → refusalNumber a ≡ refusalNumber b → a ≡ b
 number-tells a b e = sym (number-back a) ∙ ap (among everyRefusal) e ∙ number-back b
@@ -63,7 +66,15 @@ numbered ContentPastSegment = omega arith
 numbered NoKeptSegment = omega arith
 numbered WrongSum = omega arith
 numbered LeftOver = omega arith
-numbered Edition = omega arith
+numbered OtherEdition = omega arith
+
+-- 9 to 13 set lent memory to zero, and all others write nothing
+pub zeroes-late : (r : Refusal) → 9 ≤ refusalNumber r → refusalNumber r ≤ 13 → zeroes r ≡ true
+zeroes-late r l h = rw (le-leb 9 (refusalNumber r) l, le-leb (refusalNumber r) 13 h)
+
+pub zeroes-not : (r : Refusal) → (refusalNumber r < 9) ⊎ (13 < refusalNumber r) → zeroes r ≡ false
+zeroes-not r (inl l) = rw (lt-leb 9 (refusalNumber r) l)
+zeroes-not r (inr l) = rw (lt-leb (refusalNumber r) 13 l) (and-false (leb 9 (refusalNumber r)))
 
 -- what a stage comes to is known by its number
 pub stage-tells : (a b : Option Refusal) → stageNumber a ≡ stageNumber b → a ≡ b

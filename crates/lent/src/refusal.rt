@@ -20,7 +20,7 @@ pub enum Refusal {
     NoKeptSegment,
     WrongSum,
     LeftOver,
-    Edition,
+    OtherEdition,
 }
 
 // The number that the caller gets for a refusal.
@@ -43,6 +43,6 @@ pub fn number(r: Refusal) -> u8
         Refusal::NoKeptSegment => 13,
         Refusal::WrongSum => 14,
         Refusal::LeftOver => 15,
-        Refusal::Edition => 30,
+        Refusal::OtherEdition => 30,
     }
 }

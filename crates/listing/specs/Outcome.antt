@@ -2,12 +2,12 @@
 use Prim.Native.Nat.{ℕ}
 use mathlib.Core.List.{List, [], _∷_}
 use mathlib.Core.Option.{Option, none, some}
-use lib.Dec.{leb, ltb}
+use lib.Dec.{ltb}
 use lib.ListN.{length}
 use Rattle.lent.specs.declared.refusal.Refusal.{Refusal}
 use Rattle.lent.specs.declared.refusal.Refusal.the-variants.{ImageTooLong, TooFewRows}
 use Rattle.lent.specs.Choice.{if_then_else_, when, leading}
-use Rattle.lent.specs.Refusals.{refusalNumber}
+use Rattle.lent.specs.Refusals.{zeroes}
 use Rattle.lent.specs.Rows.{zeros, padded, tooMany}
 use Rattle.segments.specs.Collect.{Collected}
 use Rattle.search_rules.specs.declared.Asked.{Asked}
@@ -71,7 +71,7 @@ counted y = record { placed = length (y .placed); noted = length (y .noted); lin
 -- the outcome with a refusal or without: a refusal up to 8 writes nothing, 9 sets all lent lists to zero
 abbrev pub findOutcomeOf : List ℕ → Option Refusal → Yield → FindLists → FindOutcome
 findOutcomeOf library none y l = record { answer = Done (counted y); left = findFilled library y l }
-findOutcomeOf library (some r) y l = record { answer = Refused r; left = if leb (refusalNumber r) 8 then l else findZeroed l }
+findOutcomeOf library (some r) y l = record { answer = Refused r; left = if zeroes r then findZeroed l else l }
 
 -- THE NAMES FOUND in the view of an image, for the first n segments that are stored
 unfoldable pub findOutcome : List ℕ → Asked → Skip → List ℕ → ℕ → FindLists → FindOutcome

@@ -18,6 +18,7 @@ use library::items::NextFixup;
 use library::items::contents::next_content;
 use library::items::decoded::next_fixup;
 use library::module::module_at;
+use omf51::Edition;
 use omf51::Content;
 
 // The first refusal among the fixups of a content, from a cursor on.
@@ -84,7 +85,7 @@ pub fn scan(library: &[u8], first: usize, table: &mut [u32]) -> Verdict
 {
     let mut at = first;
     loop {
-        let ModuleAt::Whole(places) = module_at(library, at) else {
+        let ModuleAt::Whole(places) = module_at(library, Edition::One, at) else {
             return Verdict::Passed;
         };
         fill(library, places.definitions, table);

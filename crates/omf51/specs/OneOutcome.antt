@@ -12,7 +12,7 @@ use Rattle.omf51.specs.declared.record.Framed.the-variants as Framed
 use Rattle.omf51.specs.declared.entry.Entries.{Entries}
 use Rattle.omf51.specs.declared.entry.Named.{Named}
 use Rattle.omf51.specs.declared.entry.Named.the-variants as Named
-use Rattle.omf51.specs.Record.{expected, expectedBy, leavesOver, recordBy}
+use Rattle.omf51.specs.Record.{editionOf, expected, expectedBy, leavesOver, recordBy}
 use Rattle.omf51.specs.Entry.{namePart, segmentSize, idSize, isSegment, isPublic, nameOffset, nameWith}
 use Rattle.omf51.specs.Module.{defines, fills}
 use Rattle.omf51.specs.Expected.{oneType, allows, frameRead}
@@ -54,6 +54,9 @@ record-at-one library what at = by-map frameRead frames-apart (expected library 
 
 pub record-by-one : (library : List ℕ) (edition : Edition) (what : Allowed) (at : ℕ) → Determines (λ r. frameRead r ≡ expectedBy edition library (allows what) at)
 record-by-one library edition what at = by-map frameRead frames-apart (expectedBy edition library (allows what) at)
+
+pub edition-of-one : (number : ℕ) → Determines (λ r. r ≡ editionOf number)
+edition-of-one number = by-equation (editionOf number)
 
 pub leaves-over-one : (edition : Edition) (left end : ℕ) → Determines (λ r. r ≡ leavesOver edition left end)
 leaves-over-one edition left end = by-equation (leavesOver edition left end)

@@ -28,6 +28,10 @@ frameAt library at =
 unfoldable pub expected : List ℕ → (ℕ → Bool) → Reader Frame
 expected library allowed at = if allowed (byteAt library at) then frameAt library at else stop
 
+-- the edition of a number: 2, or else 1 (any other number is refused before anything is read)
+abbrev pub editionOf : ℕ → Edition
+editionOf n = if eqb n 2 then Two else One
+
 -- the sum, modulo 256, of all bytes of the record from `at` up to `next`, its checksum included
 unfoldable pub recordSum : List ℕ → ℕ → ℕ → ℕ
 recordSum library at next = total (λ byte. byte) (take (next - at) (drop at library)) % 256

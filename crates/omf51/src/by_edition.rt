@@ -4,13 +4,23 @@ ghost use Prim.Native.Nat.{_%_, _≤_};
 ghost use lib.Dec.{eqb};
 ghost use lib.ListN.{length};
 ghost use Rattle.lent.specs.Lists.{total};
-ghost use Rattle.omf51.specs.Record.{recordSum, expectedBy, leavesOver};
+ghost use Rattle.omf51.specs.Record.{editionOf, recordSum, expectedBy, leavesOver};
 ghost use Rattle.omf51.specs.Expected.{allows as allowedTypes, frameRead};
 use crate::Edition;
 use crate::read_record::record_at;
 use crate::record::Framed;
 use crate::types::Allowed;
 use lent::refusal::Refusal;
+
+// The edition of a number: 2, or else 1.
+pub fn edition_of(number: u64) -> Edition
+    ensures { λ r. ⌜ r ≡ editionOf number ⌝ }
+{
+    if number == 2 {
+        return Edition::Two;
+    }
+    Edition::One
+}
 
 // The sum of some bytes modulo 256. The sum is taken in a byte, so that the compiler can add many bytes at once.
 fn sum_of(bytes: &[u8]) -> u8

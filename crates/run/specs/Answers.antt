@@ -1,29 +1,27 @@
 -- Demand 1: what a run answers and what it leaves in lent memory. Assumes nothing.
 use Prim.Native.Nat.{ℕ, _≤_, _<_}
 use mathlib.Core.Path.{_≡_, refl}
-use mathlib.Core.Logic.{inl, inr}
+use mathlib.Core.Logic.{_⊎_, inl, inr}
 use native.Mathlib.Decide.{decLt}
 use mathlib.Core.List.{List}
 use mathlib.Core.Option.{Option, none, some}
 use native.Mathlib.Omega.{arith}
-use borrow.Author.Tests.{le-leb, lt-leb}
 use lib.ListN.{length, length-replicate}
 use Rattle.lent.specs.declared.refusal.Refusal.{Refusal}
 use Rattle.lent.specs.Choice.{leading}
 use Rattle.lent.specs.ListLaws.{rows-length}
-use Rattle.lent.specs.Refusals.{refusalNumber}
-use Rattle.lent.specs.RefusalLaws.{number-range}
+use Rattle.lent.specs.RefusalLaws.{numbered, zeroes-late, zeroes-not}
 use Rattle.lent.specs.RowLaws.{fitting-length}
 use Rattle.image.specs.View.{view}
 use Rattle.image.specs.fixup.Target.{rulesOf}
-use Rattle.omf51.specs.File.{file, modulesIn}
+use Rattle.omf51.specs.File.{modulesIn}
 use Rattle.segments.specs.SegmentRows.{segmentWidth, referenceWidth, symbolWidth, segmentNumbers, referenceNumbers, symbolNumbers, patternBytes, patternMasks}
 use Rattle.segments.specs.SegmentRowLaws.{segments-take, references-take, symbols-take, bytes-take, masks-take}
 use Rattle.search_rules.specs.SearchRows.{placedWidth, notedWidth, placedNumbers, notedNumbers}
 use Rattle.search_rules.specs.SearchRowLaws.{placed-take, noted-take}
 use Rattle.listing_rules.specs.Listing.{lineWidth, lineCells, lineNumbers}
 use Rattle.run.specs.declared.Settings.{Settings}
-use Rattle.run.specs.Run.{Lent, Yield, Outcome, stages, counted, refusals, zeroed, filledWith, outcomeOf, runSeen, run, numberOf, noCounts, countsOf}
+use Rattle.run.specs.Run.{Lent, Yield, Outcome, libraryRead, stages, counted, refusals, zeroed, filledWith, outcomeOf, runSeen, run, numberOf, noCounts, countsOf}
 use Rattle.run.specs.Given.{NothingRefused}
 use Rattle.run.specs.Refused.{done-exactly}
 
@@ -50,10 +48,10 @@ module _ (image library : List ℕ) (s : Settings) (lent : Lent) where
     -- on 0 the counts are the numbers of rows, and each lent list holds its stage's rows, the rest zero
     pub counts-done : numberOf (o .answer) ≡ 0 → countsOf (o .answer) ≡ counted yielded
     pub left-done : numberOf (o .answer) ≡ 0 → o .left ≡ filledWith library yielded lent
-    -- every refusal has zero counts; 1 to 8 write nothing, and 9 to 13 set all to zero
+    -- every refusal has zero counts; 9 to 13 set all to zero, and the others write nothing
     pub counts-refused : 1 ≤ numberOf (o .answer) → countsOf (o .answer) ≡ noCounts
-    pub left-early : 1 ≤ numberOf (o .answer) → numberOf (o .answer) ≤ 8 → o .left ≡ lent
-    pub left-late : 9 ≤ numberOf (o .answer) → o .left ≡ zeroed lent
+    pub left-zero : 9 ≤ numberOf (o .answer) → numberOf (o .answer) ≤ 13 → o .left ≡ zeroed lent
+    pub left-alone : 1 ≤ numberOf (o .answer) → (numberOf (o .answer) < 9) ⊎ (13 < numberOf (o .answer)) → o .left ≡ lent
 
   pub sound : Sound outcome
   unfolding run runSeen
@@ -64,15 +62,15 @@ module _ (image library : List ℕ) (s : Settings) (lent : Lent) where
         counts-done = λ e. refl;
         left-done = λ e. refl;
         counts-refused = λ h. absurd (omega arith);
-        left-early = λ h l. absurd (omega arith);
-        left-late = λ h. absurd (omega arith);
+        left-zero = λ h l. absurd (omega arith);
+        left-alone = λ h l. absurd (omega arith);
       }
       go (some r) = record {
-        counts-done = λ e. absurd (omega (arith, number-range r .0));
-        left-done = λ e. absurd (omega (arith, number-range r .0));
+        counts-done = λ e. absurd (omega (arith, numbered r));
+        left-done = λ e. absurd (omega (arith, numbered r));
         counts-refused = λ h. refl;
-        left-early = λ h l. rw (le-leb (refusalNumber r) 8 l);
-        left-late = λ h. rw (lt-leb (refusalNumber r) 8 h);
+        left-zero = λ h l. rw (zeroes-late r h l);
+        left-alone = λ h l. rw (zeroes-not r l);
       }
 
   -- every lent list keeps its length: what is yielded fits
@@ -80,7 +78,7 @@ module _ (image library : List ℕ) (s : Settings) (lent : Lent) where
   unfolding filledWith counted stages lineNumbers
   filled-lengths h =
       let rules = rulesOf (s .rules) in
-      let modules = modulesIn (file library) in
+      let modules = modulesIn (libraryRead library s) in
       let room = h .reached .room in
       let y = yielded in record {
         segments = fitting-length (lent .segments) (segmentNumbers (y .segments)) segmentWidth _ (segments-take (y .segments)) (λ o. room (inl o));
@@ -107,16 +105,20 @@ module _ (image library : List ℕ) (s : Settings) (lent : Lent) where
   }
 
   pub lengths-kept : SameLengths (outcome .left) lent
-  lengths-kept = go (decLt 0 n) (decLt 8 n)
+  lengths-kept = go (decLt 0 n) (decLt 8 n) (decLt 13 n)
     where
       n : ℕ
       n = numberOf (outcome .answer)
 
-      go : Dec (0 < n) → Dec (8 < n) → SameLengths (outcome .left) lent
-      go (no l) d =
+      alone : 0 < n → (n < 9) ⊎ (13 < n) → SameLengths (outcome .left) lent
+      alone l h =
+          rw (sound .left-alone l h)
+          (record { segments = refl; references = refl; symbols = refl; bytes = refl; masks = refl; placed = refl; noted = refl; lines = refl })
+
+      go : Dec (0 < n) → Dec (8 < n) → Dec (13 < n) → SameLengths (outcome .left) lent
+      go (no l) d f =
           let done : n ≡ 0 = omega arith in
           rw (sound .left-done done) (filled-lengths (done-exactly image library s lent .0 done))
-      go (yes l) (yes m) = rw (sound .left-late m) zero-lengths
-      go (yes l) (no m) =
-          rw (sound .left-early l (omega arith))
-          (record { segments = refl; references = refl; symbols = refl; bytes = refl; masks = refl; placed = refl; noted = refl; lines = refl })
+      go (yes l) (no m) f = alone l (inl (omega arith))
+      go (yes l) (yes m) (yes h) = alone l (inr h)
+      go (yes l) (yes m) (no h) = rw (sound .left-zero m (omega arith)) zero-lengths

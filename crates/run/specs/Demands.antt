@@ -11,7 +11,7 @@ use Rattle.lent.specs.OneOutcome.{Determines, by-equation}
 use Rattle.lent.specs.Refusals.{refusalNumber}
 use Rattle.image.specs.View.{view}
 use Rattle.image.specs.ViewLaws.{Agree, view-length}
-use Rattle.omf51.specs.File.{file, modulesIn}
+use Rattle.omf51.specs.File.{modulesIn}
 use Rattle.listing_rules.specs.declared.Line.{Line}
 use Rattle.listing_rules.specs.Listing.{lineWidth}
 use Rattle.listing_rules.specs.LineLayout.{lineAt}
@@ -21,7 +21,7 @@ use Rattle.listing_rules.specs.CompleteLaws.{complete, only}
 use Rattle.listing_rules.specs.OnceLaws.{placed-once, noted-once}
 use Rattle.listing_rules.specs.OrderLaws.{in-order}
 use Rattle.run.specs.declared.Settings.{Settings}
-use Rattle.run.specs.Run.{Lent, Yield, Outcome, askedOf, stages, counted, filledWith, runSeen, run, numberOf, countsOf}
+use Rattle.run.specs.Run.{libraryRead, Lent, Yield, Outcome, askedOf, stages, counted, filledWith, runSeen, run, numberOf, countsOf}
 use Rattle.run.specs.Given.{Given, NothingRefused}
 use Rattle.run.specs.Refused.{given-exactly, done-exactly}
 use Rattle.run.specs.Answers.{SameLengths, Sound, sound, lengths-kept}
@@ -92,10 +92,10 @@ module _ (image library : List ℕ) (s : Settings) (lent : Lent) where
 
     -- OWN ADDRESS: each row of the list with a grade of 1 to 3, under rule set 1
     pub own-row : s .rules ≡ 1 → numberOf (o .answer) ≡ 0 → (i : ℕ) → i < countsOf (o .answer) .lines → 1 ≤ lineAt (o .left .lines) i .grade
-        → Own library (view image (s .stretch)) (askedOf s) (modulesIn (file library)) (lineAt (o .left .lines) i .name) (lineAt (o .left .lines) i .address)
+        → Own library (view image (s .stretch)) (askedOf s) (modulesIn (libraryRead library s)) (lineAt (o .left .lines) i .name) (lineAt (o .left .lines) i .address)
     own-row r z i h =
         let x = row-of z i h in
-        subst (λ l. 1 ≤ l .grade → Own library (view image (s .stretch)) (askedOf s) (modulesIn (file library)) (l .name) (l .address)) (sym (x .is))
+        subst (λ l. 1 ≤ l .grade → Own library (view image (s .stretch)) (askedOf s) (modulesIn (libraryRead library s)) (l .name) (l .address)) (sym (x .is))
         (own-address image library s r (getD lines i noLine) (at-among lines noLine i (x .number)))
 
     -- SIXTEEN BITS: under rule set 1 no row of the list has an address above FFFFh
@@ -107,10 +107,10 @@ module _ (image library : List ℕ) (s : Settings) (lent : Lent) where
 
     -- GRADE 0: the name of each row with grade 0 is referred to there, under either rule set
     pub noted-row : numberOf (o .answer) ≡ 0 → (i : ℕ) → i < countsOf (o .answer) .lines → lineAt (o .left .lines) i .grade ≡ 0
-        → Referred library (view image (s .stretch)) (askedOf s) (modulesIn (file library)) (lineAt (o .left .lines) i .name) (lineAt (o .left .lines) i .address)
+        → Referred library (view image (s .stretch)) (askedOf s) (modulesIn (libraryRead library s)) (lineAt (o .left .lines) i .name) (lineAt (o .left .lines) i .address)
     noted-row z i h =
         let x = row-of z i h in
-        subst (λ l. l .grade ≡ 0 → Referred library (view image (s .stretch)) (askedOf s) (modulesIn (file library)) (l .name) (l .address)) (sym (x .is))
+        subst (λ l. l .grade ≡ 0 → Referred library (view image (s .stretch)) (askedOf s) (modulesIn (libraryRead library s)) (l .name) (l .address)) (sym (x .is))
         (noted-address image library s (getD lines i noLine) (at-among lines noLine i (x .number)))
 
     -- COMPLETE: the rows of the list are exactly the lines that are to be listed

@@ -18,11 +18,11 @@ use Rattle.image.specs.declared.fixup.Kind.{Kind}
 use Rattle.image.specs.declared.fixup.Kind.the-variants.{Relative, Word, Inblock}
 use Rattle.image.specs.fixup.Target.{addressIn, kindNumber, shown, target}
 use Rattle.omf51.specs.Reader.{repeat}
-use Rattle.omf51.specs.Record.{frameAt, expected, recordOf}
+use Rattle.omf51.specs.Record.{frameAt, expected, recordSum, expectedBy, recordBy}
 use Rattle.omf51.specs.Entry.{ending, segmentSize, definitionOf, definitionAt, fixupAt}
 use Rattle.omf51.specs.declared.Fixup.{Fixup}
-use Rattle.omf51.specs.Module.{definitionsAt, fixupsAt, sectionAt, sectionsAt, moduleAt}
-use Rattle.omf51.specs.File.{libraryAt, file}
+use Rattle.omf51.specs.Module.{definitionsBy, fixupsBy, sectionBy, sectionsBy, moduleBy}
+use Rattle.omf51.specs.File.{libraryBy, fileRead, fileBy}
 use Rattle.segments.specs.Ids.{kept, named}
 use Rattle.segments.specs.Refuse.{fixupRefusal, contentRefusal, tests, collectRefusal}
 use Rattle.segments.specs.Masks.{masksOf, ored, merged, filled}
@@ -112,7 +112,7 @@ library =
     ∷ []
 
 abbrev settings : Settings
-settings = record { rules = 0; check = true; minimum = 3; skip = Never; stretch = record { start = 0; len = 0 } }
+settings = record { rules = 0; edition = 1; check = true; minimum = 3; skip = Never; stretch = record { start = 0; len = 0 } }
 
 -- lent for it: one number more than a row for each stage, so that what is left over can be seen to be zero
 abbrev lent : Lent
@@ -146,7 +146,7 @@ pub whole : (run image library settings lent ≡ outcome)
     × (printed library (stages image library settings .lines)
     ≡ text "Address | Name                 | Description\n0x0001    ?C?LADD                long (32-bit) addition\n")
 unfolding leading keep joined fold any all placeOf from numbered insert sorted total same before view matchesAt matches shown target
-    repeat frameAt expected recordOf ending definitionOf definitionAt fixupAt definitionsAt fixupsAt sectionAt sectionsAt moduleAt libraryAt file
+    repeat frameAt expected recordSum expectedBy recordBy ending definitionOf definitionAt fixupAt definitionsBy fixupsBy sectionBy sectionsBy moduleBy libraryBy fileRead fileBy
     kept named fixupRefusal contentRefusal tests collectRefusal masksOf ored merged filled referencesOf symbolsOf keptSegment absoluteSegment
     moduleSegments collect segmentRowsFrom segmentNumbers referenceNumbers symbolNumbers patternBytes patternMasks positionsOf allMatches isValid
     holds notes note noted symbolsAt place placed newestFrom nameBucket linkedFrom placedNumbers notedNumbers bestGrade best grade gradedAt linesAt leftovers

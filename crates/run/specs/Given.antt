@@ -1,14 +1,16 @@
--- Document 01's table of refusals, as conditions on what goes into a run. This file states them; Refused.antt proves them.
+-- Document 01's table of refusals, and those that later requests add, as conditions on what goes into a run. This file states them; Refused.antt proves them.
 use Prim.Native.Nat.{ℕ, _+_, _*_, _≤_, _<_}
 use mathlib.Core.Logic.{_⊎_}
 use mathlib.Core.List.{List}
 use lib.ListN.{length}
 use Rattle.lent.specs.declared.refusal.Refusal.{Refusal}
-use Rattle.lent.specs.declared.refusal.Refusal.the-variants.{RuleSet, ImageTooLong, LibraryTooLong, StretchPastEnd, NoModule, BodyPastEnd, LengthZero, NamesDiffer, TooFewRows, UnknownKind, UnknownBlock, ContentPastSegment, NoKeptSegment}
+use Rattle.lent.specs.declared.refusal.Refusal.the-variants.{RuleSet, ImageTooLong, LibraryTooLong, StretchPastEnd, NoModule, BodyPastEnd, LengthZero, NamesDiffer, TooFewRows, UnknownKind, UnknownBlock, ContentPastSegment, NoKeptSegment, WrongSum, LeftOver, OtherEdition}
 use Rattle.lent.specs.FirstOf.{Quiet, First}
 use Rattle.image.specs.View.{view}
-use Rattle.omf51.specs.File.{file, modulesIn}
-use Rattle.omf51.specs.Reaches.{NothingRead, BodyPasses, LengthIsZero, NamesApart, AllRead}
+use Rattle.omf51.specs.declared.Edition.{Edition}
+use Rattle.omf51.specs.Record.{editionOf}
+use Rattle.omf51.specs.File.{modulesIn}
+use Rattle.omf51.specs.Reaches.{NothingRead, BodyPasses, LengthIsZero, NamesApart, SumIsWrong, LeavesOver, FileRead}
 use Rattle.segments.specs.Refuse.{Test, testRefusal, tests}
 use Rattle.segments.specs.RefuseLaws.{KindAbove, BlockAbove, PastSegment, NowhereKept}
 use Rattle.segments.specs.SegmentRows.{segmentWidth, referenceWidth, symbolWidth}
@@ -16,7 +18,7 @@ use Rattle.search_rules.specs.SearchRows.{placedWidth, notedWidth}
 use Rattle.listing_rules.specs.Listing.{lineWidth}
 use Rattle.run.specs.declared.Settings.{Settings}
 use Rattle.run.specs.declared.Counts.{Counts}
-use Rattle.run.specs.Run.{Lent, stages, counted}
+use Rattle.run.specs.Run.{Lent, libraryRead, stages, counted}
 
 -- n rows of a width do not fit into what was lent
 abbrev pub Over : ℕ → List ℕ → ℕ → Type 0
@@ -36,9 +38,14 @@ SearchOver lent c = Over placedWidth (lent .placed) (c .placed) ⊎ Over notedWi
 abbrev pub ListOver : Lent → Counts → Type 0
 ListOver lent c = Over lineWidth (lent .lines) (c .lines)
 
--- none of refusals 1 to 4 applies
+-- the edition is not 1 or 2
+abbrev pub NoEdition : ℕ → Type 0
+NoEdition n = (n < 1) ⊎ (2 < n)
+
+-- none of refusals 1, 30, 2, 3 and 4 applies
 pub record Accepted (image library : List ℕ) (s : Settings) : Type 0 where
   pub rule-set : s .rules ≤ 1
+  pub edition : NoEdition (s .edition) → ⊥
   pub image-fits : length image ≤ 65536
   pub library-fits : length library ≤ 1048576
   pub stretch-fits : s .stretch .start + s .stretch .len ≤ length image
@@ -48,33 +55,40 @@ module _ (image library : List ℕ) (s : Settings) (lent : Lent) where
   abbrev pub counts : Counts
   counts = counted (stages (view image (s .stretch)) library s)
 
-  -- what comes before the tests of 10 to 13: none of 1 to 4, none of 5 to 8, no 9 for the collection
+  -- the library, in the edition of the settings
+  abbrev pub e : Edition
+  e = editionOf (s .edition)
+
+  -- what comes before the tests of 10 to 13: the settings are accepted, the file is read, no 9 for the collection
   pub record Reached : Type 0 where
     pub accepted : Accepted image library s
-    pub all-read : AllRead library
+    pub all-read : FileRead e library
     pub room : CollectionOver lent counts → ⊥
 
   -- the first test in file order that refuses does so in this case
   abbrev pub FirstTest : (Test → Type 0) → Type 0
-  FirstTest Case = First testRefusal Case (tests (modulesIn (file library)))
+  FirstTest Case = First testRefusal Case (tests (modulesIn (libraryRead library s)))
 
   -- 9 for the collection; or, once none of 10 to 13 applies, for the search or the listing
   abbrev pub TooLittle : Type 0
   TooLittle =
-      (Accepted image library s × AllRead library × CollectionOver lent counts)
-      ⊎ (Reached × Quiet testRefusal (tests (modulesIn (file library))) × (SearchOver lent counts ⊎ ListOver lent counts))
+      (Accepted image library s × FileRead e library × CollectionOver lent counts)
+      ⊎ (Reached × Quiet testRefusal (tests (modulesIn (libraryRead library s))) × (SearchOver lent counts ⊎ ListOver lent counts))
 
-  -- DOCUMENT 01'S TABLE, "Given exactly when"
+  -- DOCUMENT 01'S TABLE, "Given exactly when", with what later requests add
   abbrev pub Given : Refusal → Type 0
   Given RuleSet = 1 < s .rules
-  Given ImageTooLong = (s .rules ≤ 1) × (65536 < length image)
-  Given LibraryTooLong = (s .rules ≤ 1) × (length image ≤ 65536) × (1048576 < length library)
+  Given OtherEdition = (s .rules ≤ 1) × NoEdition (s .edition)
+  Given ImageTooLong = (s .rules ≤ 1) × (NoEdition (s .edition) → ⊥) × (65536 < length image)
+  Given LibraryTooLong = (s .rules ≤ 1) × (NoEdition (s .edition) → ⊥) × (length image ≤ 65536) × (1048576 < length library)
   Given StretchPastEnd =
-      (s .rules ≤ 1) × (length image ≤ 65536) × (length library ≤ 1048576) × (length image < s .stretch .start + s .stretch .len)
-  Given NoModule = Accepted image library s × NothingRead library
-  Given BodyPastEnd = Accepted image library s × BodyPasses library
-  Given LengthZero = Accepted image library s × LengthIsZero library
-  Given NamesDiffer = Accepted image library s × NamesApart library
+      (s .rules ≤ 1) × (NoEdition (s .edition) → ⊥) × (length image ≤ 65536) × (length library ≤ 1048576) × (length image < s .stretch .start + s .stretch .len)
+  Given NoModule = Accepted image library s × NothingRead e library
+  Given BodyPastEnd = Accepted image library s × BodyPasses e library
+  Given LengthZero = Accepted image library s × LengthIsZero e library
+  Given NamesDiffer = Accepted image library s × NamesApart e library
+  Given WrongSum = Accepted image library s × SumIsWrong e library
+  Given LeftOver = Accepted image library s × LeavesOver e library
   Given TooFewRows = TooLittle
   Given UnknownKind = Reached × FirstTest KindAbove
   Given UnknownBlock = Reached × FirstTest BlockAbove
@@ -84,6 +98,6 @@ module _ (image library : List ℕ) (s : Settings) (lent : Lent) where
   -- 0: done, where none of them applies
   pub record NothingRefused : Type 0 where
     pub reached : Reached
-    pub tested : Quiet testRefusal (tests (modulesIn (file library)))
+    pub tested : Quiet testRefusal (tests (modulesIn (libraryRead library s)))
     pub searched : SearchOver lent counts → ⊥
     pub listed : ListOver lent counts → ⊥

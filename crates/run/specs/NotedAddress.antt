@@ -21,7 +21,7 @@ use Rattle.omf51.specs.declared.Definition.{Definition}
 use Rattle.omf51.specs.declared.Definition.the-variants.{Segment, Public, External}
 use Rattle.omf51.specs.declared.Fixup.{Fixup}
 use Rattle.omf51.specs.Module.{Section, Module}
-use Rattle.omf51.specs.File.{file, modulesIn}
+use Rattle.omf51.specs.File.{modulesIn}
 use Rattle.segments.specs.declared.Goal.{Goal}
 use Rattle.segments.specs.declared.Goal.the-variants as Goal
 use Rattle.segments.specs.declared.Reference.{Reference}
@@ -36,7 +36,7 @@ use Rattle.listing_rules.specs.declared.Line.{Line}
 use Rattle.listing_rules.specs.Listing.{notedLine}
 use Rattle.listing_rules.specs.CompleteLaws.{noted-line}
 use Rattle.run.specs.declared.Settings.{Settings}
-use Rattle.run.specs.Run.{askedOf, stages}
+use Rattle.run.specs.Run.{libraryRead, askedOf, stages}
 use Rattle.run.specs.Own.{ByFixup, RefersTo, Referred}
 
 -- the first that passes a test is in the list, and passes
@@ -171,7 +171,7 @@ module _ (library cells : List ℕ) (a : Asked) (modules : List Module) where
 
 -- GRADE 0: the name beside an address is referred to there
 pub noted-address : (image library : List ℕ) (s : Settings) (l : Line) → l among stages (view image (s .stretch)) library s .lines → l .grade ≡ 0
-    → Referred library (view image (s .stretch)) (askedOf s) (modulesIn (file library)) (l .name) (l .address)
+    → Referred library (view image (s .stretch)) (askedOf s) (modulesIn (libraryRead library s)) (l .name) (l .address)
 unfolding stages
 noted-address image library s l i h = go (noted-line library cells a (s .skip) gs (placed library cells a gs) (noted library cells a gs) l i h)
   where
@@ -182,7 +182,7 @@ noted-address image library s l i h = go (noted-line library cells a (s .skip) g
     a = askedOf s
 
     gs : List Collected
-    gs = collect (a .rules) library (modulesIn (file library))
+    gs = collect (a .rules) library (modulesIn (libraryRead library s))
 
-    go : (n : Noting) × (n among noted library cells a gs) × ((n .valid ≡ true) × (l ≡ notedLine n)) → Referred library cells a (modulesIn (file library)) (l .name) (l .address)
-    go (n, j, (v, e)) = rw e (referred library cells a (modulesIn (file library)) n j v)
+    go : (n : Noting) × (n among noted library cells a gs) × ((n .valid ≡ true) × (l ≡ notedLine n)) → Referred library cells a (modulesIn (libraryRead library s)) (l .name) (l .address)
+    go (n, j, (v, e)) = rw e (referred library cells a (modulesIn (libraryRead library s)) n j v)

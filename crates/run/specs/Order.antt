@@ -1,26 +1,22 @@
 -- The order of the refusals: a refusal comes from the stage that can give it, with none before. Assumes nothing.
-use Prim.Native.Nat.{ℕ, _≤_}
-use mathlib.Core.Path.{_≡_, refl}
+use Prim.Native.Nat.{ℕ}
+use mathlib.Core.Path.{_≡_, refl, sym, ap, _∙_}
 use mathlib.Core.Logic.{_⊎_, inl, inr, _↔_}
-use mathlib.Core.Bool.{Bool, true, _||_}
+use mathlib.Core.Bool.{Bool, true, not, false≢true}
 use mathlib.Core.List.{List, [], _∷_, _++_, map}
 use mathlib.Core.Option.{Option, none, some}
-use native.Mathlib.Omega.{arith}
-use borrow.Author.Tests.{ltb-true}
-use lib.Dec.{ltb}
 use Rattle.lent.specs.declared.refusal.Refusal.{Refusal}
 use Rattle.lent.specs.Choice.{orElse, leading}
-use Rattle.lent.specs.ChoiceLaws.{both, either}
+use Rattle.lent.specs.ChoiceLaws.{both}
 use Rattle.lent.specs.FirstOf.{Quiet, none≢some}
 use Rattle.lent.specs.Lists.{all}
 use Rattle.lent.specs.Refusals.{refusalNumber}
 
--- what a stage comes to, and the numbers that it can refuse with
+-- what a stage comes to, and whether it can refuse with a number
 pub record Stage : Type 0 where
   pub out : Option Refusal
-  pub low : ℕ
-  pub high : ℕ
-  pub ranged : (r : Refusal) → out ≡ some r → (low ≤ refusalNumber r) × (refusalNumber r ≤ high)
+  pub can : ℕ → Bool
+  pub told : (r : Refusal) → out ≡ some r → can (refusalNumber r) ≡ true
 
 -- the first refusal of some stages
 abbrev pub firstOf : List Stage → Option Refusal
@@ -40,17 +36,13 @@ silent-both (x ∷ xs) ys =
 
 -- a number that a stage never refuses with
 abbrev pub beyond : ℕ → Stage → Bool
-beyond n g = ltb n (g .low) || ltb (g .high) n
+beyond n g = not (g .can n)
 
 abbrev pub Beyond : Refusal → List Stage → Type 0
 Beyond r stages = all (beyond (refusalNumber r)) stages ≡ true
 
 never : (r : Refusal) (g : Stage) → beyond (refusalNumber r) g ≡ true → g .out ≡ some r → ⊥
-never r g e q = go (either (ltb (refusalNumber r) (g .low)) (ltb (g .high) (refusalNumber r)) e)
-  where
-    go : (ltb (refusalNumber r) (g .low) ≡ true) ⊎ (ltb (g .high) (refusalNumber r) ≡ true) → ⊥
-    go (inl l) = omega (arith, ltb-true (refusalNumber r) (g .low) l, g .ranged r q .0)
-    go (inr l) = omega (arith, ltb-true (g .high) (refusalNumber r) l, g .ranged r q .1)
+never r g e q = false≢true (ap not (sym (g .told r q)) ∙ e)
 
 -- one after another: this stage, or nothing here and then a later one
 pub or-else : (g : Stage) (rest : List Stage) (r : Refusal)

@@ -18,7 +18,7 @@ use Rattle.image.specs.declared.fixup.Rules.the-variants.{Documented}
 use Rattle.image.specs.fixup.Target.{rulesOf}
 use Rattle.omf51.specs.declared.Definition.{Definition}
 use Rattle.omf51.specs.Module.{Section, Module}
-use Rattle.omf51.specs.File.{file, modulesIn}
+use Rattle.omf51.specs.File.{modulesIn}
 use Rattle.segments.specs.declared.Symbol.{Symbol}
 use Rattle.segments.specs.Ids.{kept, idOf}
 use Rattle.segments.specs.Collect.{Collected, dataOf, dataMasks, keptSegment, absoluteId, insideOf, symbolBase, absoluteSegment, collect}
@@ -32,7 +32,7 @@ use Rattle.listing_rules.specs.declared.Skip.{Skip}
 use Rattle.listing_rules.specs.Listing.{listing}
 use Rattle.listing_rules.specs.CompleteLaws.{graded-line}
 use Rattle.run.specs.declared.Settings.{Settings}
-use Rattle.run.specs.Run.{askedOf, stages}
+use Rattle.run.specs.Run.{libraryRead, askedOf, stages}
 use Rattle.run.specs.Own.{Reason, OfKept, OfAbsolute, Own}
 
 module _ (library cells : List ℕ) (check : Bool) (minimum : ℕ) (modules : List Module) (m : Module) (i : m among modules) (number : ℕ) where
@@ -141,7 +141,7 @@ own-line check minimum skip library cells modules rules e = rw e λ l i h.
 
 -- OWN ADDRESS: each line graded 1 to 3, under rule set 1
 pub own-address : (image library : List ℕ) (s : Settings) → s .rules ≡ 1 → (l : Line) → l among stages (view image (s .stretch)) library s .lines → 1 ≤ l .grade
-    → Own library (view image (s .stretch)) (askedOf s) (modulesIn (file library)) (l .name) (l .address)
+    → Own library (view image (s .stretch)) (askedOf s) (modulesIn (libraryRead library s)) (l .name) (l .address)
 unfolding stages
 own-address image library s e =
-    own-line (s .check) (s .minimum) (s .skip) library (view image (s .stretch)) (modulesIn (file library)) (rulesOf (s .rules)) (rw e)
+    own-line (s .check) (s .minimum) (s .skip) library (view image (s .stretch)) (modulesIn (libraryRead library s)) (rulesOf (s .rules)) (rw e)

@@ -6,27 +6,29 @@ use mathlib.Core.Bool.{Bool, true, false, _||_, false≢true}
 use mathlib.Core.List.{List, [], _∷_, _++_}
 use mathlib.Core.Option.{Option, none, some}
 use native.Mathlib.Omega.{arith}
+use borrow.Author.Tests.{ltb-true, lt-ltb}
 use lib.Dec.{ltb}
 use lib.ListN.{length}
 use Rattle.lent.specs.declared.refusal.Refusal.{Refusal}
-use Rattle.lent.specs.declared.refusal.Refusal.the-variants.{RuleSet, ImageTooLong, LibraryTooLong, StretchPastEnd, NoModule, BodyPastEnd, LengthZero, NamesDiffer, TooFewRows, UnknownKind, UnknownBlock, ContentPastSegment, NoKeptSegment}
+use Rattle.lent.specs.declared.refusal.Refusal.the-variants.{RuleSet, ImageTooLong, LibraryTooLong, StretchPastEnd, NoModule, BodyPastEnd, LengthZero, NamesDiffer, TooFewRows, UnknownKind, UnknownBlock, ContentPastSegment, NoKeptSegment, WrongSum, LeftOver, OtherEdition}
 use Rattle.lent.specs.Choice.{when, leading}
 use Rattle.lent.specs.FirstOf.{Quiet, none≢some, leading-none, none-leading}
 use Rattle.lent.specs.Lists.{all}
 use Rattle.lent.specs.Refusals.{refusalNumber}
-use Rattle.lent.specs.RefusalLaws.{number-tells, same-number, number-range}
+use Rattle.lent.specs.RefusalLaws.{number-tells, same-number, numbered}
 use Rattle.image.specs.View.{view}
 use Rattle.image.specs.ViewLaws.{view-length}
-use Rattle.omf51.specs.File.{file, modulesIn}
-use Rattle.omf51.specs.Reaches.{AllRead, Ends}
+use Rattle.omf51.specs.declared.Edition.{Edition}
+use Rattle.omf51.specs.File.{modulesIn}
+use Rattle.omf51.specs.Reaches.{FileRead, Ends}
 use Rattle.omf51.specs.OnePath.{reading-exactly}
 use Rattle.segments.specs.Refuse.{Test, testRefusal, tests, collectRefusal}
 use Rattle.segments.specs.RefuseLaws.{KindAbove, BlockAbove, PastSegment, NowhereKept, gives-10, gives-11, gives-12, gives-13, collect-gives}
 use Rattle.listing_rules.specs.Listing.{lineWidth}
 use Rattle.run.specs.declared.Settings.{Settings}
-use Rattle.run.specs.Run.{Lent, Yield, stages, counted, collectOver, searchOver, listOver, refusals, outcomeOf, runSeen, run, numberOf}
+use Rattle.run.specs.Run.{Lent, Yield, libraryRead, stages, counted, collectOver, searchOver, listOver, otherEdition, refusals, outcomeOf, runSeen, run, numberOf}
 use Rattle.run.specs.Order.{Stage, firstOf, Silent, silent-both, Beyond, or-else, after-none, at-stage}
-use Rattle.run.specs.Given.{CollectionOver, SearchOver, ListOver, Accepted, Reached, FirstTest, TooLittle, Given, NothingRefused}
+use Rattle.run.specs.Given.{CollectionOver, SearchOver, ListOver, NoEdition, Accepted, e, Reached, FirstTest, TooLittle, Given, NothingRefused}
 use Rattle.run.specs.StageLaws.{when-some, when-none, when-stage, reading-stage, collecting-stage, over, or-true-iff, not-over, collection-over, search-over, less, not-less}
 
 module _ (image library : List ℕ) (s : Settings) (lent : Lent) where
@@ -36,12 +38,18 @@ module _ (image library : List ℕ) (s : Settings) (lent : Lent) where
   abbrev yield : Yield
   yield = stages cells library s
 
+  abbrev edition : Edition
+  edition = e image library s lent
+
   abbrev number : ℕ
   number = numberOf (run image library s lent .answer)
 
   -- the stages of a run, in their order
   abbrev rules-stage : Stage
   rules-stage = when-stage (ltb 1 (s .rules)) RuleSet
+
+  abbrev edition-stage : Stage
+  edition-stage = when-stage (otherEdition (s .edition)) OtherEdition
 
   abbrev image-stage : Stage
   image-stage = when-stage (ltb 65536 (length cells)) ImageTooLong
@@ -53,13 +61,13 @@ module _ (image library : List ℕ) (s : Settings) (lent : Lent) where
   stretch-stage = when-stage (ltb (length cells) (s .stretch .start + s .stretch .len)) StretchPastEnd
 
   abbrev settings-stages : List Stage
-  settings-stages = rules-stage ∷ image-stage ∷ library-stage ∷ stretch-stage ∷ []
+  settings-stages = rules-stage ∷ edition-stage ∷ image-stage ∷ library-stage ∷ stretch-stage ∷ []
 
   abbrev room-stage : Stage
   room-stage = when-stage (collectOver lent (counted yield)) TooFewRows
 
   abbrev tests-stage : Stage
-  tests-stage = collecting-stage (modulesIn (file library))
+  tests-stage = collecting-stage (modulesIn (libraryRead library s))
 
   abbrev row-stages : List Stage
   row-stages = when-stage (searchOver lent (counted yield)) TooFewRows ∷ when-stage (listOver lent (counted yield)) TooFewRows ∷ []
@@ -68,10 +76,10 @@ module _ (image library : List ℕ) (s : Settings) (lent : Lent) where
   later-stages = room-stage ∷ tests-stage ∷ row-stages
 
   abbrev reading-stages : List Stage
-  reading-stages = settings-stages ++ reading-stage library ∷ []
+  reading-stages = settings-stages ++ reading-stage edition library ∷ []
 
   abbrev all-stages : List Stage
-  all-stages = settings-stages ++ reading-stage library ∷ later-stages
+  all-stages = settings-stages ++ reading-stage edition library ∷ later-stages
 
   -- the number is that of the first stage that refuses, and 0 if none does
   number-is : (r : Refusal) → (number ≡ refusalNumber r) ↔ (firstOf all-stages ≡ some r)
@@ -79,7 +87,7 @@ module _ (image library : List ℕ) (s : Settings) (lent : Lent) where
   number-is r = go (leading (refusals cells library s lent (counted yield)))
     where
       go : (o : Option Refusal) → (numberOf (outcomeOf library o yield lent .answer) ≡ refusalNumber r) ↔ (o ≡ some r)
-      go none = ((λ e. absurd (omega (arith, number-range r .0))), λ e. absurd (none≢some e))
+      go none = ((λ e. absurd (omega (arith, numbered r))), λ e. absurd (none≢some e))
       go (some q) = ((λ e. ap some (number-tells q r e)), λ e. same-number e)
 
   done-is : (number ≡ 0) ↔ Silent all-stages
@@ -88,11 +96,17 @@ module _ (image library : List ℕ) (s : Settings) (lent : Lent) where
     where
       go : (o : Option Refusal) → (numberOf (outcomeOf library o yield lent .answer) ≡ 0) ↔ (o ≡ none)
       go none = ((λ e. refl), λ e. refl)
-      go (some q) = ((λ e. absurd (omega (arith, number-range q .0))), λ e. absurd (none≢some (sym e)))
+      go (some q) = ((λ e. absurd (omega (arith, numbered q))), λ e. absurd (none≢some (sym e)))
 
   -- each stage that does not refuse, in words
   rules-fine : (rules-stage .out ≡ none) ↔ (s .rules ≤ 1)
   rules-fine = not-less 1 (s .rules) RuleSet
+
+  edition-other : (otherEdition (s .edition) ≡ true) ↔ NoEdition (s .edition)
+  edition-other = or-true-iff (ltb (s .edition) 1) (ltb 2 (s .edition)) (ltb-true (s .edition) 1, lt-ltb (s .edition) 1) (ltb-true 2 (s .edition), lt-ltb 2 (s .edition))
+
+  edition-fine : (edition-stage .out ≡ none) ↔ (NoEdition (s .edition) → ⊥)
+  edition-fine = Iff·trans (when-none (otherEdition (s .edition)) OtherEdition) (not-over (otherEdition (s .edition)) edition-other)
 
   image-fine : (image-stage .out ≡ none) ↔ (length image ≤ 65536)
   image-fine = rw (view-length image (s .stretch)) (not-less 65536 (length image) ImageTooLong)
@@ -108,9 +122,9 @@ module _ (image library : List ℕ) (s : Settings) (lent : Lent) where
       Iff·trans (when-none (collectOver lent (counted yield)) TooFewRows)
       (not-over (collectOver lent (counted yield)) (collection-over lent (counted yield)))
 
-  tests-fine : (tests-stage .out ≡ none) ↔ Quiet testRefusal (tests (modulesIn (file library)))
+  tests-fine : (tests-stage .out ≡ none) ↔ Quiet testRefusal (tests (modulesIn (libraryRead library s)))
   unfolding collectRefusal
-  tests-fine = (leading-none testRefusal (tests (modulesIn (file library))), none-leading testRefusal (tests (modulesIn (file library))))
+  tests-fine = (leading-none testRefusal (tests (modulesIn (libraryRead library s))), none-leading testRefusal (tests (modulesIn (libraryRead library s))))
 
   rows-fine : Silent row-stages ↔ ((SearchOver lent (counted yield) → ⊥) × (ListOver lent (counted yield) → ⊥))
   rows-fine =
@@ -124,17 +138,21 @@ module _ (image library : List ℕ) (s : Settings) (lent : Lent) where
   accepted = (
     (λ q. record {
       rule-set = rules-fine .0 (q .0);
-      image-fits = image-fine .0 (q .1 .0);
-      library-fits = library-fine .0 (q .1 .1 .0);
-      stretch-fits = stretch-fine .0 (q .1 .1 .1 .0);
+      edition = edition-fine .0 (q .1 .0);
+      image-fits = image-fine .0 (q .1 .1 .0);
+      library-fits = library-fine .0 (q .1 .1 .1 .0);
+      stretch-fits = stretch-fine .0 (q .1 .1 .1 .1 .0);
     }),
-    λ a. (rules-fine .1 (a .rule-set), (image-fine .1 (a .image-fits), (library-fine .1 (a .library-fits), (stretch-fine .1 (a .stretch-fits), tt)))),
+    λ a. (
+      rules-fine .1 (a .rule-set),
+      (edition-fine .1 (a .edition), (image-fine .1 (a .image-fits), (library-fine .1 (a .library-fits), (stretch-fine .1 (a .stretch-fits), tt)))),
+    ),
   )
 
-  all-read : Silent reading-stages ↔ (Accepted image library s × AllRead library)
+  all-read : Silent reading-stages ↔ (Accepted image library s × FileRead edition library)
   all-read =
-      let read = reading-exactly library none in
-      Iff·trans (silent-both settings-stages (reading-stage library ∷ [])) (Iff·and accepted ((λ q. read .0 (q .0)), λ h. (read .1 h, tt)))
+      let read = reading-exactly edition library none in
+      Iff·trans (silent-both settings-stages (reading-stage edition library ∷ [])) (Iff·and accepted ((λ q. read .0 (q .0)), λ h. (read .1 h, tt)))
 
   reached : Silent (reading-stages ++ room-stage ∷ []) ↔ Reached image library s lent
   reached =
@@ -180,7 +198,7 @@ module _ (image library : List ℕ) (s : Settings) (lent : Lent) where
       here : (room-stage .out ≡ some TooFewRows) ↔ CollectionOver lent (counted yield)
       here = Iff·trans (when-some (collectOver lent (counted yield)) TooFewRows) (collection-over lent (counted yield))
 
-      there : Accepted image library s × AllRead library → (room-stage .out ≡ some TooFewRows) ⊎ ((room-stage .out ≡ none) × (firstOf rest ≡ some TooFewRows))
+      there : Accepted image library s × FileRead edition library → (room-stage .out ≡ some TooFewRows) ⊎ ((room-stage .out ≡ none) × (firstOf rest ≡ some TooFewRows))
           → TooLittle image library s lent
       there h (inl k) = inl (h .0, h .1, here .0 k)
       there h (inr k) =
@@ -192,52 +210,60 @@ module _ (image library : List ℕ) (s : Settings) (lent : Lent) where
       back (inr (r, q, o)) =
           first .1 (all-read .1 (r .accepted, r .all-read), choice .1 (inr (room-fine .1 (r .room), later .1 ((tests-fine .1 q, tt), row-over .1 o))))
 
-  -- 1 to 4; 5 to 8; 10 to 13
+  -- 1, 30, 2, 3 and 4; 5 to 8, 14 and 15; 10 to 13
   by-settings : (r : Refusal) (before : List Stage) (g : Stage) (later : List Stage) → before ++ g ∷ later ≡ all-stages → Beyond r before → Beyond r later
       → (number ≡ refusalNumber r) ↔ (Silent before × (g .out ≡ some r))
   by-settings r before g later q e f = Iff·trans (number-is r) (rw q at (at-stage r before g later e f))
 
-  by-reading : (r : Refusal) → Beyond r settings-stages → Beyond r later-stages → (number ≡ refusalNumber r) ↔ (Accepted image library s × Ends library (some r))
+  by-reading : (r : Refusal) → Beyond r settings-stages → Beyond r later-stages → (number ≡ refusalNumber r) ↔ (Accepted image library s × Ends edition library (some r))
   by-reading r e f =
       Iff·trans (number-is r)
-      (Iff·trans (at-stage r settings-stages (reading-stage library) later-stages e f) (Iff·and accepted (reading-exactly library (some r))))
+      (Iff·trans (at-stage r settings-stages (reading-stage edition library) later-stages e f) (Iff·and accepted (reading-exactly edition library (some r))))
 
   by-tests : (r : Refusal) (P : Test → Type 0) → ((t : Test) → (testRefusal t ≡ some r) ↔ P t) → Beyond r (reading-stages ++ room-stage ∷ [])
       → Beyond r row-stages
       → (number ≡ refusalNumber r) ↔ (Reached image library s lent × FirstTest image library s lent P)
   by-tests r P iff e f =
       Iff·trans (number-is r)
-      (Iff·trans (at-stage r (reading-stages ++ room-stage ∷ []) tests-stage row-stages e f) (Iff·and reached (collect-gives (modulesIn (file library)) P iff)))
+      (Iff·trans (at-stage r (reading-stages ++ room-stage ∷ []) tests-stage row-stages e f) (Iff·and reached (collect-gives (modulesIn (libraryRead library s)) P iff)))
 
   -- EACH REFUSAL EXACTLY IN ITS CASE
   pub given-exactly : (r : Refusal) → (numberOf (run image library s lent .answer) ≡ refusalNumber r) ↔ Given image library s lent r
   unfolding all
   given-exactly RuleSet =
       let this = less 1 (s .rules) RuleSet in
-      Iff·trans (by-settings RuleSet [] rules-stage (image-stage ∷ library-stage ∷ stretch-stage ∷ reading-stage library ∷ later-stages) refl refl refl)
+      Iff·trans (by-settings RuleSet [] rules-stage (edition-stage ∷ image-stage ∷ library-stage ∷ stretch-stage ∷ reading-stage edition library ∷ later-stages) refl refl refl)
       ((λ h. this .0 (h .1)), λ h. (tt, this .1 h))
+  given-exactly OtherEdition =
+      let this = Iff·trans (when-some (otherEdition (s .edition)) OtherEdition) edition-other in
+      Iff·trans (by-settings OtherEdition (rules-stage ∷ []) edition-stage (image-stage ∷ library-stage ∷ stretch-stage ∷ reading-stage edition library ∷ later-stages) refl refl refl)
+      ((λ h. (rules-fine .0 (h .0 .0), this .0 (h .1))), λ h. ((rules-fine .1 (h .0), tt), this .1 (h .1)))
   given-exactly ImageTooLong =
       let this : (image-stage .out ≡ some ImageTooLong) ↔ (65536 < length image) =
       rw (view-length image (s .stretch)) (less 65536 (length image) ImageTooLong) in
-      Iff·trans (by-settings ImageTooLong (rules-stage ∷ []) image-stage (library-stage ∷ stretch-stage ∷ reading-stage library ∷ later-stages) refl refl refl)
-      ((λ h. (rules-fine .0 (h .0 .0), this .0 (h .1))), λ h. ((rules-fine .1 (h .0), tt), this .1 (h .1)))
+      Iff·trans (by-settings ImageTooLong (rules-stage ∷ edition-stage ∷ []) image-stage (library-stage ∷ stretch-stage ∷ reading-stage edition library ∷ later-stages) refl refl refl) (
+        (λ h. (rules-fine .0 (h .0 .0), edition-fine .0 (h .0 .1 .0), this .0 (h .1))),
+        λ h. ((rules-fine .1 (h .0), (edition-fine .1 (h .1), tt)), this .1 (h .2)),
+      )
   given-exactly LibraryTooLong =
       let this = less 1048576 (length library) LibraryTooLong in
-      Iff·trans (by-settings LibraryTooLong (rules-stage ∷ image-stage ∷ []) library-stage (stretch-stage ∷ reading-stage library ∷ later-stages) refl refl refl) (
-        (λ h. (rules-fine .0 (h .0 .0), image-fine .0 (h .0 .1 .0), this .0 (h .1))),
-        λ h. ((rules-fine .1 (h .0), (image-fine .1 (h .1), tt)), this .1 (h .2)),
+      Iff·trans (by-settings LibraryTooLong (rules-stage ∷ edition-stage ∷ image-stage ∷ []) library-stage (stretch-stage ∷ reading-stage edition library ∷ later-stages) refl refl refl) (
+        (λ h. (rules-fine .0 (h .0 .0), edition-fine .0 (h .0 .1 .0), image-fine .0 (h .0 .1 .1 .0), this .0 (h .1))),
+        λ h. ((rules-fine .1 (h .0), (edition-fine .1 (h .1), (image-fine .1 (h .2), tt))), this .1 (h .3)),
       )
   given-exactly StretchPastEnd =
       let this : (stretch-stage .out ≡ some StretchPastEnd) ↔ (length image < s .stretch .start + s .stretch .len) =
       rw (view-length image (s .stretch)) (less (length image) (s .stretch .start + s .stretch .len) StretchPastEnd) in
-      Iff·trans (by-settings StretchPastEnd (rules-stage ∷ image-stage ∷ library-stage ∷ []) stretch-stage (reading-stage library ∷ later-stages) refl refl refl) (
-        (λ h. (rules-fine .0 (h .0 .0), image-fine .0 (h .0 .1 .0), library-fine .0 (h .0 .1 .1 .0), this .0 (h .1))),
-        λ h. ((rules-fine .1 (h .0), (image-fine .1 (h .1), (library-fine .1 (h .2), tt))), this .1 (h .3)),
+      Iff·trans (by-settings StretchPastEnd (rules-stage ∷ edition-stage ∷ image-stage ∷ library-stage ∷ []) stretch-stage (reading-stage edition library ∷ later-stages) refl refl refl) (
+        (λ h. (rules-fine .0 (h .0 .0), edition-fine .0 (h .0 .1 .0), image-fine .0 (h .0 .1 .1 .0), library-fine .0 (h .0 .1 .1 .1 .0), this .0 (h .1))),
+        λ h. ((rules-fine .1 (h .0), (edition-fine .1 (h .1), (image-fine .1 (h .2), (library-fine .1 (h .3), tt)))), this .1 (h .4)),
       )
   given-exactly NoModule = by-reading NoModule refl refl
   given-exactly BodyPastEnd = by-reading BodyPastEnd refl refl
   given-exactly LengthZero = by-reading LengthZero refl refl
   given-exactly NamesDiffer = by-reading NamesDiffer refl refl
+  given-exactly WrongSum = by-reading WrongSum refl refl
+  given-exactly LeftOver = by-reading LeftOver refl refl
   given-exactly TooFewRows = Iff·trans (number-is TooFewRows) too-few
   given-exactly UnknownKind = by-tests UnknownKind KindAbove gives-10 refl refl
   given-exactly UnknownBlock = by-tests UnknownBlock BlockAbove gives-11 refl refl

@@ -3,17 +3,20 @@ use Prim.Native.Nat.{ℕ, _+_}
 use mathlib.Core.Bool.{Bool, _||_}
 use mathlib.Core.List.{List, [], _∷_}
 use mathlib.Core.Option.{Option, none, some}
-use lib.Dec.{leb, ltb}
+use lib.Dec.{ltb}
 use lib.ListN.{length}
 use Rattle.lent.specs.declared.refusal.Refusal.{Refusal}
-use Rattle.lent.specs.declared.refusal.Refusal.the-variants.{RuleSet, ImageTooLong, LibraryTooLong, StretchPastEnd, TooFewRows}
+use Rattle.lent.specs.declared.refusal.Refusal.the-variants.{RuleSet, ImageTooLong, LibraryTooLong, StretchPastEnd, TooFewRows, OtherEdition}
 use Rattle.lent.specs.Choice.{if_then_else_, when, leading}
 use Rattle.lent.specs.Lists.{total}
-use Rattle.lent.specs.Refusals.{refusalNumber}
+use Rattle.lent.specs.Refusals.{refusalNumber, zeroes}
 use Rattle.lent.specs.Rows.{zeros, padded, tooMany}
 use Rattle.image.specs.View.{view}
 use Rattle.image.specs.fixup.Target.{rulesOf}
-use Rattle.omf51.specs.File.{file, fileRefusal, modulesIn}
+use Rattle.omf51.specs.Record.{editionOf}
+use Rattle.omf51.specs.Module.{Module}
+use Rattle.omf51.specs.Reader.{ReadOutcome}
+use Rattle.omf51.specs.File.{fileBy, fileRefusal, modulesIn}
 use Rattle.segments.specs.Collect.{Collected, collect}
 use Rattle.segments.specs.Refuse.{collectRefusal}
 use Rattle.segments.specs.SegmentRows.{segmentWidth, referenceWidth, symbolWidth, segmentNumbers, referenceNumbers, symbolNumbers, patternBytes, patternMasks}
@@ -59,11 +62,15 @@ pub record Outcome : Type 0 where
 abbrev pub askedOf : Settings → Asked
 askedOf s = record { rules = rulesOf (s .rules); check = s .check; minimum = s .minimum }
 
+-- the library, read in the edition of the settings
+abbrev pub libraryRead : List ℕ → Settings → ReadOutcome (List Module)
+libraryRead library s = fileBy (editionOf (s .edition)) library
+
 -- the stages, one after another, on the cells of a view: reading and collecting, searching, listing
 unfoldable pub stages : List ℕ → List ℕ → Settings → Yield
 stages cells library s =
     let a : Asked = askedOf s in
-    let segments = collect (a .rules) library (modulesIn (file library)) in
+    let segments = collect (a .rules) library (modulesIn (libraryRead library s)) in
     let p = placed library cells a segments in
     let n = noted library cells a segments in
     record { segments = segments; placed = p; noted = n; lines = listing library cells a (s .skip) segments p n }
@@ -95,16 +102,21 @@ searchOver lent c = tooMany placedWidth (lent .placed) (c .placed) || tooMany no
 abbrev pub listOver : Lent → Counts → Bool
 listOver lent c = tooMany lineWidth (lent .lines) (c .lines)
 
+-- the edition is not 1 or 2
+abbrev pub otherEdition : ℕ → Bool
+otherEdition n = ltb n 1 || ltb 2 n
+
 -- the refusals of a run in their order, of which the first that applies counts; the view is as long as the image
 unfoldable pub refusals : List ℕ → List ℕ → Settings → Lent → Counts → List (Option Refusal)
 refusals cells library s lent c =
     when (ltb 1 (s .rules)) RuleSet
+    ∷ when (otherEdition (s .edition)) OtherEdition
     ∷ when (ltb 65536 (length cells)) ImageTooLong
     ∷ when (ltb 1048576 (length library)) LibraryTooLong
     ∷ when (ltb (length cells) (s .stretch .start + s .stretch .len)) StretchPastEnd
-    ∷ fileRefusal (file library)
+    ∷ fileRefusal (libraryRead library s)
     ∷ when (collectOver lent c) TooFewRows
-    ∷ collectRefusal (modulesIn (file library))
+    ∷ collectRefusal (modulesIn (libraryRead library s))
     ∷ when (searchOver lent c) TooFewRows
     ∷ when (listOver lent c) TooFewRows
     ∷ []
@@ -135,9 +147,9 @@ filledWith library y lent = record {
   lines = padded (length (lent .lines)) (lineNumbers (y .lines));
 }
 
--- what a refusal leaves: 1 to 8 write nothing, 9 to 13 set all lent lists to zero
+-- what a refusal leaves: 9 to 13 set all lent lists to zero, every other writes nothing
 abbrev pub leftBy : Refusal → Lent → Lent
-leftBy r lent = if leb (refusalNumber r) 8 then lent else zeroed lent
+leftBy r lent = if zeroes r then zeroed lent else lent
 
 -- the outcome of a run with a refusal or without
 abbrev pub outcomeOf : List ℕ → Option Refusal → Yield → Lent → Outcome

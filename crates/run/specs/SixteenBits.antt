@@ -11,7 +11,7 @@ use Rattle.image.specs.declared.fixup.Rules.{Rules}
 use Rattle.image.specs.declared.fixup.Rules.the-variants.{Documented}
 use Rattle.image.specs.fixup.Target.{rulesOf, target}
 use Rattle.image.specs.fixup.TargetLaws.{target-within}
-use Rattle.omf51.specs.File.{file, modulesIn}
+use Rattle.omf51.specs.File.{modulesIn}
 use Rattle.segments.specs.Collect.{Collected, collect}
 use Rattle.search_rules.specs.declared.Asked.{Asked}
 use Rattle.search_rules.specs.Search.{Placing, Noting, placed, noted}
@@ -20,7 +20,7 @@ use Rattle.listing_rules.specs.declared.Line.{Line}
 use Rattle.listing_rules.specs.Listed.{Listed, ofSymbol, ofName, pastEnd}
 use Rattle.listing_rules.specs.CompleteLaws.{only}
 use Rattle.run.specs.declared.Settings.{Settings}
-use Rattle.run.specs.Run.{askedOf, stages}
+use Rattle.run.specs.Run.{libraryRead, askedOf, stages}
 
 -- a name is noted at no target above FFFFh
 noted-within : (library cells : List ℕ) (a : Asked) (segments : List Collected) → a .rules ≡ Documented
@@ -44,7 +44,7 @@ sixteen-bits image library s r fits l i = go (only library cells a (s .skip) gs 
     a = askedOf s
 
     gs : List Collected
-    gs = collect (a .rules) library (modulesIn (file library))
+    gs = collect (a .rules) library (modulesIn (libraryRead library s))
 
     within : length cells ≤ 65536
     within = omega (arith, view-length image (s .stretch), fits)

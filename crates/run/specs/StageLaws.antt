@@ -2,23 +2,24 @@
 use Prim.Native.Nat.{ℕ, _*_, _≤_, _<_}
 use mathlib.Core.Path.{_≡_, refl, sym}
 use mathlib.Core.Logic.{_⊎_, inl, inr, _↔_, Iff·trans}
-use mathlib.Core.Bool.{Bool, true, false, _||_, or-true, false≢true}
+use mathlib.Core.Bool.{Bool, true, false, _&&_, _||_, or-true, false≢true}
 use mathlib.Core.List.{List}
 use mathlib.Core.Option.{none, some}
 use native.Mathlib.Omega.{arith}
-use borrow.Author.Tests.{ltb-true, ltb-false, lt-ltb, le-ltb}
-use lib.Dec.{ltb}
+use borrow.Author.Tests.{eq-eqb, le-leb, ltb-true, ltb-false, lt-ltb, le-ltb}
+use lib.Dec.{eqb, leb, ltb}
 use lib.ListN.{length}
 use Rattle.lent.specs.declared.refusal.Refusal.{Refusal}
-use Rattle.lent.specs.declared.refusal.Refusal.the-variants.{RuleSet, ImageTooLong, LibraryTooLong, StretchPastEnd, NoModule, BodyPastEnd, LengthZero, NamesDiffer, TooFewRows, UnknownKind, UnknownBlock, ContentPastSegment, NoKeptSegment}
+use Rattle.lent.specs.declared.refusal.Refusal.the-variants.{RuleSet, ImageTooLong, LibraryTooLong, StretchPastEnd, NoModule, BodyPastEnd, LengthZero, NamesDiffer, TooFewRows, UnknownKind, UnknownBlock, ContentPastSegment, NoKeptSegment, WrongSum, LeftOver, OtherEdition}
 use Rattle.lent.specs.Choice.{when}
 use Rattle.lent.specs.ChoiceLaws.{either}
 use Rattle.lent.specs.FirstOf.{none≢some}
 use Rattle.lent.specs.Refusals.{refusalNumber}
-use Rattle.lent.specs.RefusalLaws.{same-number, number-range}
+use Rattle.lent.specs.RefusalLaws.{same-number}
 use Rattle.lent.specs.Rows.{tooMany}
+use Rattle.omf51.specs.declared.Edition.{Edition}
 use Rattle.omf51.specs.Module.{Module}
-use Rattle.omf51.specs.File.{file, fileRefusal}
+use Rattle.omf51.specs.File.{fileBy, fileRefusal}
 use Rattle.omf51.specs.Reaches.{Ends}
 use Rattle.omf51.specs.OnePath.{reading-exactly}
 use Rattle.segments.specs.Refuse.{collectRefusal}
@@ -40,34 +41,42 @@ when-none true r = ((λ e. absurd (none≢some (sym e))), λ e. let z : _≡_ {A
 when-none false r = ((λ e. refl), λ e. refl)
 
 abbrev pub when-stage : Bool → Refusal → Stage
-when-stage t r = record { out = when t r; low = refusalNumber r; high = refusalNumber r; ranged = λ q e. go t q e }
+when-stage t r = record { out = when t r; can = eqb (refusalNumber r); told = λ q e. go t q e }
   where
-    go : (u : Bool) (q : Refusal) → when u r ≡ some q → (refusalNumber r ≤ refusalNumber q) × (refusalNumber q ≤ refusalNumber r)
-    go true q e = (omega (arith, same-number e), omega (arith, same-number e))
+    go : (u : Bool) (q : Refusal) → when u r ≡ some q → eqb (refusalNumber r) (refusalNumber q) ≡ true
+    go true q e = eq-eqb (refusalNumber r) (refusalNumber q) (same-number e)
     go false q e = absurd (none≢some e)
 
--- reading refuses with 5 to 8; the collection with 10 to 13
-abbrev pub reading-stage : List ℕ → Stage
-reading-stage library = record { out = fileRefusal (file library); low = 5; high = 8; ranged = λ r e. go r (reading-exactly library (some r) .0 e) }
+-- reading refuses with 5 to 8, 14 and 15; the collection with 10 to 13
+abbrev pub reading-stage : Edition → List ℕ → Stage
+reading-stage e library = record { out = fileRefusal (fileBy e library); can = reads; told = λ r q. go r (reading-exactly e library (some r) .0 q) }
   where
-    go : (r : Refusal) → Ends library (some r) → (5 ≤ refusalNumber r) × (refusalNumber r ≤ 8)
+    reads : ℕ → Bool
+    reads n = (leb 5 n && leb n 8) || (leb 14 n && leb n 15)
+
+    go : (r : Refusal) → Ends e library (some r) → reads (refusalNumber r) ≡ true
     go RuleSet h = absurd h
     go ImageTooLong h = absurd h
     go LibraryTooLong h = absurd h
     go StretchPastEnd h = absurd h
-    go NoModule h = (omega arith, omega arith)
-    go BodyPastEnd h = (omega arith, omega arith)
-    go LengthZero h = (omega arith, omega arith)
-    go NamesDiffer h = (omega arith, omega arith)
+    go NoModule h = refl
+    go BodyPastEnd h = refl
+    go LengthZero h = refl
+    go NamesDiffer h = refl
     go TooFewRows h = absurd h
     go UnknownKind h = absurd h
     go UnknownBlock h = absurd h
     go ContentPastSegment h = absurd h
     go NoKeptSegment h = absurd h
+    go WrongSum h = refl
+    go LeftOver h = refl
+    go OtherEdition h = absurd h
 
 abbrev pub collecting-stage : List Module → Stage
-collecting-stage modules =
-    record { out = collectRefusal modules; low = 10; high = 13; ranged = λ r e. (collect-late modules e, number-range r .1) }
+collecting-stage modules = record { out = collectRefusal modules; can = λ n. leb 10 n && leb n 13; told = λ r e. go (refusalNumber r) (collect-late modules e) }
+  where
+    go : (n : ℕ) → (10 ≤ n) × (n ≤ 13) → (leb 10 n && leb n 13) ≡ true
+    go n h = rw (le-leb 10 n (h .0), le-leb n 13 (h .1))
 
 -- rows that do not fit
 pub over : (width : ℕ) (lent : List ℕ) (n : ℕ) → (tooMany width lent n ≡ true) ↔ Over width lent n

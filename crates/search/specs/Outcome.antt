@@ -4,12 +4,12 @@ use mathlib.Core.Path.{_≡_}
 use mathlib.Core.Bool.{Bool, _||_}
 use mathlib.Core.List.{List, [], _∷_}
 use mathlib.Core.Option.{Option, none, some}
-use lib.Dec.{leb, ltb}
+use lib.Dec.{ltb}
 use lib.ListN.{length}
 use Rattle.lent.specs.declared.refusal.Refusal.{Refusal}
 use Rattle.lent.specs.declared.refusal.Refusal.the-variants.{ImageTooLong, TooFewRows}
 use Rattle.lent.specs.Choice.{if_then_else_, when, leading}
-use Rattle.lent.specs.Refusals.{refusalNumber}
+use Rattle.lent.specs.Refusals.{zeroes}
 use Rattle.lent.specs.Rows.{zeros, padded, tooMany}
 use Rattle.tables.specs.by_name.Heads.{Blank}
 use Rattle.search_rules.specs.declared.Asked.{Asked}
@@ -65,7 +65,7 @@ searchFilled library p n l = record {
 -- the outcome with a refusal or without: a refusal up to 8 writes nothing, 9 sets all lent lists to zero
 abbrev pub searchOutcomeOf : List ℕ → Option Refusal → List Placing → List Noting → SearchLists → SearchOutcome
 searchOutcomeOf library none p n l = record { answer = Done (record { placed = length p; noted = length n }); left = searchFilled library p n l }
-searchOutcomeOf library (some r) p n l = record { answer = Refused r; left = if leb (refusalNumber r) 8 then l else searchZeroed l }
+searchOutcomeOf library (some r) p n l = record { answer = Refused r; left = if zeroes r then searchZeroed l else l }
 
 -- THE SEARCH of the view of an image for the first n segments that are stored
 unfoldable pub searched : List ℕ → Asked → List ℕ → ℕ → SearchLists → SearchOutcome

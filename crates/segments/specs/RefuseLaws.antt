@@ -147,20 +147,20 @@ pub collect-gives : (modules : List Module) {r : Refusal} (P : Test → Type 0) 
 unfolding collectRefusal
 collect-gives modules P iff = leading-at testRefusal P iff (tests modules)
 
-pub collect-late : (modules : List Module) {r : Refusal} → collectRefusal modules ≡ some r → 10 ≤ refusalNumber r
+pub collect-late : (modules : List Module) {r : Refusal} → collectRefusal modules ≡ some r → (10 ≤ refusalNumber r) × (refusalNumber r ≤ 13)
 unfolding collectRefusal
 collect-late modules {r} e = late (f .here) (f .holds)
   where
     f : First testRefusal (λ t. testRefusal t ≡ some r) (tests modules)
     f = leading-at testRefusal (λ t. testRefusal t ≡ some r) (λ t. Iff·rfl) (tests modules) .0 e
 
-    fixup : (m : Module) (x : Fixup) {o : Option Refusal} → FixupCase m x o → o ≡ some r → 10 ≤ refusalNumber r
+    fixup : (m : Module) (x : Fixup) {o : Option Refusal} → FixupCase m x o → o ≡ some r → (10 ≤ refusalNumber r) × (refusalNumber r ≤ 13)
     fixup m x (ignored b) e = absurd (none≢some e)
-    fixup m x (kind k) e = omega (arith, same-number e)
-    fixup m x (block b) e = omega (arith, same-number e)
-    fixup m x (nowhere s n) e = omega (arith, same-number e)
+    fixup m x (kind k) e = (omega (arith, same-number e), omega (arith, same-number e))
+    fixup m x (block b) e = (omega (arith, same-number e), omega (arith, same-number e))
+    fixup m x (nowhere s n) e = (omega (arith, same-number e), omega (arith, same-number e))
     fixup m x (sound k s n) e = absurd (none≢some e)
 
-    late : (t : Test) → testRefusal t ≡ some r → 10 ≤ refusalNumber r
+    late : (t : Test) → testRefusal t ≡ some r → (10 ≤ refusalNumber r) × (refusalNumber r ≤ 13)
     late (ofFixup m x) e = fixup m x (fixup-case m x) e
-    late (ofContent m c) e = omega (arith, ap refusalNumber (content-refusal m c e))
+    late (ofContent m c) e = let n = ap refusalNumber (content-refusal m c e) in (omega (arith, n), omega (arith, n))

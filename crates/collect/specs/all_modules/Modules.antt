@@ -5,6 +5,7 @@ use mathlib.Core.List.{List, []}
 use lib.ListN.{length}
 use Rattle.image.specs.declared.fixup.Rules.{Rules}
 use Rattle.library.specs.Longest.{Short}
+use Rattle.omf51.specs.declared.Edition.the-variants.{One}
 use Rattle.library.specs.WholeLaws.{moduleOf}
 use Rattle.segments.specs.Collect.{moduleSegments}
 use Rattle.module_ids.specs.Noted.{Tells}
@@ -31,4 +32,4 @@ pub record StoresModule (library : List ℕ) (task : ModuleTask) (c : CollectCou
   pub publics : Blank 6 library definitions heads
   pub long : SameLengths l after
   pub apart-long : length apart′ ≡ length apart
-  pub extends : (rules : Rules) → task .own ≡ ownBy rules → Extends (moduleSegments rules library (c .segments) (moduleOf library (task .at))) l c after w
+  pub extends : (rules : Rules) → task .own ≡ ownBy rules → Extends (moduleSegments rules library (c .segments) (moduleOf One library (task .at))) l c after w

@@ -9,6 +9,7 @@ use denote.Ref.{now}
 use denote.Enum.Declared.{tagOf}
 use types.Run.{OneOf}
 use Rattle.lent.specs.Choice.{orElse}
+use Rattle.omf51.specs.declared.Edition.the-variants.{One}
 use Rattle.omf51.specs.Module.{moduleAt}
 use Rattle.segments.specs.Refuse.{collectRefusal}
 use Rattle.library.proofs.ModuleAt.{the-type}
@@ -73,7 +74,7 @@ returns c =
     let module-at = c .before in
     let l = module-at .before .loop in
     let lib = module-at .before .before .before .before .args .library .now in
-    let none = modules-end lib (l .at) (module-at .module-at .result) (sym (module-at .module-at .ensures)) (ends (module-at .module-at .result) (c .match .keys2)) in
+    let none = modules-end One lib (l .at) (module-at .module-at .result) (sym (module-at .module-at .ensures)) (ends (module-at .module-at .result) (c .match .keys2)) in
     record { clear-again = l .inv .clear; says = ap verdictOf (sym no-module ∙ ap collectRefusal (sym none) ∙ l .inv .same) }
 
 fill-requires : tie.Need-fill-requires Inv-loop μ-loop
@@ -88,18 +89,18 @@ returns-2 c =
     let l = at-loop places .loop in
     let lib = at-entry places .args .library .now in
     let p = places .places .given .0 .0 in
-    let e = told {o = sectionsFault (moduleOf lib p .definitions) (moduleOf lib p .sections)}
+    let e = told {o = sectionsFault (moduleOf One lib p .definitions) (moduleOf One lib p .sections)}
     (sym (c .before .before .before .before .before .before .before .sections-fault .ensures _ (after-fill (c .before .before .before) .fill .ensures .tells)) ∙ c .before .verdict .given .1) in
     record {
       clear-again = c .before .before .before .before .before .clear .ensures;
       says = ap verdictOf (ap (λ o. orElse o (collectRefusal (itemsAt lib (moduleAt lib) (p .next)))) (sym e) ∙ sym
-          (module-fault (moduleOf lib p) (itemsAt lib (moduleAt lib) (p .next))) ∙ ap collectRefusal (sym (modules-step lib (l .at) (stands places))) ∙ l .inv .same);
+          (module-fault (moduleOf One lib p) (itemsAt lib (moduleAt lib) (p .next))) ∙ ap collectRefusal (sym (modules-step One lib (l .at) (stands places))) ∙ l .inv .same);
     }
 
 loop-less : tie.Need-loop-less Inv-loop μ-loop
 loop-less c =
     let places = after-places (c .before .before) in
-    omega (arith, module-moved (at-entry places .args .library .now) (at-loop places .loop .at) (stands places))
+    omega (arith, module-moved One (at-entry places .args .library .now) (at-loop places .loop .at) (stands places))
 
 loop-again : tie.Need-loop-again Inv-loop μ-loop
 loop-again c =
@@ -107,13 +108,13 @@ loop-again c =
     let l = at-loop places .loop in
     let lib = at-entry places .args .library .now in
     let p = places .places .given .0 .0 in
-    let e = told {o = sectionsFault (moduleOf lib p .definitions) (moduleOf lib p .sections)}
+    let e = told {o = sectionsFault (moduleOf One lib p .definitions) (moduleOf One lib p .sections)}
     (sym (c .before .before .before .before .before .before .sections-fault .ensures _ (after-fill (c .before .before) .fill .ensures .tells)) ∙ c .enum-told .given .1) in
     record {
       long = search needs;
       clear = c .before .before .before .before .clear .ensures;
       same = ap (λ o. orElse o (collectRefusal (itemsAt lib (moduleAt lib) (p .next)))) (sym e) ∙ sym
-          (module-fault (moduleOf lib p) (itemsAt lib (moduleAt lib) (p .next))) ∙ ap collectRefusal (sym (modules-step lib (l .at) (stands places))) ∙ l .inv .same;
+          (module-fault (moduleOf One lib p) (itemsAt lib (moduleAt lib) (p .next))) ∙ ap collectRefusal (sym (modules-step One lib (l .at) (stands places))) ∙ l .inv .same;
     }
 
 pub scan-spec : {M : Type 1} → statement M

@@ -10,6 +10,7 @@ use denote.Ref.{now}
 use denote.Enum.Declared.{tagOf}
 use types.Run.{OneOf}
 use Rattle.image.specs.declared.fixup.Rules.{Rules}
+use Rattle.omf51.specs.declared.Edition.the-variants.{One}
 use Rattle.omf51.specs.Module.{moduleAt}
 use Rattle.library.proofs.ModuleAt.{the-type}
 use Rattle.library.specs.declared.ModuleAt.{ModuleAt}
@@ -155,7 +156,7 @@ returns c =
     let lib = a .library .now in
     let l = module-at .before .loop in
     let i = l .inv .1 in
-    let none = modules-end lib (l .at) (module-at .module-at .result) (sym (module-at .module-at .ensures)) (ends (module-at .module-at .result) (c .match .keys2)) in
+    let none = modules-end One lib (l .at) (module-at .module-at .result) (sym (module-at .module-at .ensures)) (ends (module-at .module-at .result) (c .match .keys2)) in
     record { tells = i .tells; long = i .long; stored = collecting-ends (a .rules) lib none (i .collecting (a .rules) (module-at .before .before .before .is-own .ensures)) }
 
 store-module-requires : tie.Need-store-module-requires Inv-loop μ-loop
@@ -224,14 +225,14 @@ returns-2 c =
     record {
       tells = s .ensures .tells;
       long = lengths-on (i .long) (s .ensures .long);
-      stored = collecting-lacks (a .rules) lib (itemsAt lib (moduleAt lib) (a .from)) now-lists after (l .c) (s .result) (moduleOf lib p)
-          (modules-step lib (l .at) (stands known-told)) (i .collecting (a .rules) o) (s .ensures .extends (a .rules) o) (c .enum-told .given .1);
+      stored = collecting-lacks (a .rules) lib (itemsAt lib (moduleAt lib) (a .from)) now-lists after (l .c) (s .result) (moduleOf One lib p)
+          (modules-step One lib (l .at) (stands known-told)) (i .collecting (a .rules) o) (s .ensures .extends (a .rules) o) (c .enum-told .given .1);
     }
 
 loop-less : tie.Need-loop-less Inv-loop μ-loop
 loop-less c =
     let loop = at-loop-from-slice-known22 (after-slice-known22 c) in
-    omega (arith, module-moved (at-entry loop .args .library .now) (loop .loop .at) (stands (after-known-told (after-slice-known22 c))))
+    omega (arith, module-moved One (at-entry loop .args .library .now) (loop .loop .at) (stands (after-known-told (after-slice-known22 c))))
 
 loop-again : tie.Need-loop-again Inv-loop μ-loop
 loop-again c =
@@ -252,7 +253,7 @@ loop-again c =
     let p = known-told .before .module .given .0 .0 in
     let on : (rules : Rules) → is-own .is-own .result ≡ ownBy rules → Collecting rules lib (itemsAt lib (moduleAt lib) (a .from))
     (itemsAt lib (moduleAt lib) (p .next)) after (c .before .stored .given .0 .0) = λ rules o. collecting-on rules lib
-    (itemsAt lib (moduleAt lib) (a .from)) now-lists after (l .c) (s .result) (moduleOf lib p) (modules-step lib (l .at) (stands known-told))
+    (itemsAt lib (moduleAt lib) (a .from)) now-lists after (l .c) (s .result) (moduleOf One lib p) (modules-step One lib (l .at) (stands known-told))
     (i .collecting rules o) (s .ensures .extends rules o) (c .before .stored .given .1) in (
       record {
         table-long = contents .before .before .table .given ∙ l .inv .0 .table-long;

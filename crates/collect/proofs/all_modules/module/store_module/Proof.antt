@@ -1,6 +1,7 @@
 -- `store_module` makes the tables, stores, and leaves the tables blank. Assumes nothing.
 use mathlib.Core.Path.{refl, _∙_}
 use native.Mathlib.Omega.{arith}
+use Rattle.omf51.specs.declared.Edition.the-variants.{One}
 use Rattle.library.specs.WholeLaws.{moduleOf}
 use Rattle.module_index.specs.IndexedTableLaws.{forgotten}
 use Rattle.collect.specs.all_modules.FewLaws.{numbers-fit}
@@ -97,7 +98,7 @@ returns c =
       publics = b .blank;
       long = b .long;
       apart-long = b .apart-long;
-      extends = λ rules o. b .extends rules (moduleOf (a .library .now) (a .task .at)) o (record { defined = refl; tells = after-fill first .fill .ensures .tells; sections = i .meets });
+      extends = λ rules o. b .extends rules (moduleOf One (a .library .now) (a .task .at)) o (record { defined = refl; tells = after-fill first .fill .ensures .tells; sections = i .meets });
     }
 
 pub store-module-spec : {M : Type 1} → statement M
