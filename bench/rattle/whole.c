@@ -20,7 +20,7 @@ static uint8_t bytes[1 << 21], masks[1 << 21];
 
 static int found(char **words, const uint8_t *image, size_t in_image, const uint8_t *library, size_t length, const size_t *lent, uint64_t *counts)
 {
-    return sillmarble_find(image, in_image, library, length, 0, words[2][0] == '1', strtoul(words[3], NULL, 10), strcmp(words[4], "none") != 0,
+    return sillmarble_find(image, in_image, library, length, 0, 1, words[2][0] == '1', strtoul(words[3], NULL, 10), strcmp(words[4], "none") != 0,
                            strtoul(words[4], NULL, 10), 0, 0, counts, COUNTS, segments, 8 * lent[SEGMENTS], references, 6 * lent[REFERENCES], symbols,
                            3 * lent[SYMBOLS], bytes, lent[PATTERN], masks, lent[PATTERN], placed, 8 * lent[PLACED], noted, 6 * lent[NOTED], lines,
                            4 * lent[LINES]);
