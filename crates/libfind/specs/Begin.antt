@@ -1,4 +1,4 @@
--- The beginning of a run, before anything is written: the first of refusals 1 to 8, and where the library's modules start.
+-- The beginning of a run, before anything is written: the first refusal, and where the library's modules start.
 use Prim.Native.Nat.{ℕ, _+_}
 use mathlib.Core.Path.{_≡_}
 use mathlib.Core.List.{List, [], _∷_}
@@ -6,24 +6,26 @@ use mathlib.Core.Option.{Option, none, some}
 use lib.Dec.{ltb}
 use lib.ListN.{length}
 use Rattle.lent.specs.declared.refusal.Refusal.{Refusal}
-use Rattle.lent.specs.declared.refusal.Refusal.the-variants.{RuleSet, ImageTooLong, LibraryTooLong, StretchPastEnd}
+use Rattle.lent.specs.declared.refusal.Refusal.the-variants.{RuleSet, OtherEdition, ImageTooLong, LibraryTooLong, StretchPastEnd}
 use Rattle.lent.specs.Choice.{when, orElse, leading}
 use Rattle.omf51.specs.Module.{moduleAt}
-use Rattle.omf51.specs.File.{file, fileRefusal, modulesIn}
+use Rattle.omf51.specs.File.{fileRefusal, modulesIn}
 use Rattle.library.specs.Gathered.{itemsAt}
 use Rattle.library.specs.Reading.{firstAt}
 use Rattle.run.specs.declared.Settings.{Settings}
+use Rattle.run.specs.Run.{libraryRead, otherEdition}
 use Rattle.run.specs.Given.{Accepted}
 use Rattle.libfind.specs.declared.begin.Checked.{Checked}
 use Rattle.libfind.specs.declared.begin.Checked.the-variants as Checked
 use Rattle.libfind.specs.declared.begin.Beginning.{Beginning}
 use Rattle.libfind.specs.declared.begin.Beginning.the-variants as Beginning
 
--- the first of refusals 1 to 4 that applies, by the lengths of the image and of the library
+-- the first of refusals 1, 30, 2, 3 and 4 that applies, by the lengths of the image and of the library
 unfoldable pub settingsRefusal : ℕ → ℕ → Settings → Option Refusal
 settingsRefusal image library s =
     leading
     (when (ltb 1 (s .rules)) RuleSet
+    ∷ when (otherEdition (s .edition)) OtherEdition
     ∷ when (ltb 65536 image) ImageTooLong
     ∷ when (ltb 1048576 library) LibraryTooLong
     ∷ when (ltb image (s .stretch .start + s .stretch .len)) StretchPastEnd
@@ -39,12 +41,12 @@ abbrev pub beginsAt : ℕ → Option Refusal → Beginning
 beginsAt first none = Beginning.At first
 beginsAt first (some r) = Beginning.Refused r
 
--- the first of refusals 1 to 8 that applies, or the place of the first module
+-- the first refusal of the settings, the lengths or the reading that applies, or the place of the first module
 unfoldable pub beginning : List ℕ → List ℕ → Settings → Beginning
-beginning image library s = beginsAt (firstAt library) (orElse (settingsRefusal (length image) (length library) s) (fileRefusal (file library)))
+beginning image library s = beginsAt (firstAt library) (orElse (settingsRefusal (length image) (length library) s) (fileRefusal (libraryRead library s)))
 
--- none of refusals 1 to 8 applies, and the modules start at the place `first`
+-- none of these applies, and the modules start at the place `first`
 pub record Begun (image library : List ℕ) (s : Settings) (first : ℕ) : Type 0 where
   pub accepted : Accepted image library s
-  pub is-read : fileRefusal (file library) ≡ none
-  pub there : modulesIn (file library) ≡ itemsAt library (moduleAt library) first
+  pub is-read : fileRefusal (libraryRead library s) ≡ none
+  pub there : modulesIn (libraryRead library s) ≡ itemsAt library (moduleAt library) first

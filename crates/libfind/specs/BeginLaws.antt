@@ -1,26 +1,30 @@
 -- What the beginning of a run says of the whole run. Assumes nothing.
-use Prim.Native.Nat.{ℕ, _+_, _-_, _<_, _≤_}
+use Prim.Native.Nat.{ℕ, zero, suc, _+_, _-_, _<_, _≤_}
 use mathlib.Core.Path.{_≡_, refl, sym, ap, _∙_}
-use mathlib.Core.Bool.{Bool, true, false}
+use mathlib.Core.Bool.{Bool, true, false, _||_, false≢true}
+use mathlib.Core.Logic.{inl, inr}
 use mathlib.Core.List.{List, [], _∷_}
 use mathlib.Core.Option.{Option, none, some}
+use native.Mathlib.Decide.{decLt}
 use native.Mathlib.Omega.{arith}
 use borrow.Author.Tests.{ltb-true, ltb-false, lt-ltb, le-ltb}
 use lib.Dec.{ltb}
 use lib.ListN.{length}
 use Rattle.lent.specs.declared.refusal.Refusal.{Refusal}
-use Rattle.lent.specs.declared.refusal.Refusal.the-variants.{RuleSet, ImageTooLong, LibraryTooLong, StretchPastEnd}
+use Rattle.lent.specs.declared.refusal.Refusal.the-variants.{RuleSet, OtherEdition, ImageTooLong, LibraryTooLong, StretchPastEnd}
 use Rattle.lent.specs.Choice.{when, orElse, leading}
 use Rattle.lent.specs.FirstOf.{none≢some}
 use Rattle.omf51.specs.Reader.{ReadOutcome, read, stop, refused}
 use Rattle.omf51.specs.Module.{Module}
-use Rattle.omf51.specs.File.{file, fileRefusal}
+use Rattle.omf51.specs.Record.{editionOf}
+use Rattle.omf51.specs.File.{fileRefusal}
 use Rattle.library.specs.declared.Reading.{Reading}
 use Rattle.library.specs.declared.Reading.the-variants as Reading
 use Rattle.library.specs.Reading.{firstAt, readingOf, reading}
 use Rattle.library.specs.StandLaws.{modules-stand, reading-refused}
 use Rattle.run.specs.declared.Settings.{Settings}
-use Rattle.run.specs.Given.{Accepted}
+use Rattle.run.specs.Run.{libraryRead, otherEdition}
+use Rattle.run.specs.Given.{NoEdition, Accepted}
 use Rattle.libfind.specs.declared.begin.Checked.{Checked}
 use Rattle.libfind.specs.declared.begin.Checked.the-variants as Checked
 use Rattle.libfind.specs.declared.begin.Beginning.{Beginning}
@@ -35,39 +39,70 @@ past-end len start more h = go (ltb (len - start) more) refl
     go true e = sym (lt-ltb len (start + more) (omega (arith, ltb-true (len - start) more e)))
     go false e = sym (le-ltb len (start + more) (omega (arith, ltb-false (len - start) more e)))
 
--- 1 to 4, one after another
+-- 1, 30, 2, 3 and 4, one after another
 module _ (image library : ℕ) (s : Settings) where
   pub refused-1 : 1 < s .rules → Checked.Refused RuleSet ≡ checked (settingsRefusal image library s)
   unfolding settingsRefusal leading
   refused-1 h = rw (lt-ltb 1 (s .rules) h) refl
 
   module _ (a : s .rules ≤ 1) where
-    pub refused-2 : 65536 < image → Checked.Refused ImageTooLong ≡ checked (settingsRefusal image library s)
+    pub refused-30 : otherEdition (s .edition) ≡ true → Checked.Refused OtherEdition ≡ checked (settingsRefusal image library s)
     unfolding settingsRefusal leading
-    refused-2 h = rw (le-ltb 1 (s .rules) a, lt-ltb 65536 image h) refl
+    refused-30 h = rw (le-ltb 1 (s .rules) a, h) refl
 
-    module _ (b : image ≤ 65536) where
-      pub refused-3 : 1048576 < library → Checked.Refused LibraryTooLong ≡ checked (settingsRefusal image library s)
+    module _ (e : otherEdition (s .edition) ≡ false) where
+      pub refused-2 : 65536 < image → Checked.Refused ImageTooLong ≡ checked (settingsRefusal image library s)
       unfolding settingsRefusal leading
-      refused-3 h = rw (le-ltb 1 (s .rules) a, le-ltb 65536 image b, lt-ltb 1048576 library h) refl
+      refused-2 h = rw (le-ltb 1 (s .rules) a, e, lt-ltb 65536 image h) refl
 
-      module _ (c : library ≤ 1048576) where
-        pub refused-4 : ltb image (s .stretch .start + s .stretch .len) ≡ true → Checked.Refused StretchPastEnd ≡ checked (settingsRefusal image library s)
+      module _ (b : image ≤ 65536) where
+        pub refused-3 : 1048576 < library → Checked.Refused LibraryTooLong ≡ checked (settingsRefusal image library s)
         unfolding settingsRefusal leading
-        refused-4 h = rw (le-ltb 1 (s .rules) a, le-ltb 65536 image b, le-ltb 1048576 library c, h) refl
+        refused-3 h = rw (le-ltb 1 (s .rules) a, e, le-ltb 65536 image b, lt-ltb 1048576 library h) refl
 
-        pub is-accepted : ltb image (s .stretch .start + s .stretch .len) ≡ false → Checked.Accepted ≡ checked (settingsRefusal image library s)
-        unfolding settingsRefusal leading
-        is-accepted h = rw (le-ltb 1 (s .rules) a, le-ltb 65536 image b, le-ltb 1048576 library c, h) refl
+        module _ (c : library ≤ 1048576) where
+          pub refused-4 : ltb image (s .stretch .start + s .stretch .len) ≡ true → Checked.Refused StretchPastEnd ≡ checked (settingsRefusal image library s)
+          unfolding settingsRefusal leading
+          refused-4 h = rw (le-ltb 1 (s .rules) a, e, le-ltb 65536 image b, le-ltb 1048576 library c, h) refl
 
-none-of : (a b c d : Bool) → leading (when a RuleSet ∷ when b ImageTooLong ∷ when c LibraryTooLong ∷ when d StretchPastEnd ∷ []) ≡ none
-    → (a ≡ false) × (b ≡ false) × (c ≡ false) × (d ≡ false)
+          pub is-accepted : ltb image (s .stretch .start + s .stretch .len) ≡ false → Checked.Accepted ≡ checked (settingsRefusal image library s)
+          unfolding settingsRefusal leading
+          is-accepted h = rw (le-ltb 1 (s .rules) a, e, le-ltb 65536 image b, le-ltb 1048576 library c, h) refl
+
+none-of : (a e b c d : Bool)
+    → leading (when a RuleSet ∷ when e OtherEdition ∷ when b ImageTooLong ∷ when c LibraryTooLong ∷ when d StretchPastEnd ∷ []) ≡ none
+    → (a ≡ false) × (e ≡ false) × (b ≡ false) × (c ≡ false) × (d ≡ false)
 unfolding leading
-none-of false false false false e = (refl, refl, refl, refl)
-none-of false false false true e = absurd (none≢some (sym e))
-none-of false false true d e = absurd (none≢some (sym e))
-none-of false true c d e = absurd (none≢some (sym e))
-none-of true b c d e = absurd (none≢some (sym e))
+none-of false false false false false q = (refl, refl, refl, refl, refl)
+none-of false false false false true q = absurd (none≢some (sym q))
+none-of false false false true d q = absurd (none≢some (sym q))
+none-of false false true c d q = absurd (none≢some (sym q))
+none-of false true b c d q = absurd (none≢some (sym q))
+none-of true e b c d q = absurd (none≢some (sym q))
+
+-- a number that passes the test is 1 or 2
+neither : (a b : Bool) → (a || b) ≡ false → (a ≡ false) × (b ≡ false)
+neither false false e = (refl, refl)
+neither false true e = absurd (false≢true (sym e))
+neither true b e = absurd (false≢true (sym e))
+
+is-edition : (n : ℕ) → otherEdition n ≡ false → NoEdition n → ⊥
+is-edition n e (inl l) = let z = neither (ltb n 1) (ltb 2 n) e in omega (arith, l, ltb-false n 1 (z .0))
+is-edition n e (inr l) = let z = neither (ltb n 1) (ltb 2 n) e in omega (arith, l, ltb-false 2 n (z .1))
+
+pub known-edition : (n : ℕ) → (NoEdition n → ⊥) → otherEdition n ≡ false
+known-edition n h = rw (le-ltb n 1 (below n h), le-ltb 2 n (above n h))
+  where
+    below : (n : ℕ) → (NoEdition n → ⊥) → 1 ≤ n
+    below zero h = absurd (h (inl (omega arith)))
+    below (suc n) h = omega arith
+
+    above : (n : ℕ) → (NoEdition n → ⊥) → n ≤ 2
+    above n h = go (decLt 2 n)
+      where
+        go : Dec (2 < n) → n ≤ 2
+        go (yes l) = absurd (h (inr l))
+        go (no l) = omega arith
 
 -- what the check and the reader said
 placeIn : Beginning → ℕ
@@ -81,12 +116,13 @@ module _ (image library : List ℕ) (s : Settings) where
   accepted : settings ≡ none → Accepted image library s
   unfolding settingsRefusal
   accepted e =
-      let n = none-of _ _ _ _ e in
+      let n = none-of _ _ _ _ _ e in
       record {
         rule-set = ltb-false 1 (s .rules) (n .0);
-        image-fits = ltb-false 65536 (length image) (n .1);
-        library-fits = ltb-false 1048576 (length library) (n .2);
-        stretch-fits = ltb-false (length image) (s .stretch .start + s .stretch .len) (n .3);
+        edition = is-edition (s .edition) (n .1);
+        image-fits = ltb-false 65536 (length image) (n .2);
+        library-fits = ltb-false 1048576 (length library) (n .3);
+        stretch-fits = ltb-false (length image) (s .stretch .start + s .stretch .len) (n .4);
       }
 
   fine : (o : Option Refusal) → Checked.Accepted ≡ checked o → o ≡ none
@@ -102,13 +138,13 @@ module _ (image library : List ℕ) (s : Settings) where
   begin-refused e = rw (by-check settings e) refl
 
   module _ (ok : Checked.Accepted ≡ checked settings) where
-    pub begin-unread : {r : Refusal} → Reading.Refused r ≡ reading library → Beginning.Refused r ≡ beginning image library s
+    pub begin-unread : {r : Refusal} → Reading.Refused r ≡ reading (editionOf (s .edition)) library → Beginning.Refused r ≡ beginning image library s
     unfolding beginning
-    begin-unread e = rw (fine settings ok, reading-refused library (sym e)) refl
+    begin-unread e = rw (fine settings ok, reading-refused (editionOf (s .edition)) library (sym e)) refl
 
-    pub begin-at : {first count : ℕ} → Reading.Modules first count ≡ reading library → Beginning.At first ≡ beginning image library s
+    pub begin-at : {first count : ℕ} → Reading.Modules first count ≡ reading (editionOf (s .edition)) library → Beginning.At first ≡ beginning image library s
     unfolding beginning reading
-    begin-at {first} {count} e = rw (fine settings ok, modules-stand library (sym e) .unrefused) (go (file library) e)
+    begin-at {first} {count} e = rw (fine settings ok, modules-stand (editionOf (s .edition)) library (sym e) .unrefused) (go (libraryRead library s) e)
       where
         go : (o : ReadOutcome (List Module)) → Reading.Modules first count ≡ readingOf (firstAt library) o → Beginning.At first ≡ Beginning.At (firstAt library)
         go (read modules next) q = cc
@@ -123,20 +159,20 @@ module _ (image library : List ℕ) (s : Settings) where
 
   pub begun : {first : ℕ} → Beginning.At first ≡ beginning image library s → Begun image library s first
   unfolding beginning reading
-  begun {first} e = let p = two settings (fileRefusal (file library)) e in go (file library) refl p
+  begun {first} e = let p = two settings (fileRefusal (libraryRead library s)) e in go (libraryRead library s) refl p
     where
-      go : (o : ReadOutcome (List Module)) → file library ≡ o → (settings ≡ none) × (fileRefusal (file library) ≡ none) × (first ≡ firstAt library) → Begun image library s first
+      go : (o : ReadOutcome (List Module)) → libraryRead library s ≡ o → (settings ≡ none) × (fileRefusal (libraryRead library s) ≡ none) × (first ≡ firstAt library) → Begun image library s first
       go (read modules next) q p = record {
         accepted = accepted (p .0);
         is-read = p .1;
-        there = modules-stand library {count = length modules} (ap (readingOf (firstAt library)) q ∙ ap (λ at. Reading.Modules at (length modules)) (sym (p .2))) .there;
+        there = modules-stand (editionOf (s .edition)) library {count = length modules} (ap (readingOf (firstAt library)) q ∙ ap (λ at. Reading.Modules at (length modules)) (sym (p .2))) .there;
       }
       go stop q p = absurd (none≢some (sym (sym (ap fileRefusal q) ∙ p .1)))
       go (refused r) q p = absurd (none≢some (sym (sym (ap fileRefusal q) ∙ p .1)))
 
-  pub never-begun : {r : Refusal} → Beginning.Refused r ≡ beginning image library s → orElse settings (fileRefusal (file library)) ≡ some r
+  pub never-begun : {r : Refusal} → Beginning.Refused r ≡ beginning image library s → orElse settings (fileRefusal (libraryRead library s)) ≡ some r
   unfolding beginning
-  never-begun {r} e = go (orElse settings (fileRefusal (file library))) e
+  never-begun {r} e = go (orElse settings (fileRefusal (libraryRead library s))) e
     where
       go : (o : Option Refusal) → Beginning.Refused r ≡ beginsAt (firstAt library) o → o ≡ some r
       go none q = let z : _≡_ {A = ℕ} 0 1 = cc in absurd (omega arith)

@@ -1,25 +1,28 @@
 -- THE STEPS MAKE UP THE RUN: the beginning, the collection, and then search and list. Assumes nothing.
 use Prim.Native.Nat.{ℕ, _+_, _≤_, _<_}
 use mathlib.Core.Path.{_≡_, refl, sym, ap, _∙_}
-use mathlib.Core.Bool.{Bool, true, false, false≢true}
+use mathlib.Core.Bool.{Bool, true, false, _&&_, _||_, false≢true}
+use mathlib.Core.Logic.{_⊎_, inl, inr}
 use mathlib.Core.List.{List, [], _∷_}
 use mathlib.Core.Option.{Option, none, some}
 use native.Mathlib.Omega.{arith}
-use borrow.Author.Tests.{le-ltb, le-leb, lt-leb}
-use lib.Dec.{ltb}
+use borrow.Author.Tests.{le-ltb, leb-true}
+use lib.Dec.{leb, ltb}
 use lib.ListN.{length}
 use Rattle.lent.specs.declared.refusal.Refusal.{Refusal}
-use Rattle.lent.specs.declared.refusal.Refusal.the-variants.{RuleSet, ImageTooLong, LibraryTooLong, StretchPastEnd, TooFewRows}
+use Rattle.lent.specs.declared.refusal.Refusal.the-variants.{RuleSet, OtherEdition, ImageTooLong, LibraryTooLong, StretchPastEnd, TooFewRows}
 use Rattle.lent.specs.Choice.{when, orElse, leading}
+use Rattle.lent.specs.ChoiceLaws.{both, either}
 use Rattle.lent.specs.FirstOf.{none≢some}
-use Rattle.lent.specs.Refusals.{refusalNumber}
-use Rattle.lent.specs.RefusalLaws.{same-number}
+use Rattle.lent.specs.Refusals.{refusalNumber, zeroes}
+use Rattle.lent.specs.RefusalLaws.{same-number, zeroes-late, zeroes-not}
 use Rattle.lent.specs.Rows.{zeros}
 use Rattle.image.specs.View.{view}
 use Rattle.image.specs.ViewLaws.{view-length}
 use Rattle.image.specs.fixup.Target.{rulesOf}
 use Rattle.omf51.specs.Module.{Module, moduleAt}
-use Rattle.omf51.specs.File.{file, fileRefusal, modulesIn}
+use Rattle.omf51.specs.Record.{editionOf}
+use Rattle.omf51.specs.File.{fileRefusal, modulesIn}
 use Rattle.library.specs.Gathered.{itemsAt as modulesFrom}
 use Rattle.segments.specs.Collect.{Collected, collect}
 use Rattle.segments.specs.Refuse.{collectRefusal}
@@ -35,9 +38,10 @@ use Rattle.search.specs.Outcome.{searchZeroed as zeroedSearch, searchFilled as 
 use Rattle.listing.specs.Outcome.{Yield as Findings, yields, refusalOf as refusalOfFinding, findOutcomeOf as findingOf, findOutcome}
 use Rattle.run.specs.declared.Settings.{Settings}
 use Rattle.run.specs.declared.Answer.the-variants.{Done, Refused}
-use Rattle.run.specs.Run.{Lent, lentLists, Yield, askedOf, stages, counted, collectOver, searchOver, listOver, refusals, zeroed, filledWith, outcomeOf, runSeen, run}
+use Rattle.run.specs.Run.{Lent, lentLists, Yield, askedOf, libraryRead, otherEdition, stages, counted, collectOver, searchOver, listOver, refusals, zeroed, filledWith, outcomeOf, runSeen, run}
 use Rattle.run.specs.StageLaws.{reading-stage}
 use Rattle.libfind.specs.Begin.{settingsRefusal, Begun}
+use Rattle.libfind.specs.BeginLaws.{known-edition}
 use Rattle.libfind.specs.Ends.{collectable, findable, allOf, concluded}
 
 -- what an answer of the collection says
@@ -58,7 +62,7 @@ module _ (image library : List ℕ) (s : Settings) (lent : Lent) where
   cells = view image (s .stretch)
 
   abbrev modules : List Module
-  modules = modulesIn (file library)
+  modules = modulesIn (libraryRead library s)
 
   abbrev yield : Yield
   yield = stages cells library s
@@ -66,9 +70,9 @@ module _ (image library : List ℕ) (s : Settings) (lent : Lent) where
   abbrev gs : List Collected
   gs = collect (rulesOf (s .rules)) library modules
 
-  -- the refusals of a run: 1 to 8; then 9 for the collection and 10 to 13; then 9 for what is found
+  -- the refusals of a run: those before anything is written; then 9 for the collection and 10 to 13; then 9 for what is found
   abbrev early : Option Refusal
-  early = orElse (settingsRefusal (length image) (length library) s) (fileRefusal (file library))
+  early = orElse (settingsRefusal (length image) (length library) s) (fileRefusal (libraryRead library s))
 
   abbrev collecting : Option Refusal
   collecting = orElse (when (collectOver lent (counted yield)) TooFewRows) (collectRefusal modules)
@@ -76,42 +80,56 @@ module _ (image library : List ℕ) (s : Settings) (lent : Lent) where
   abbrev finding : Option Refusal
   finding = leading (when (searchOver lent (counted yield)) TooFewRows ∷ when (listOver lent (counted yield)) TooFewRows ∷ [])
 
-  in-turn : (a b c d e f g : Option Refusal) (rest : List (Option Refusal))
-      → leading (a ∷ b ∷ c ∷ d ∷ e ∷ f ∷ g ∷ rest) ≡ orElse (orElse (leading (a ∷ b ∷ c ∷ d ∷ [])) e) (orElse (orElse f g) (leading rest))
+  in-turn : (a b c d e f g h : Option Refusal) (rest : List (Option Refusal))
+      → leading (a ∷ b ∷ c ∷ d ∷ e ∷ f ∷ g ∷ h ∷ rest) ≡ orElse (orElse (leading (a ∷ b ∷ c ∷ d ∷ e ∷ [])) f) (orElse (orElse g h) (leading rest))
   unfolding leading
-  in-turn none none none none none none g rest = refl
-  in-turn none none none none none (some r) g rest = refl
-  in-turn none none none none (some r) f g rest = refl
-  in-turn none none none (some r) e f g rest = refl
-  in-turn none none (some r) d e f g rest = refl
-  in-turn none (some r) c d e f g rest = refl
-  in-turn (some r) b c d e f g rest = refl
+  in-turn none none none none none none none h rest = refl
+  in-turn none none none none none none (some r) h rest = refl
+  in-turn none none none none none (some r) g h rest = refl
+  in-turn none none none none (some r) f g h rest = refl
+  in-turn none none none (some r) e f g h rest = refl
+  in-turn none none (some r) d e f g h rest = refl
+  in-turn none (some r) c d e f g h rest = refl
+  in-turn (some r) b c d e f g h rest = refl
 
   run-is : run image library s lent ≡ outcomeOf library (orElse early (orElse collecting finding)) yield lent
   unfolding run runSeen refusals settingsRefusal
   run-is = ap (λ o. outcomeOf library o yield lent) (go (view-length image (s .stretch)))
     where
       go : length cells ≡ length image → leading (refusals cells library s lent (counted yield)) ≡ orElse early (orElse collecting finding)
-      go e = in-turn _ _ _ _ _ _ _ _ ∙ rw e refl
+      go e = in-turn _ _ _ _ _ _ _ _ _ ∙ rw e refl
 
   -- REFUSED EARLY: nothing is written
-  at-most : {r : Refusal} → early ≡ some r → refusalNumber r ≤ 8
+  writes-nothing : {r : Refusal} → early ≡ some r → zeroes r ≡ false
   unfolding settingsRefusal leading
-  at-most {r} e = go (ltb 1 (s .rules)) (ltb 65536 (length image)) (ltb 1048576 (length library)) (ltb (length image) (s .stretch .start + s .stretch .len)) (fileRefusal (file library)) (λ q h. reading-stage library .ranged q h .1) e
+  writes-nothing {r} q =
+      go (ltb 1 (s .rules)) (otherEdition (s .edition)) (ltb 65536 (length image)) (ltb 1048576 (length library)) (ltb (length image) (s .stretch .start + s .stretch .len))
+      (fileRefusal (libraryRead library s)) (λ x h. apart x (reading-stage (editionOf (s .edition)) library .told x h)) q
     where
-      go : (a b c d : Bool) (o : Option Refusal) → ((q : Refusal) → o ≡ some q → refusalNumber q ≤ 8)
-          → orElse (leading (when a RuleSet ∷ when b ImageTooLong ∷ when c LibraryTooLong ∷ when d StretchPastEnd ∷ [])) o ≡ some r → refusalNumber r ≤ 8
-      go true b c d o h e = omega (arith, same-number e)
-      go false true c d o h e = omega (arith, same-number e)
-      go false false true d o h e = omega (arith, same-number e)
-      go false false false true o h e = omega (arith, same-number e)
-      go false false false false o h e = h r e
+      same : {x : Refusal} → zeroes x ≡ false → some x ≡ some r → zeroes r ≡ false
+      same {x} z e = let w : x ≡ r = cc in rw (← w) z
+
+      apart : (x : Refusal) → ((leb 5 (refusalNumber x) && leb (refusalNumber x) 8) || (leb 14 (refusalNumber x) && leb (refusalNumber x) 15)) ≡ true → zeroes x ≡ false
+      apart x h = between (either (leb 5 (refusalNumber x) && leb (refusalNumber x) 8) (leb 14 (refusalNumber x) && leb (refusalNumber x) 15) h)
+        where
+          between : ((leb 5 (refusalNumber x) && leb (refusalNumber x) 8) ≡ true) ⊎ ((leb 14 (refusalNumber x) && leb (refusalNumber x) 15) ≡ true) → zeroes x ≡ false
+          between (inl l) = zeroes-not x (inl (omega (arith, leb-true (refusalNumber x) 8 (both (leb 5 (refusalNumber x)) (leb (refusalNumber x) 8) l .1))))
+          between (inr l) = zeroes-not x (inr (omega (arith, leb-true 14 (refusalNumber x) (both (leb 14 (refusalNumber x)) (leb (refusalNumber x) 15) l .0))))
+
+      go : (a e b c d : Bool) (o : Option Refusal) → ((x : Refusal) → o ≡ some x → zeroes x ≡ false)
+          → orElse (leading (when a RuleSet ∷ when e OtherEdition ∷ when b ImageTooLong ∷ when c LibraryTooLong ∷ when d StretchPastEnd ∷ [])) o ≡ some r → zeroes r ≡ false
+      go true e b c d o h q = same refl q
+      go false true b c d o h q = same refl q
+      go false false true c d o h q = same refl q
+      go false false false true d o h q = same refl q
+      go false false false false true o h q = same refl q
+      go false false false false false o h q = h r q
 
   pub refused-early : {r : Refusal} → early ≡ some r → record { answer = Refused r; left = lent } ≡ run image library s lent
   refused-early {r} e =
-      sym (run-is ∙ ap (λ o. outcomeOf library (orElse o (orElse collecting finding)) yield lent) e ∙ rw (le-leb (refusalNumber r) 8 (at-most e)) refl)
+      sym (run-is ∙ ap (λ o. outcomeOf library (orElse o (orElse collecting finding)) yield lent) e ∙ rw (writes-nothing e) refl)
 
-  -- none of 1 to 8 applies
+  -- none of those applies
   module _ {first : ℕ} (b : Begun image library s first) where
     not-early : early ≡ none
     unfolding settingsRefusal leading
@@ -119,6 +137,7 @@ module _ (image library : List ℕ) (s : Settings) (lent : Lent) where
         let a = b .accepted in
         rw (
           le-ltb 1 (s .rules) (a .rule-set),
+          known-edition (s .edition) (a .edition),
           le-ltb 65536 (length image) (a .image-fits),
           le-ltb 1048576 (length library) (a .library-fits),
           le-ltb (length image) (s .stretch .start + s .stretch .len) (a .stretch-fits),
@@ -145,12 +164,12 @@ module _ (image library : List ℕ) (s : Settings) (lent : Lent) where
         in-order = rw (le-ltb 1048576 (length library) (b .accepted .library-fits)) (last (collectOver lent (counted yield)) (collectRefusal modules))
 
     -- REFUSED BY THE COLLECTION: all that was lent is set to zero
-    at-least : {r : Refusal} → collecting ≡ some r → 9 ≤ refusalNumber r
-    at-least {r} e = go (collectOver lent (counted yield)) e
+    late-zeroes : {r : Refusal} → collecting ≡ some r → zeroes r ≡ true
+    late-zeroes {r} e = go (collectOver lent (counted yield)) e
       where
-        go : (t : Bool) → orElse (when t TooFewRows) (collectRefusal modules) ≡ some r → 9 ≤ refusalNumber r
-        go true q = omega (arith, same-number q)
-        go false q = omega (arith, collect-late modules q)
+        go : (t : Bool) → orElse (when t TooFewRows) (collectRefusal modules) ≡ some r → zeroes r ≡ true
+        go true q = let n = same-number q in zeroes-late r (omega (arith, n)) (omega (arith, n))
+        go false q = let n = collect-late modules q in zeroes-late r (omega (arith, n .0)) (n .1)
 
     pub refused-collecting : {r : Refusal} {left : Collectable} {placed noted lines : List ℕ} → record { answer = Collection.Refused r; left = left } ≡ collected
         → placed ≡ zeros (length (lent .placed)) → noted ≡ zeros (length (lent .noted)) → lines ≡ zeros (length (lent .lines))
@@ -162,7 +181,7 @@ module _ (image library : List ℕ) (s : Settings) (lent : Lent) where
             → record { answer = Refused r; left = allOf (findable left (zeroed lent)) } ≡ run image library s lent
         go none q p = absurd (false≢true (ap (λ o. isDone (o .answer)) p))
         go (some x) q p =
-            let late = lt-leb (refusalNumber x) 8 (at-least q) in
+            let late = late-zeroes q in
             let same : r ≡ x = ap (λ o. refusalIn (o .answer)) p in
             let zero : left ≡ zeroedCollection (collectable lent) = ap (λ o. o .left) p ∙ rw late refl in
             ap (λ y. record { answer = Refused y; left = allOf (findable left (zeroed lent)) }) same
@@ -200,15 +219,18 @@ module _ (image library : List ℕ) (s : Settings) (lent : Lent) where
       unfolding leading counted countedIn stages yields filledWith filledCollection filledSearch zeroed zeroedCollection zeroedSearch
       rest-is none e = refl
       rest-is (some r) e =
-          let late = lt-leb (refusalNumber r) 8 (few e) in
+          let late = few e in
           rw late (ap (λ z. record { answer = Refused r; left = allOf (findable z (zeroed lent)) }) zero)
         where
-          few : finding ≡ some r → 8 < refusalNumber r
+          few : finding ≡ some r → zeroes r ≡ true
           few q = go (searchOver lent (counted yield)) (listOver lent (counted yield)) q
             where
-              go : (t u : Bool) → leading (when t TooFewRows ∷ when u TooFewRows ∷ []) ≡ some r → 8 < refusalNumber r
-              go true u p = omega (arith, same-number p)
-              go false true p = omega (arith, same-number p)
+              nine : some TooFewRows ≡ some r → zeroes r ≡ true
+              nine p = let n = same-number p in zeroes-late r (omega (arith, n)) (omega (arith, n))
+
+              go : (t u : Bool) → leading (when t TooFewRows ∷ when u TooFewRows ∷ []) ≡ some r → zeroes r ≡ true
+              go true u p = nine p
+              go false true p = nine p
               go false false p = absurd (none≢some p)
 
           zero : zeroedCollection filled ≡ zeroedCollection (collectable lent)

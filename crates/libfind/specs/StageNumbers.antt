@@ -9,7 +9,7 @@ use Rattle.lent.specs.Choice.{orElse}
 use Rattle.lent.specs.Refusals.{refusalNumber, stageNumber}
 use Rattle.image.specs.declared.fixup.Rules.{Rules}
 use Rattle.omf51.specs.Module.{Module}
-use Rattle.omf51.specs.File.{file, fileRefusal}
+use Rattle.omf51.specs.File.{fileRefusal}
 use Rattle.segments.specs.Collect.{Collected, collect}
 use Rattle.collect.specs.declared.Collection.{Collection}
 use Rattle.collect.specs.declared.Collection.the-variants as Collection
@@ -28,6 +28,7 @@ use Rattle.listing.specs.declared.FindAnswer.the-variants as FindAnswer
 use Rattle.listing.specs.Outcome.{FindLists, FindOutcome, Yield, yields, refusalOf as findRefusal, findOutcomeOf, findOutcome}
 use Rattle.library.specs.Reading.{firstAt}
 use Rattle.run.specs.declared.Settings.{Settings}
+use Rattle.run.specs.Run.{libraryRead}
 use Rattle.libfind.specs.declared.begin.Beginning.{Beginning}
 use Rattle.libfind.specs.declared.begin.Beginning.the-variants as Beginning
 use Rattle.libfind.specs.Begin.{settingsRefusal, beginsAt, beginning}
@@ -59,10 +60,10 @@ begin-of first none = refl
 begin-of first (some r) = refl
 
 pub begin-number : (image library : List ℕ) (s : Settings) (r : Beginning) → r ≡ beginning image library s
-    → beginningNumber r ≡ stageNumber (orElse (settingsRefusal (length image) (length library) s) (fileRefusal (file library)))
+    → beginningNumber r ≡ stageNumber (orElse (settingsRefusal (length image) (length library) s) (fileRefusal (libraryRead library s)))
 unfolding beginning
 begin-number image library s r c =
-    ap beginningNumber c ∙ begin-of (firstAt library) (orElse (settingsRefusal (length image) (length library) s) (fileRefusal (file library)))
+    ap beginningNumber c ∙ begin-of (firstAt library) (orElse (settingsRefusal (length image) (length library) s) (fileRefusal (libraryRead library s)))
 
 collect-of : (o : Option Refusal) (gs : List Collected) (l : CollectLists) → collectionNumber (collectOutcomeOf o gs l .answer) ≡ stageNumber o
 collect-of none gs l = refl

@@ -2,6 +2,7 @@
 ghost use mathlib.Core.Path.{_≡_};
 ghost use Prim.Native.Nat.{_+_};
 ghost use lib.Dec.{ltb};
+ghost use Rattle.run.specs.Run.{otherEdition};
 ghost use Rattle.libfind.specs.Begin.{settingsRefusal, checked, beginning};
 use image::LONGEST_IMAGE;
 use image::Stretch;
@@ -9,18 +10,29 @@ use lent::refusal::Refusal;
 use library::LONGEST_LIBRARY;
 use library::Reading;
 use library::file::read;
+use omf51::by_edition::edition_of;
 use run::Settings;
 
-// Whether the settings and lengths are accepted, or the first of refusals 1 to 4 that applies.
+// Whether the settings and lengths are accepted, or the first of refusals 1, 30, 2, 3 and 4 that applies.
 pub enum Checked {
     Accepted,
     Refused(Refusal),
 }
 
-// The place where the library's modules start, or the first of refusals 1 to 8 that applies.
+// The place where the library's modules start, or the first refusal of the settings, the lengths or the reading that applies.
 pub enum Beginning {
     At(usize),
     Refused(Refusal),
+}
+
+// Whether a number is that of no edition.
+fn is_other_edition(number: u64) -> bool
+    ensures { λ r. ⌜ r ≡ otherEdition number ⌝ }
+{
+    if number < 1 {
+        return true;
+    }
+    2 < number
 }
 
 // Whether the stretch passes the end of an image of this length. No sum is taken that could be too large.
@@ -40,6 +52,9 @@ fn check(image: usize, library: usize, settings: Settings) -> Checked
     if 1 < settings.rules {
         return Checked::Refused(Refusal::RuleSet);
     }
+    if is_other_edition(settings.edition) {
+        return Checked::Refused(Refusal::OtherEdition);
+    }
     if LONGEST_IMAGE < image {
         return Checked::Refused(Refusal::ImageTooLong);
     }
@@ -57,7 +72,7 @@ pub fn begin(image: &[u8], library: &[u8], settings: Settings) -> Beginning
     ensures { λ r. ⌜ r ≡ beginning (now (image .entry)) (now (library .entry)) settings ⌝ }
 {
     match check(image.len(), library.len(), settings) {
-        Checked::Accepted => match read(library) {
+        Checked::Accepted => match read(library, edition_of(settings.edition)) {
             Reading::Modules { first, count } => Beginning::At(first),
             Reading::Refused(r) => Beginning::Refused(r),
         },

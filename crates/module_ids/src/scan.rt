@@ -18,8 +18,8 @@ use library::items::NextFixup;
 use library::items::contents::next_content;
 use library::items::decoded::next_fixup;
 use library::module::module_at;
-use omf51::Edition;
 use omf51::Content;
+use omf51::Edition;
 
 // The first refusal among the fixups of a content, from a cursor on.
 fn fixups_fault(library: &[u8], table: &[u32], from: Cursor) -> Verdict
