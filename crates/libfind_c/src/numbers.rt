@@ -3,7 +3,7 @@ ghost use mathlib.Core.Path.{_≡_};
 ghost use Rattle.run.specs.Run.{numberOf, countsOf};
 ghost use Rattle.libfind_c.specs.Exported.{skipOf, settingsOf, countsIn, sizeOf, lengthOf};
 use describe::Described;
-use image::Stretch;
+use image::cover::gather;
 use lent::refusal;
 use lent::rows::put;
 use listing_rules::Skip;
@@ -22,25 +22,26 @@ fn skip_of(skips: bool, amount: usize) -> Skip
     Skip::Never
 }
 
-// The settings of a run from plain numbers: the rule set, whether references are checked, the minimum, whether there is
-// a skip amount and which, and start and length of the stretch.
+// The settings of a run from plain numbers: the rule set, the edition, whether references are checked, the minimum,
+// whether there is a skip amount and which, and the stretches as pairs of numbers.
 pub fn settings_of(
     rules: u64,
+    edition: u64,
     check: bool,
     minimum: usize,
     skips: bool,
     amount: usize,
-    start: usize,
-    len: usize,
+    withheld: &[u64],
 ) -> Settings
-    ensures { λ r. ⌜ r ≡ settingsOf rules check minimum skips amount start len ⌝ }
+    ensures { λ r. ⌜ r ≡ settingsOf rules edition check minimum skips amount (now (withheld .entry)) ⌝ }
 {
     Settings {
         rules,
+        edition,
         check,
         minimum,
         skip: skip_of(skips, amount),
-        stretch: Stretch { start, len },
+        withheld: gather(withheld),
     }
 }
 

@@ -1,7 +1,9 @@
 // The header of a case: flags, how many settings are told, room for the settings, the lengths of the eight lent lists, and the recorded answer of 18 numbers.
 use crate::numbers::eight_at;
 use crate::numbers::four_at;
-use image::Stretch;
+use image::cover::Stretches;
+use image::cover::no_stretches;
+use image::cover::one_more;
 use listing_rules::Skip;
 use run::Settings;
 
@@ -13,22 +15,30 @@ const SCENE: u8 = 4;
 
 const OWN: u8 = 8;
 
-// The rule set, the minimum, the skip amount, the start and the length of the stretch: what is not told is 0.
-pub const SETTINGS: usize = 5;
+// The rule set, the minimum, the skip amount, the start and the length of a stretch, the edition, and up to 16 further stretches: what is not told is 0, and
+// the edition 1; a stretch whose start is not told is none.
+pub const SETTINGS: usize = 38;
+
+// Where among them the start of the first stretch stands, the edition, and the further stretches.
+const START: usize = 3;
+
+const EDITION: usize = 5;
+
+const FURTHER: usize = 6;
 
 pub const SETTINGS_AT: usize = 2;
 
 // Behind the room for the settings: 8 lengths and the answer.
-pub const LENT_AT: usize = 42;
+pub const LENT_AT: usize = 306;
 
-const ANSWER_AT: usize = 74;
+const ANSWER_AT: usize = 338;
 
-pub const SIZE: usize = 146;
+pub const SIZE: usize = 410;
 
 const ANSWER: usize = 18;
 
-pub fn no_header() -> [u8; 146] {
-    [0u8; 146]
+pub fn no_header() -> [u8; 410] {
+    [0u8; 410]
 }
 
 fn byte_at(header: &[u8], i: usize) -> u8 {
@@ -70,16 +80,37 @@ fn skip_of(header: &[u8]) -> Skip {
     Skip::Never
 }
 
+fn edition_of(header: &[u8]) -> u64 {
+    if told_settings(header) <= EDITION {
+        return 1;
+    }
+    setting(header, EDITION)
+}
+
+fn withheld_by(header: &[u8]) -> Stretches {
+    let told = told_settings(header);
+    let mut w = no_stretches();
+    if START < told {
+        w = one_more(w, setting(header, START), setting(header, START + 1));
+    }
+    let mut i = FURTHER;
+    while i < SETTINGS {
+        if i < told {
+            w = one_more(w, setting(header, i), setting(header, i + 1));
+        }
+        i += 2;
+    }
+    w
+}
+
 pub fn settings_of(header: &[u8]) -> Settings {
     Settings {
         rules: setting(header, 0),
+        edition: edition_of(header),
         check: has(header, CHECK),
         minimum: setting(header, 1) as usize,
         skip: skip_of(header),
-        stretch: Stretch {
-            start: setting(header, 3) as usize,
-            len: setting(header, 4) as usize,
-        },
+        withheld: withheld_by(header),
     }
 }
 

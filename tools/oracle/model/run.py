@@ -1,5 +1,5 @@
-"""Document 01's whole run, put together from reader.py, collection.py, search.py and listing.py: an image, a library,
-settings and lent memory become a list, or a number."""
+"""Document 01's whole run, with the editions of change request W-205, put together from reader.py, collection.py, search.py
+and listing.py: an image, a library, settings and lent memory become a list, or a number."""
 from dataclasses import dataclass
 
 from model import collection, listing, reader, search
@@ -11,6 +11,8 @@ LISTS = ("segments", "references", "symbols", "bytes", "masks", "placed", "noted
 WIDTHS = (*collection.WIDTHS, search.PLACED, search.NOTED, listing.LINE)
 # What stands in each of them before a run.
 BEFORE = tuple(0xA5 if width == 1 else 0xA5A5A5A5A5A5A5A5 for width in WIDTHS)
+# The refusals that set all lent lists to zero; the others write nothing.
+ZEROING = range(9, 14)
 
 
 @dataclass
@@ -31,9 +33,10 @@ class Run:
     renamed: tuple = None
     # The numbers of which one must come, as far as the making tells.
     must: tuple = None
+    edition: int = reader.FIRST
 
     def settings(self):
-        return self.rules, self.check, self.minimum, self.skip, self.stretch, self.more
+        return self.rules, self.edition, self.check, self.minimum, self.skip, self.stretch, self.more
 
     def shown(self):
         """The run as plain values: hexadecimal for bytes, nothing for what is not given."""
@@ -67,9 +70,11 @@ class Watched(search.Search):
 
 
 def at_once(run):
-    """The first of 1, 2, 3, 16 and 4 that is due, or 0."""
+    """The first of 1, 30, 2, 3, 16 and 4 that is due, or 0."""
     if run.rules not in (collection.FOUND, collection.DOCUMENTED):
         return 1
+    if run.edition not in (reader.FIRST, reader.SECOND):
+        return 30
     if len(run.image) > search.LONGEST_IMAGE:
         return 2
     if len(run.library) > LONGEST_LIBRARY:
@@ -84,11 +89,11 @@ class Stages:
 
     def __init__(self, run):
         self.run, self.modules, self.segments, self.fault, self.listing = run, [], [], 0, None
-        # The first of 1 to 8, and of 10 to 13.
+        # The first of 1 to 8, 14, 15 and 30, and of 10 to 13.
         self.number = at_once(run)
         if self.number == 0:
             try:
-                self.modules = reader.read(run.library)
+                self.modules = reader.read(run.library, run.edition)
             except reader.Refused as why:
                 self.number = why.args[0]
         if self.number == 0:
@@ -139,10 +144,10 @@ class Stages:
         return self.fault or (9 if any(short) else 0)
 
     def outcome(self, lent):
-        """With lists of these lengths. 9 to 13 leave zeros; the other numbers write nothing."""
+        """With lists of these lengths."""
         number = self.number_with(lent)
         if number:
-            left = (0,) * 8 if 9 <= number <= 13 else BEFORE
+            left = (0,) * 8 if number in ZEROING else BEFORE
             return Outcome(number, (0,) * 7, [[each] * n for each, n in zip(left, lent)], b"")
         lists = [rows + [0] * (n - len(rows)) for rows, n in zip(self.rows, lent)]
         counts = [n // width for n, width in zip(self.needed, WIDTHS)]

@@ -4,7 +4,7 @@ use Rattle.libfind_c.proofs.numbers.settings_of.Statement.{statement}
 use Rattle.libfind_c.proofs.numbers.settings_of.Tie as tie
 
 returns : tie.Need-returns
-returns c = rw (c .skip-of .ensures)
+returns c = rw (c .before .skip-of .ensures, c .gather .ensures)
 
 pub settings-of-spec : {M : Type 1} → statement M
-settings-of-spec = tie.close (tie.spec (λ c κs. search needs) returns)
+settings-of-spec = tie.close (tie.spec (λ c κs. search needs) (λ c κs. search needs) returns)
