@@ -21,8 +21,9 @@ use Rattle.run.specs.declared.Settings.{Settings}
 use Rattle.run.specs.declared.Counts.{Counts}
 use Rattle.run.specs.declared.Answer.{Answer}
 use Rattle.run.specs.declared.Answer.the-variants.{Done, Refused}
-use Rattle.run.specs.Run.{Lent, Outcome, askedOf, numberOf, countsOf}
+use Rattle.run.specs.Run.{Lent, Outcome, askedOf, cover, numberOf, countsOf}
 use Rattle.image.specs.View.{view as caseView}
+use Rattle.image.specs.Cover.{noStretches, gathered as caseGathered}
 use Rattle.omf51.specs.File.{file as caseFile, modulesIn}
 use Rattle.segments.specs.Collect.{collect as caseCollect}
 use Rattle.search_rules.specs.declared.Why.the-variants as Why
@@ -82,9 +83,9 @@ caseLent = record {
   lines = replicate ROWS 7;
 }
 
-abbrev caseSettings : ℕ → ℕ → Bool → ℕ → Skip → ℕ → ℕ → Settings
-caseSettings rules edition check minimum skip start len =
-    record { rules = rules; edition = edition; check = check; minimum = minimum; skip = skip; stretch = record { start = start; len = len } }
+abbrev caseSettings : ℕ → ℕ → Bool → ℕ → Skip → List ℕ → Settings
+caseSettings rules edition check minimum skip numbers =
+    record { rules = rules; edition = edition; check = check; minimum = minimum; skip = skip; withheld = caseGathered noStretches numbers }
 
 abbrev caseListedIn : List ℕ → Outcome → CaseListed
 caseListedIn library o = record { number = numberOf (o .answer); lines = map (caseLineOf library) (caseLines o) }
@@ -117,7 +118,7 @@ caseWhy (Failed.Reference number Why.NoMatch) = 3 * number + 3
 
 abbrev caseFailed : List ℕ → List ℕ → Settings → List ℕ
 caseFailed image library s =
-    let cells = caseView image (s .stretch) in
+    let cells = caseView image (cover s) in
     let gs = caseCollect (askedOf s .rules) library (modulesIn (caseFile library)) in
     map (λ m. caseWhy (caseFirst cells (askedOf s) gs m)) (caseMatches cells gs)
 """
@@ -152,7 +153,7 @@ def listing(numbers):
 
 def asked(run):
     skip = "Never" if run.skip is None else f"(Above {run.skip})"
-    settings = f"{run.rules} {run.edition} {str(run.check).lower()} {run.minimum} {skip} {run.stretch[0]} {run.stretch[1]}"
+    settings = f"{run.rules} {run.edition} {str(run.check).lower()} {run.minimum} {skip} {listing(n for stretch in (run.stretch, *run.more) for n in stretch)}"
     return f"{listing(run.image)} {listing(run.library)} (caseSettings {settings})"
 
 
