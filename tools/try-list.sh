@@ -135,7 +135,6 @@ for option in --min-fn-length --skip-multiple --rules --edition --withhold; do
     wrong "the option '$option' lacks its value" aid.img routines.lib "$option"
 done
 wrong "the option '--no-check' is given twice" --no-check aid.img routines.lib --no-check
-wrong "the option '--withhold' is given twice" aid.img routines.lib --withhold 0:1 --withhold 2:3
 wrong "the option '--rules' is given twice" aid.img routines.lib --rules found --rules documented
 wrong "the option '--edition' is given twice" aid.img routines.lib --edition 1 --edition 2
 wrong "the option '--min-fn-length' is given twice" aid.img routines.lib --min-fn-length 3 --min-fn-length 4

@@ -6,7 +6,8 @@ use mathlib.Core.List.{List, [], _∷_, map}
 use Prim.Native.String.{String}
 use Rattle.lent.specs.Parts.{same}
 use Rattle.describe.specs.Describe.{text}
-use Rattle.image.specs.declared.Stretch.{Stretch}
+use Rattle.image.specs.declared.cover.Stretches.{Stretches}
+use Rattle.image.specs.Cover.{noStretches, oneMore}
 use Rattle.listing_rules.specs.declared.Skip.{Skip}
 use Rattle.listing_rules.specs.declared.Skip.the-variants.{Never, Above}
 use Rattle.command.specs.Words.{mistake}
@@ -24,22 +25,22 @@ asked : List String → Requested
 asked words = settingsIn (map text words)
 
 -- the image is word `image`, the library word `library`
-for : ℕ → ℕ → ℕ → ℕ → Bool → ℕ → Skip → Stretch → Requested
-for image library rules edition check minimum skip stretch =
+for : ℕ → ℕ → ℕ → ℕ → Bool → ℕ → Skip → Stretches → Requested
+for image library rules edition check minimum skip stretches =
     Whole (record {
       image = image;
       library = library;
-      settings = record { rules = rules; edition = edition; check = check; minimum = minimum; skip = skip; stretch = stretch };
+      settings = record { rules = rules; edition = edition; check = check; minimum = minimum; skip = skip; withheld = stretches };
     })
 
-nothing : Stretch
-nothing = record { start = 0; len = 0 }
+nothing : Stretches
+nothing = noStretches
 
 plain : asked ("aid.img" ∷ "routines.lib" ∷ []) ≡ for 1 2 1 1 true 3 Never nothing
 unfolding asked for nothing same kindOf settingsOf freeTaken taken requestOf ended settingsFrom
 plain = refl
 
-withheld : asked ("aid.img" ∷ "routines.lib" ∷ "--withhold" ∷ "0x1204:8" ∷ []) ≡ for 1 2 1 1 true 3 Never (record { start = 0x1204; len = 8 })
+withheld : asked ("aid.img" ∷ "routines.lib" ∷ "--withhold" ∷ "0x1204:8" ∷ []) ≡ for 1 2 1 1 true 3 Never (oneMore noStretches 0x1204 8)
 unfolding asked for same digitOf digitsFrom numberOf numberRead colonIn stretchRead stretchValue optionOf kindOf settingsOf freeTaken taken requestOf ended settingsFrom
 withheld = refl
 
@@ -48,8 +49,12 @@ all-options : asked ("--rules" ∷ "found" ∷ "aid.img" ∷ "--no-check" ∷ "-
 unfolding asked for nothing same digitOf digitsFrom numberOf numberRead numberValue rulesValue optionOf kindOf settingsOf freeTaken taken requestOf ended settingsFrom
 all-options = refl
 
-twice : asked ("--withhold" ∷ "0:1" ∷ "aid.img" ∷ "routines.lib" ∷ "--withhold" ∷ "2:3" ∷ []) ≡ Wrong (mistake Twice 5)
-unfolding asked same digitOf digitsFrom numberOf numberRead colonIn stretchRead stretchValue optionOf kindOf freeTaken taken settingsFrom
+several : asked ("--withhold" ∷ "0:1" ∷ "aid.img" ∷ "routines.lib" ∷ "--withhold" ∷ "2:3" ∷ []) ≡ for 3 4 1 1 true 3 Never (oneMore (oneMore noStretches 0 1) 2 3)
+unfolding asked for same digitOf digitsFrom numberOf numberRead colonIn stretchRead stretchValue optionOf kindOf settingsOf freeTaken taken requestOf ended settingsFrom
+several = refl
+
+twice : asked ("--rules" ∷ "found" ∷ "aid.img" ∷ "routines.lib" ∷ "--rules" ∷ "found" ∷ []) ≡ Wrong (mistake Twice 5)
+unfolding asked same rulesValue optionOf kindOf freeTaken taken settingsFrom
 twice = refl
 
 no-value : asked ("aid.img" ∷ "--rules" ∷ []) ≡ Wrong (mistake NoValue 2)

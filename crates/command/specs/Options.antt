@@ -6,6 +6,7 @@ use lib.Dec.{eqb}
 use lib.ListN.{length, getD}
 use Rattle.lent.specs.Choice.{if_then_else_}
 use Rattle.lent.specs.Parts.{same}
+use Rattle.image.specs.Cover.{noStretches, oneMore}
 use Rattle.describe.specs.Describe.{text}
 use Rattle.command.specs.Values.{numberValue, rulesValue}
 use Rattle.command.specs.Stretches.{stretchValue}
@@ -17,8 +18,9 @@ use Rattle.command.specs.declared.options.Kind.{Kind}
 use Rattle.command.specs.declared.options.Kind.the-variants.{NoCheck, Valued, Unknown, File}
 use Rattle.command.specs.declared.options.Value.{Value}
 use Rattle.command.specs.declared.options.Value.the-variants.{Absent, Given}
-use Rattle.command.specs.declared.options.Stretches.{Stretches}
-use Rattle.command.specs.declared.options.Stretches.the-variants.{Absent as NoStretch, Given as GivenStretch}
+use Rattle.command.specs.declared.stretch.Withheld.the-variants.{Stretch, Wrong}
+use Rattle.command.specs.declared.options.Held.{Held}
+use Rattle.command.specs.declared.options.Held.the-variants.{Stretches, Wrong as WrongBefore}
 use Rattle.command.specs.declared.options.Options.{Options}
 
 -- the options by their words
@@ -41,23 +43,19 @@ kindOf word =
 
 -- where no option is given: references are checked, and nothing else is said
 abbrev pub noOptions : Options
-noOptions = record { rules = Absent; edition = Absent; check = true; minimum = Absent; skip = Absent; withheld = NoStretch }
+noOptions = record { rules = Absent; edition = Absent; check = true; minimum = Absent; skip = Absent; withheld = Stretches noStretches }
 
 abbrev pub valueGiven : Value → Bool
 valueGiven Absent = false
 valueGiven (Given read) = true
 
-abbrev pub stretchGiven : Stretches → Bool
-stretchGiven NoStretch = false
-stretchGiven (GivenStretch read) = true
-
--- whether an option has its value already
+-- whether an option has its value already; there may be several stretches
 abbrev pub isGiven : Options → valued.Valued → Bool
 isGiven o Rules = valueGiven (o .rules)
 isGiven o Edition = valueGiven (o .edition)
 isGiven o Minimum = valueGiven (o .minimum)
 isGiven o Skip = valueGiven (o .skip)
-isGiven o Withhold = stretchGiven (o .withheld)
+isGiven o Withhold = false
 
 -- an option's value is put in; the others stay
 abbrev pub withRules : Options → Read → Options
@@ -76,9 +74,15 @@ abbrev pub withSkip : Options → Read → Options
 withSkip o read =
     record { rules = o .rules; edition = o .edition; check = o .check; minimum = o .minimum; skip = Given read; withheld = o .withheld }
 
+-- one stretch more; of several values that are wrong the first is told
+abbrev pub heldWith : Held → Withheld → Held
+heldWith (Stretches w) (Stretch s) = Stretches (oneMore w (s .start) (s .len))
+heldWith (Stretches w) (Wrong m) = WrongBefore m
+heldWith (WrongBefore m) read = WrongBefore m
+
 abbrev pub withWithheld : Options → Withheld → Options
 withWithheld o read =
-    record { rules = o .rules; edition = o .edition; check = o .check; minimum = o .minimum; skip = o .skip; withheld = GivenStretch read }
+    record { rules = o .rules; edition = o .edition; check = o .check; minimum = o .minimum; skip = o .skip; withheld = heldWith (o .withheld) read }
 
 abbrev pub uncheckedOf : Options → Options
 uncheckedOf o =

@@ -79,7 +79,7 @@ fn take_file(known: Given, i: usize) -> Step
     })
 }
 
-// An option that is given twice is refused, not settled by the last: of two stretches to be withheld neither may be passed over.
+// An option that is given twice is refused, not settled by the last; but for --withhold, which is given once for each stretch.
 fn take_option(known: Given, option: Valued, i: usize) -> Step
     ensures { λ r. ⌜ r ≡ optionTaken known option i ⌝ }
 {

@@ -1,11 +1,15 @@
 // The options by their words, and what is known of them so far.
 ghost use mathlib.Core.Path.{_≡_};
-ghost use Rattle.command.specs.Options.{optionOf, kindOf, noOptions, valueGiven, stretchGiven, isGiven, withRules, withEdition, withMinimum, withSkip, withWithheld, withValue, uncheckedOf};
+ghost use Rattle.command.specs.Options.{optionOf, kindOf, noOptions, valueGiven, isGiven, heldWith, withRules, withEdition, withMinimum, withSkip, withWithheld, withValue, uncheckedOf};
+use crate::mistake::Mistake;
 use crate::stretch::Withheld;
 use crate::stretch::stretch_value;
 use crate::values::Read;
 use crate::values::number_value;
 use crate::values::rules_value;
+use image::cover::Stretches;
+use image::cover::no_stretches;
+use image::cover::one_more;
 use lent::names::same;
 
 // The options that have a value, which is the next word.
@@ -31,10 +35,10 @@ pub enum Value {
     Given(Read),
 }
 
-// The value of --withhold, if that is given.
-pub enum Stretches {
-    Absent,
-    Given(Withheld),
+// What --withhold asks for, which may be given more than once: the stretches so far, or the first value that is wrong.
+pub enum Held {
+    Stretches(Stretches),
+    Wrong(Mistake),
 }
 
 // The options so far. References are checked, unless --no-check is given.
@@ -44,7 +48,7 @@ pub struct Options {
     pub check: bool,
     pub minimum: Value,
     pub skip: Value,
-    pub withheld: Stretches,
+    pub withheld: Held,
 }
 
 fn option_of(word: &[u8]) -> Kind
@@ -93,7 +97,7 @@ pub fn no_options() -> Options
         check: true,
         minimum: Value::Absent,
         skip: Value::Absent,
-        withheld: Stretches::Absent,
+        withheld: Held::Stretches(no_stretches()),
     }
 }
 
@@ -106,16 +110,20 @@ fn is_value_given(value: Value) -> bool
     }
 }
 
-fn is_stretch_given(value: Stretches) -> bool
-    ensures { λ r. ⌜ r ≡ stretchGiven value ⌝ }
+// One stretch more, or a value that is wrong; one that was wrong before is told.
+fn held_with(known: Held, read: Withheld) -> Held
+    ensures { λ r. ⌜ r ≡ heldWith known read ⌝ }
 {
-    match value {
-        Stretches::Absent => false,
-        Stretches::Given(_) => true,
+    match known {
+        Held::Stretches(w) => match read {
+            Withheld::Stretch(s) => Held::Stretches(one_more(w, s.start as u64, s.len as u64)),
+            Withheld::Wrong(m) => Held::Wrong(m),
+        },
+        Held::Wrong(m) => Held::Wrong(m),
     }
 }
 
-// Whether an option has its value already.
+// Whether an option has its value already. There may be several stretches.
 pub fn is_given(o: Options, option: Valued) -> bool
     ensures { λ r. ⌜ r ≡ isGiven o option ⌝ }
 {
@@ -123,13 +131,12 @@ pub fn is_given(o: Options, option: Valued) -> bool
     let edition = o.edition;
     let minimum = o.minimum;
     let skip = o.skip;
-    let withheld = o.withheld;
     match option {
         Valued::Rules => is_value_given(rules),
         Valued::Edition => is_value_given(edition),
         Valued::Minimum => is_value_given(minimum),
         Valued::Skip => is_value_given(skip),
-        Valued::Withhold => is_stretch_given(withheld),
+        Valued::Withhold => false,
     }
 }
 
@@ -208,13 +215,14 @@ fn with_withheld(o: Options, read: Withheld) -> Options
     let edition = o.edition;
     let minimum = o.minimum;
     let skip = o.skip;
+    let withheld = o.withheld;
     Options {
         rules,
         edition,
         check: o.check,
         minimum,
         skip,
-        withheld: Stretches::Given(read),
+        withheld: held_with(withheld, read),
     }
 }
 

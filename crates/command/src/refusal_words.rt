@@ -13,6 +13,7 @@ fn settings_words(r: Refusal, lent: Counts) {
         Refusal::ImageTooLong => say(b"image too long (more than 65536 bytes)"),
         Refusal::LibraryTooLong => say(b"library too long (more than 65536 bytes)"),
         Refusal::StretchPastEnd => say(b"withheld start + length passes the image's end"),
+        Refusal::TooManyStretches => say(b"more than 16 stretches are withheld"),
         _ => library_words(r, lent),
     }
 }

@@ -1,13 +1,11 @@
 // The settings that the options ask for. Where an option is not given, they are as the command's help says.
 ghost use mathlib.Core.Path.{_≡_};
-ghost use Rattle.command.specs.SettingsOf.{numberOr, stretchOr, skipAdded, stretchAdded, settingsOf};
+ghost use Rattle.command.specs.SettingsOf.{numberOr, skipAdded, stretchAdded, settingsOf};
 use crate::mistake::Mistake;
+use crate::options::Held;
 use crate::options::Options;
-use crate::options::Stretches;
 use crate::options::Value;
-use crate::stretch::Withheld;
 use crate::values::Read;
-use image::Stretch;
 use listing_rules::Skip;
 use run::Settings;
 
@@ -35,16 +33,6 @@ fn number_or(value: Value, otherwise: u64) -> Read
     }
 }
 
-// Nothing is withheld where nothing is said.
-fn stretch_or_none(value: Stretches) -> Withheld
-    ensures { λ r. ⌜ r ≡ stretchOr value ⌝ }
-{
-    match value {
-        Stretches::Absent => Withheld::Stretch(Stretch { start: 0, len: 0 }),
-        Stretches::Given(read) => read,
-    }
-}
-
 // Settings that leave no address out, with the skip amount still to be put in.
 fn with_skip(known: Settings, value: Value) -> Wanted
     ensures { λ r. ⌜ r ≡ skipAdded known value ⌝ }
@@ -52,7 +40,7 @@ fn with_skip(known: Settings, value: Value) -> Wanted
     let Value::Given(read) = value else {
         return Wanted::Settings(known);
     };
-    let stretch = known.stretch;
+    let withheld = known.withheld;
     match read {
         Read::Number(amount) => Wanted::Settings(Settings {
             rules: known.rules,
@@ -60,34 +48,34 @@ fn with_skip(known: Settings, value: Value) -> Wanted
             check: known.check,
             minimum: known.minimum,
             skip: Skip::Above(amount as usize),
-            stretch,
+            withheld,
         }),
         Read::Wrong(m) => Wanted::Wrong(m),
     }
 }
 
-fn with_stretch(o: Options, rules: u64, edition: u64, minimum: u64) -> Wanted
+fn with_withheld(o: Options, rules: u64, edition: u64, minimum: u64) -> Wanted
     ensures { λ r. ⌜ r ≡ stretchAdded o rules edition minimum ⌝ }
 {
-    let withheld = o.withheld;
+    let held = o.withheld;
     let skip = o.skip;
-    match stretch_or_none(withheld) {
-        Withheld::Stretch(stretch) => with_skip(
+    match held {
+        Held::Stretches(withheld) => with_skip(
             Settings {
                 rules,
                 edition,
                 check: o.check,
                 minimum: minimum as usize,
                 skip: Skip::Never,
-                stretch,
+                withheld,
             },
             skip,
         ),
-        Withheld::Wrong(m) => Wanted::Wrong(m),
+        Held::Wrong(m) => Wanted::Wrong(m),
     }
 }
 
-// Of several values that are wrong the rules' is told first, then the edition, the minimum, the stretch and the skip amount.
+// Of several values that are wrong the rules' is told first, then the edition, the minimum, the first stretch that is, and the skip amount.
 pub fn settings_of(o: Options) -> Wanted
     ensures { λ r. ⌜ r ≡ settingsOf o ⌝ }
 {
@@ -97,7 +85,7 @@ pub fn settings_of(o: Options) -> Wanted
     match number_or(rules, RULES) {
         Read::Number(set) => match number_or(edition, EDITION) {
             Read::Number(edition) => match number_or(minimum, MINIMUM) {
-                Read::Number(least) => with_stretch(o, set, edition, least),
+                Read::Number(least) => with_withheld(o, set, edition, least),
                 Read::Wrong(m) => Wanted::Wrong(m),
             },
             Read::Wrong(m) => Wanted::Wrong(m),
