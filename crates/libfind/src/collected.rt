@@ -112,7 +112,7 @@ fn find_by_heads(
         (lentLists (now (segments .exit)) (now (references .exit)) (now (symbols .exit)) (now (bytes .exit)) (now (masks .exit)) (now (placed .exit)) (now (noted .exit)) (now (lines .exit))) ⌝ }
 {
     let withheld = settings.withheld;
-    let pairs = withheld.pairs;
+    let pairs = pairs_of(settings);
     let s = first_pairs(&pairs, withheld.count);
     let skip = settings.skip;
     let asked = asked_of(settings);
@@ -178,6 +178,14 @@ fn conclude(collected: CollectCounts, listed: FindAnswer) -> Answer
         }),
         FindAnswer::Refused(r) => Answer::Refused(r),
     }
+}
+
+// The pairs of numbers that say what the settings withhold, as an array of which the length is known where it is lent.
+fn pairs_of(settings: Settings) -> [u64; 32]
+    ensures { λ r. ⌜ r ≡ settings .withheld .pairs ⌝ }
+{
+    let withheld = settings.withheld;
+    withheld.pairs
 }
 
 // What the settings ask of the search.

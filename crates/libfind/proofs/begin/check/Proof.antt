@@ -19,7 +19,7 @@ abbrev at-else5 : tie.After-passes-end → tie.Else5
 at-else5 c = c .before .before .before .before
 
 abbrev at-else4 : tie.After-passes-end → tie.Else4
-at-else4 c = at-else5 c .before .before
+at-else4 c = at-else5 c .before .before .before
 
 -- the rule set and the edition are fine
 rules-fine : (c : tie.After-is-other-edition) → at-entry c .args .settings .rules ≤ 1
@@ -54,7 +54,7 @@ fitting c = (omega (arith, c .before .if3 .left), omega (arith, c .if4 .left))
 
 returns-5 : tie.Need-returns-5
 returns-5 c =
-    let last = c .before .before in
+    let last = c .before .before .before in
     let edition = last .before .before in
     let a = at-entry (edition .before) .args in
     refused-16 (a .image) (a .library) (a .settings) (rules-fine (edition .before)) (edition-fine edition) (fitting last .0) (fitting last .1) (omega (arith, c .if5 .taken))
@@ -89,6 +89,7 @@ check-spec =
     returns-3
     returns-4
     returns-5
+    (λ c. search needs)
     (λ c κs. search needs)
     (λ c κs. search needs)
     returns-6
