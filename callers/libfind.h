@@ -41,11 +41,17 @@ enum {
      6  a record's body passes the file's end      7  a record has length 0                  8  a module's header and end have different names
      9  more rows or pattern bytes than were lent 10  a fixup kind above 7                  11  a fixup block above 3
     12  a content passes its segment's end        13  a fixup to a segment that is not kept
-   Refusals 1 to 8 leave all lent lists as they were, 9 to 13 set them to zero. On 0 each list begins with its rows, and the rest of it is zero.
+    14  a record's bytes do not sum to 0          15  bytes are left over behind a record's entries, or behind the file's last record
+    30  edition not 1 or 2
+   The first that applies is given: 1, 30, 2, 3, 4; of 5 to 8, 14 and 15 the first that is met in the file; then 9 to 13.
+   Refusals 9 to 13 set all lent lists to zero, all others leave them as they were. On 0 each list begins with its rows, and the rest of it is zero.
 
    image, library       the bytes of both files
    rules                1: as documented, where AJMP and ACALL keep the top three bits of their targets, a target has 16 bits and a symbol of an absolute content
                         stands at its own address; no line has an address above FFFFh. 0: as at51 has it
+   edition              how the library is read. 1: checksums and bytes that are left over are not looked at. 2: all bytes of a record, its checksum included, sum
+                        to 0 modulo 256, entries use up the body of their record, and the last record the file; else 14 or 15. What edition 2 reads, edition 1
+                        reads to the same modules
    check                whether a match counts only if the segments that it refers to stand where it says
    minimum              so many bytes of a pattern must be fixed, in whole or in part, for a match to count by itself
    skips, amount        whether addresses with more than `amount` names are left out; if not, `amount` has no influence
@@ -59,11 +65,11 @@ enum {
    lines                for the list, rows of 4, by address: the address, the grade, and the place and the length of the name in the library.
                         Grade 3: it stands there, is referred to there, and what it refers to by name stands where it should. 2: the same, but not referred to.
                         1: something that it refers to by name does not stand where it should. 0: it is only referred to there */
-uint8_t sillmarble_find(const uint8_t *image, size_t in_image, const uint8_t *library, size_t in_library, uint64_t rules, bool check, size_t minimum,
-                        bool skips, size_t amount, size_t withheld, size_t withheld_length, uint64_t *counts, size_t in_counts, uint64_t *segments,
-                        size_t in_segments, uint64_t *references, size_t in_references, uint64_t *symbols, size_t in_symbols, uint8_t *bytes,
-                        size_t in_bytes, uint8_t *masks, size_t in_masks, uint64_t *placed, size_t in_placed, uint64_t *noted, size_t in_noted,
-                        uint64_t *lines, size_t in_lines);
+uint8_t sillmarble_find(const uint8_t *image, size_t in_image, const uint8_t *library, size_t in_library, uint64_t rules, uint64_t edition, bool check,
+                        size_t minimum, bool skips, size_t amount, size_t withheld, size_t withheld_length, uint64_t *counts, size_t in_counts,
+                        uint64_t *segments, size_t in_segments, uint64_t *references, size_t in_references, uint64_t *symbols, size_t in_symbols,
+                        uint8_t *bytes, size_t in_bytes, uint8_t *masks, size_t in_masks, uint64_t *placed, size_t in_placed, uint64_t *noted,
+                        size_t in_noted, uint64_t *lines, size_t in_lines);
 
 /* Prints the heading and the first n lines into `out`, in at51's layout, each with its line end and with no 0 behind the last. `library` is the one that the
    lines were made of. Returns how many bytes that are; 0 if `out` is too short, which then stays as it was. */

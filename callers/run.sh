@@ -52,15 +52,15 @@ passed=0 failed=0
 # The examples and the program have to do with 6 MiB of stack.
 ulimit -S -s 6144
 # Runs an example and the listing program on the same files: status and standard output must be the same, and the refusal's number.
-try() { # EXAMPLE IMAGE LIBRARY RULES
+try() { # EXAMPLE IMAGE LIBRARY RULES EDITION
     was=0 got=0
-    ./sillmarble list "$2" "$3" --rules "$4" >"$out/was" 2>"$out/was.err" || was=$?
-    $emulator "$out/$1" "$2" "$3" "$4" >"$out/got" 2>"$out/got.err" || got=$?
+    ./sillmarble list "$2" "$3" --rules "$4" --edition "$5" >"$out/was" 2>"$out/was.err" || was=$?
+    $emulator "$out/$1" "$2" "$3" "$4" "$5" >"$out/got" 2>"$out/got.err" || got=$?
     if [ "$was" -eq "$got" ] && cmp -s "$out/was" "$out/got" && [ "$(sed 's/:.*//' "$out/was.err")" = "$(cat "$out/got.err")" ]; then
         passed=$((passed + 1))
     else
         failed=$((failed + 1))
-        echo "failed: $1 $2 $3 $4 (status $got and $was)"
+        echo "failed: $* (status $got and $was)"
     fi
 }
 
@@ -83,13 +83,19 @@ try_hex export hex examples/aid.img
 try_hex import unhex "$out/aid.hex"
 # an image is no text: refusal 20
 try_hex import unhex examples/aid.img
+# a byte behind the library's last record: edition 2 refuses it with 15
+cp examples/routines.lib "$out/over.lib"
+printf '\032' >>"$out/over.lib"
 for example in example-c example-rs; do
-    for rules in found documented; do
-        try "$example" examples/aid.img examples/routines.lib "$rules"
-        # an image is no library: refusal 5
-        try "$example" examples/aid.img examples/aid.img "$rules"
+    for edition in 1 2 3; do
+        for rules in found documented; do
+            try "$example" examples/aid.img examples/routines.lib "$rules" "$edition"
+            # an image is no library: refusal 5, or 14 by edition 2
+            try "$example" examples/aid.img examples/aid.img "$rules" "$edition"
+        done
+        try "$example" examples/aid.img "$out/over.lib" documented "$edition"
     done
 done
-$emulator "$out/example-c" examples/aid.img examples/routines.lib documented
+$emulator "$out/example-c" examples/aid.img examples/routines.lib documented 1
 printf '%s passed, %s failed\n' "$passed" "$failed"
 [ "$failed" -eq 0 ]

@@ -50,7 +50,14 @@ printed documented aid.img routines.lib --rules documented
 printed found aid.img routines.lib --rules found
 printed found --rules found aid.img routines.lib
 printed found aid.img --rules found routines.lib
+printed documented aid.img routines.lib --edition 1
+printed documented aid.img routines.lib --edition 2
+printed found --edition 0x2 aid.img --rules found routines.lib
+printed documented aid.img sum.lib
+printed documented aid.img over.lib
+printed full full.img half.lib --edition 1
 printed printed printed.img printed.lib
+printed printed printed.img printed.lib --edition 2
 printed printed printed.img printed.lib --rules found --min-fn-length 3
 printed heading printed.img printed.lib --min-fn-length 4
 printed heading printed.img printed.lib --min-fn-length 0xfF
@@ -95,6 +102,28 @@ refused '(10): a fixup kind above 7, block not 3' aid.img kind.lib
 refused '(11): a fixup block above 3' aid.img block.lib
 refused '(12): content end passes the size of the kept segment it goes to' aid.img past.lib
 refused '(13): a block-1 fixup names a code segment and no kept segment has its id' aid.img kept.lib
+sum="(14): a record's bytes do not sum to 0 (--edition 1 does not look at sums)"
+refused "$sum" aid.img sum.lib --edition 2
+refused "$sum" aid.img aid.img --edition 2
+over="(15): bytes are left over behind a record's entries, or behind the file's last record (--edition 1 passes them over)"
+refused "$over" aid.img over.lib --edition 2
+refused "$over" full.img half.lib --edition 2
+refused "$over" full.img full.lib --edition 2
+refused "$over" aid.img left.lib --edition 2
+refused "(8): a whole module's header and end names differ" aid.img left.lib
+refused "(8): a whole module's header and end names differ" aid.img named.lib --edition 2
+refused '(7): a record expected here has length 0' aid.img zero.lib --edition 2
+refused "(6): the body (length - 1 bytes) of a record expected here passes the file's end" aid.img cut.lib --edition 2
+refused "$closing" aid.img unclosed.lib --edition 2
+refused "$past" aid.img sum.lib --edition 2 --withhold 10240:1
+for value in 0 3 0xffffffffffffffff; do
+    refused '(30): edition not 1 or 2' aid.img routines.lib --edition "$value"
+done
+refused '(30): edition not 1 or 2' long.img long.lib --edition 0
+refused '(30): edition not 1 or 2' aid.img long.lib --edition 3
+refused '(30): edition not 1 or 2' aid.img none.lib --edition 3 --withhold 10240:1
+refused '(2): image too long (more than 65536 bytes)' long.img long.lib --edition 2
+refused '(3): library too long (more than 65536 bytes)' aid.img long.lib --edition 2
 
 wrong 'an image and a library are to be named'
 wrong 'a library is to be named behind the image' aid.img
@@ -102,12 +131,13 @@ wrong "only an image and a library are taken, and there is also 'third'" aid.img
 wrong "there is no option '--check'" aid.img routines.lib --check
 wrong "there is no option '-n'" aid.img routines.lib -n
 wrong "there is no option '-'" - routines.lib
-for option in --min-fn-length --skip-multiple --rules --withhold; do
+for option in --min-fn-length --skip-multiple --rules --edition --withhold; do
     wrong "the option '$option' lacks its value" aid.img routines.lib "$option"
 done
 wrong "the option '--no-check' is given twice" --no-check aid.img routines.lib --no-check
 wrong "the option '--withhold' is given twice" aid.img routines.lib --withhold 0:1 --withhold 2:3
 wrong "the option '--rules' is given twice" aid.img routines.lib --rules found --rules documented
+wrong "the option '--edition' is given twice" aid.img routines.lib --edition 1 --edition 2
 wrong "the option '--min-fn-length' is given twice" aid.img routines.lib --min-fn-length 3 --min-fn-length 4
 wrong "the option '--skip-multiple' is given twice" aid.img routines.lib --skip-multiple 3 --skip-multiple 4
 number='a number is decimal, or hexadecimal behind 0x, and not'
@@ -118,12 +148,16 @@ for value in '' x 3x 0x 0xg -1 ' 3' 0X10; do
     wrong "$number '1:$value'" aid.img routines.lib --withhold "1:$value"
 done
 wrong "$number '1:2:3'" aid.img routines.lib --withhold 1:2:3
+wrong "$number 'two'" aid.img routines.lib --edition two
+wrong "$number ''" aid.img routines.lib --edition '' --min-fn-length x
+wrong "the rules are found or documented, and not 'old'" aid.img routines.lib --edition x --rules old
 large='a number is at most 18446744073709551615, and not'
 for value in 18446744073709551616 0x10000000000000000 99999999999999999999999; do
     wrong "$large '$value'" aid.img routines.lib --min-fn-length "$value"
     wrong "$large '$value'" aid.img routines.lib --skip-multiple "$value"
     wrong "$large '0:$value'" aid.img routines.lib --withhold "0:$value"
 done
+wrong "$large '18446744073709551616'" aid.img routines.lib --edition 18446744073709551616
 printed documented aid.img routines.lib --skip-multiple 18446744073709551615
 printed documented aid.img routines.lib --skip-multiple 0xFFFFffffFFFFffff
 wrong "what is withheld is START:LENGTH, and not '5'" aid.img routines.lib --withhold 5
@@ -146,7 +180,7 @@ count $was 'a list that cannot be written'
 
 # help names each option and each command
 "$program" list aid.img --help --rules >out 2>err && was=0 || was=1
-for word in --rules --no-check --min-fn-length --skip-multiple --withhold --help 'refused (N)' 'usage:'; do
+for word in --rules --edition --no-check --min-fn-length --skip-multiple --withhold --help 'refused (N)' 'usage:'; do
     grep -q -e "$word" out || was=1
 done
 [ ! -s err ] || was=1

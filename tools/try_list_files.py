@@ -31,6 +31,8 @@ def fixed(*entries):
 def libraries():
     whole = make.routine("LADD", "?C?LADD", make.ADD)
     header = make.record(0x02, make.name("M") + b"\0\0")
+    routines = make.library()
+    entry = make.public(1, 0, "?C?LADD")[3:-1]
     return {
         "full": whole + bytes(65536 - len(whole)),
         "long": whole + bytes(65537 - len(whole)),
@@ -39,6 +41,11 @@ def libraries():
         "cut": header + b"\x0E\xFF\xFF\x01",
         "zero": header + b"\x0E\x00\x00",
         "named": make.record(0x02, make.name("M") + b"\0\0") + make.record(0x04, make.name("N") + bytes(4)),
+        # what edition 2 refuses: a wrong sum, a byte behind the file's last record, half an entry, and a byte left over in an end record of another name
+        "sum": routines[:-1] + bytes([routines[-1] ^ 1]),
+        "over": routines + b"\x1A",
+        "half": make.module("LADD", segment(1, len(make.ADD)), make.record(0x16, entry + entry[:-1]), make.content(1, 0, make.ADD)),
+        "left": header + make.record(0x04, make.name("N") + bytes(5)),
         "rows": make.module("M", *(segment(n, 0) for n in (1, 2, 3))),
         "kind": fixed(make.fixup(0, 8, make.EXTERNAL, 1)),
         "block": fixed(make.fixup(0, make.WORD, 4, 1)),

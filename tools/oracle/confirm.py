@@ -1,6 +1,7 @@
 """Holds what the model computes against the Rust, run by run: the number, the list and the printed text; and of the runs that
 are collected also the segments, and the two lists that the search leaves."""
 import rust
+from model import reader
 from model.collection import INBLOCK, RELATIVE, WORD
 from model.run import at_once
 
@@ -18,8 +19,8 @@ def is_utf8(name):
 
 
 def is_askable(run):
-    """The Rust has rule set 0, withholds nothing, and knows no lengths that are too long."""
-    return run.rules == 0 and run.stretch[1] == 0 and at_once(run) == 0
+    """The Rust has rule set 0 and edition 1, withholds nothing, and knows no lengths that are too long."""
+    return (run.rules, run.edition) == (0, reader.FIRST) and run.stretch[1] == 0 and at_once(run) == 0
 
 
 def is_own(stages):

@@ -1,7 +1,8 @@
 #!/usr/bin/env python3
 """Holds what the model computes against the written definition: the checker computes the number, the counts and all eight
-lists of some of the runs that record.py makes of a seed, rule set 1, withheld stretches and too little lent included; and, where they
-come to a search, of each match the first reference that fails, and why. Each is a theorem that holds by computation alone.
+lists of some of the runs that record.py makes of a seed, rule set 1, withheld stretches and too little lent included, half of them made for
+the editions; and, where they come to a search, of each match the first reference that fails, and why. Each is a theorem that holds by
+computation alone.
 
 The status is 0 if all are proved, 1 if one is not, and 2 if the checker fails for another reason."""
 import argparse
@@ -10,9 +11,10 @@ import sys
 import tempfile
 from collections import Counter
 
+from cases.editions import runs as editions
 from definition import checker, template
 from model.run import BEFORE, Stages
-from record import generate, recorded
+from record import EDITIONS_AROUND, EDITIONS_SHORT, different, generate, recorded
 
 BATCH = 20
 # Longer ones take seconds each to compute.
@@ -24,18 +26,28 @@ def reasons(c):
     return [each[1] for each in c.stages.listing.found.failed if each] if c.stages.listing else []
 
 
-def chosen(seed, count):
-    """Short ones, of every kind, number and reasons of failure that has some."""
-    rng = random.Random(seed)
-    short = [run for run in generate(rng) if len(run.image) <= LONGEST_IMAGE and len(run.library) <= LONGEST_LIBRARY]
-    small = [c for c in recorded(rng, list(map(Stages, short))) if sum(c.lent) <= MOST_NUMBERS]
+def short(found):
+    return [Stages(run) for run in found if len(run.image) <= LONGEST_IMAGE and len(run.library) <= LONGEST_LIBRARY]
+
+
+def of_every_sort(rng, cases, count):
+    """Those that are lent little, of every kind, edition, number and reasons of failure that has some."""
+    small = [c for c in cases if sum(c.lent) <= MOST_NUMBERS]
     rng.shuffle(small)
     turn, order = Counter(), []
     for c in small:
-        sort = c.run.kind, c.outcome.number, frozenset(reasons(c))
+        sort = c.run.kind, c.run.edition, c.outcome.number, frozenset(reasons(c))
         turn[sort] += 1
         order.append((turn[sort], len(order), c))
     return [c for _, _, c in sorted(order, key=lambda each: each[:2])[:count]]
+
+
+def chosen(seed, count):
+    """Short ones; half of them were made for the editions."""
+    rng, apart = random.Random(seed), random.Random(seed)
+    first = recorded(rng, short(generate(rng)))
+    by_edition = recorded(apart, short(different(editions.made(apart))), EDITIONS_AROUND, EDITIONS_SHORT)
+    return of_every_sort(rng, first, count - count // 2) + of_every_sort(apart, by_edition, count // 2)
 
 
 def stated(number, c):
@@ -76,6 +88,7 @@ def main():
     why = Counter(each for c in cases for each in reasons(c))
     numbers = Counter(c.outcome.number for c in cases)
     print(f"seed {given.seed}: {len(cases)} runs, by number {dict(sorted(numbers.items()))}, {sum(c.run.rules == 1 for c in cases)} of rule set 1, "
+          f"{sum(c.run.edition == 2 for c in cases)} of edition 2, "
           f"{sum(c.run.stretch[1] > 0 for c in cases)} with a stretch; matches that fail, by reason {dict(sorted(why.items()))}; "
           f"{len(found)} differ from the definition")
     return 1 if found else 0

@@ -5,7 +5,7 @@ of the program crate `replay`. crates/replay/README.md describes it; the same se
 On document 01's domain of equality the answer is the Rust's own: its list and the very text that it prints, or the number of
 its error. The model computes the same from document 01, and must agree (confirm.py), on all that is recorded and on `--more`
 times as many random runs; outside the domain the answer is the model's. The status is 1, and nothing is written, if one
-differs, or if what is withheld is seen."""
+differs, if what is withheld is seen, or if a run of edition 2 that is not refused with 14 or 15 differs from the same run of edition 1."""
 import argparse
 import random
 import struct
@@ -14,17 +14,20 @@ from collections import Counter
 from dataclasses import dataclass, replace
 from pathlib import Path
 
+from cases.editions import runs as editions
 from cases.limits import limits
 from cases.whole import capacities, outside, runs, staged
 from confirm import differing, is_own
+from model.reader import FIRST
 from model.run import Outcome, Stages
 
 VERSION = 2
 MODULUS = 4294967291
 # Of a library that was made at random, but for those that are long on purpose.
 LONGEST = 700
-# How many runs get every list one short, exact and one longer; and how many more are lent too little.
+# How many runs get every list one short, exact and one longer; and how many more are lent too little: of the first ones, and of those for the editions.
 AROUND, SHORT = 45, 260
+EDITIONS_AROUND, EDITIONS_SHORT = 4, 60
 CHECK, SKIP, SCENE, OWN = 1, 2, 4, 8
 
 
@@ -84,11 +87,11 @@ def amounts(rng, stages, around):
     return found
 
 
-def recorded(rng, found):
+def recorded(rng, found, around=AROUND, short=SHORT):
     """Each run with what is lent for it; those that share image and library stay together."""
-    short = [stages for stages in found if any(stages.needed) and len(stages.run.image) < 400]
-    around = {id(stages) for stages in rng.sample(short, AROUND)}
-    too_little = {id(stages) for stages in rng.sample(short, SHORT)}
+    small = [stages for stages in found if any(stages.needed) and len(stages.run.image) < 400]
+    around = {id(stages) for stages in rng.sample(small, around)}
+    too_little = {id(stages) for stages in rng.sample(small, short)}
     cases = []
     for stages in found:
         lent = amounts(rng, stages, around)
@@ -107,16 +110,29 @@ def hides(rng, stages):
     return (other.rows, other.text()) == (stages.rows, stages.text())
 
 
+def is_kept_to(stages):
+    """Whether a run comes to what it was made for; and, unless it is refused with 14, 15 or 30, to what it comes to by edition 1."""
+    number, run = stages.final(), stages.run
+    if run.must is not None and number not in run.must:
+        return False
+    if run.edition == FIRST or number in (14, 15, 30):
+        return True
+    first = Stages(replace(run, edition=FIRST))
+    return (first.final(), first.rows, first.text()) == (number, stages.rows, stages.text())
+
+
 def stored(data):
     """Without the zeros at its end."""
     return data.rstrip(b"\0")
 
 
 def as_settings(run):
-    """How many there are, and each; zeros at their end are left out."""
-    numbers = [run.rules, run.minimum, run.skip or 0, *run.stretch]
-    while numbers and numbers[-1] == 0:
+    """How many there are, and each. The edition is left out where it is 1, and then zeros at the end of the others."""
+    numbers = [run.rules, run.minimum, run.skip or 0, *run.stretch, run.edition]
+    if numbers[-1] == FIRST:
         numbers.pop()
+        while numbers and numbers[-1] == 0:
+            numbers.pop()
     return struct.pack(f"<B{len(numbers)}Q", len(numbers), *numbers)
 
 
@@ -147,10 +163,10 @@ def as_bytes(cases):
 def table(cases):
     """Totals by kind and number."""
     numbers = sorted({c.outcome.number for c in cases})
-    print(f"{'kind':18}" + "".join(f"{n:6}" for n in numbers) + " cases")
+    print(f"{'kind':20}" + "".join(f"{n:6}" for n in numbers) + " cases")
     for kind in list(dict.fromkeys(c.run.kind for c in cases)) + ["all"]:
         some = Counter(c.outcome.number for c in cases if kind in (c.run.kind, "all"))
-        print(f"{kind:18}" + "".join(f"{some[n]:6}" for n in numbers) + f"{sum(some.values()):6}")
+        print(f"{kind:20}" + "".join(f"{some[n]:6}" for n in numbers) + f"{sum(some.values()):6}")
 
 
 def report(cases):
@@ -161,7 +177,7 @@ def report(cases):
         done = [c.stages.lines() for c in some if c.outcome.number == 0]
         grades = Counter(line[1] for lines in done for line in lines)
         print(f"lists with lines {sum(map(bool, done))} of {len(done)}, most lines {max(map(len, done))}, by grade {[grades[g] for g in range(4)]}; "
-              f"checking on {sum(c.run.check for c in some)}, rule set 1 {sum(c.run.rules == 1 for c in some)}, "
+              f"checking on {sum(c.run.check for c in some)}, rule set 1 {sum(c.run.rules == 1 for c in some)}, edition 2 {sum(c.run.edition == 2 for c in some)}, "
               f"a stretch {sum(c.run.stretch[1] > 0 for c in some)}, 2Ch libraries {sum(c.run.library[:1] == b',' for c in some)}")
         print("minimums", dict(sorted(Counter(c.run.minimum for c in some).items())), "skip amounts", dict(Counter(c.run.skip for c in some)))
     print("\nmost lent", [max(column) for column in zip(*(c.lent for c in cases))], "longest text", max(len(c.outcome.text) for c in cases))
@@ -180,14 +196,18 @@ def main():
     given = options()
     rng = random.Random(given.seed)
     found = [Stages(run) for run in generate(rng)]
+    apart = random.Random(given.seed)
+    by_edition = [Stages(run) for run in different(editions.made(apart))]
     others = [Stages(run) for run in runs.made(random.Random(~given.seed), given.more)]
-    wrong, asked, shown = differing(given.rust, found + others)
+    wrong, asked, shown = differing(given.rust, found + by_edition + others)
     wrong += [stages for stages in found if not hides(rng, stages)]
+    wrong += [stages for stages in by_edition if not (is_kept_to(stages) and hides(apart, stages))]
     for stages in wrong:
         print(f"computed {stages.final()} {stages.lines()}, and something else must come: {stages.run.shown()}")
     if wrong:
         return 1
     cases = recorded(rng, [stages for stages in found if has_room(stages)])
+    cases += recorded(apart, [stages for stages in by_edition if has_room(stages)], EDITIONS_AROUND, EDITIONS_SHORT)
     data = as_bytes(cases)
     given.out.parent.mkdir(parents=True, exist_ok=True)
     given.out.write_bytes(data)

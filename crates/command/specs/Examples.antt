@@ -24,23 +24,27 @@ asked : List String → Requested
 asked words = settingsIn (map text words)
 
 -- the image is word `image`, the library word `library`
-for : ℕ → ℕ → ℕ → Bool → ℕ → Skip → Stretch → Requested
-for image library rules check minimum skip stretch =
-    Whole (record { image = image; library = library; settings = record { rules = rules; check = check; minimum = minimum; skip = skip; stretch = stretch } })
+for : ℕ → ℕ → ℕ → ℕ → Bool → ℕ → Skip → Stretch → Requested
+for image library rules edition check minimum skip stretch =
+    Whole (record {
+      image = image;
+      library = library;
+      settings = record { rules = rules; edition = edition; check = check; minimum = minimum; skip = skip; stretch = stretch };
+    })
 
 nothing : Stretch
 nothing = record { start = 0; len = 0 }
 
-plain : asked ("aid.img" ∷ "routines.lib" ∷ []) ≡ for 1 2 1 true 3 Never nothing
+plain : asked ("aid.img" ∷ "routines.lib" ∷ []) ≡ for 1 2 1 1 true 3 Never nothing
 unfolding asked for nothing same kindOf settingsOf freeTaken taken requestOf ended settingsFrom
 plain = refl
 
-withheld : asked ("aid.img" ∷ "routines.lib" ∷ "--withhold" ∷ "0x1204:8" ∷ []) ≡ for 1 2 1 true 3 Never (record { start = 0x1204; len = 8 })
+withheld : asked ("aid.img" ∷ "routines.lib" ∷ "--withhold" ∷ "0x1204:8" ∷ []) ≡ for 1 2 1 1 true 3 Never (record { start = 0x1204; len = 8 })
 unfolding asked for same digitOf digitsFrom numberOf numberRead colonIn stretchRead stretchValue optionOf kindOf settingsOf freeTaken taken requestOf ended settingsFrom
 withheld = refl
 
-all-options : asked ("--rules" ∷ "found" ∷ "aid.img" ∷ "--no-check" ∷ "--min-fn-length" ∷ "0xF" ∷ "routines.lib" ∷ "--skip-multiple" ∷ "2" ∷ [])
-    ≡ for 3 7 0 false 15 (Above 2) nothing
+all-options : asked ("--rules" ∷ "found" ∷ "aid.img" ∷ "--no-check" ∷ "--min-fn-length" ∷ "0xF" ∷ "routines.lib" ∷ "--skip-multiple" ∷ "2" ∷ "--edition" ∷ "2" ∷ [])
+    ≡ for 3 7 0 2 false 15 (Above 2) nothing
 unfolding asked for nothing same digitOf digitsFrom numberOf numberRead numberValue rulesValue optionOf kindOf settingsOf freeTaken taken requestOf ended settingsFrom
 all-options = refl
 

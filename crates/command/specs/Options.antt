@@ -12,7 +12,7 @@ use Rattle.command.specs.Stretches.{stretchValue}
 use Rattle.command.specs.declared.values.Read.{Read}
 use Rattle.command.specs.declared.stretch.Withheld.{Withheld}
 use Rattle.command.specs.declared.options.Valued as valued
-use Rattle.command.specs.declared.options.Valued.the-variants.{Rules, Minimum, Skip, Withhold}
+use Rattle.command.specs.declared.options.Valued.the-variants.{Rules, Edition, Minimum, Skip, Withhold}
 use Rattle.command.specs.declared.options.Kind.{Kind}
 use Rattle.command.specs.declared.options.Kind.the-variants.{NoCheck, Valued, Unknown, File}
 use Rattle.command.specs.declared.options.Value.{Value}
@@ -28,6 +28,7 @@ optionOf word =
     else if same word (text "--min-fn-length") then Valued Minimum
     else if same word (text "--skip-multiple") then Valued Skip
     else if same word (text "--rules") then Valued Rules
+    else if same word (text "--edition") then Valued Edition
     else if same word (text "--withhold") then Valued Withhold
     else Unknown
 
@@ -40,7 +41,7 @@ kindOf word =
 
 -- where no option is given: references are checked, and nothing else is said
 abbrev pub noOptions : Options
-noOptions = record { rules = Absent; check = true; minimum = Absent; skip = Absent; withheld = NoStretch }
+noOptions = record { rules = Absent; edition = Absent; check = true; minimum = Absent; skip = Absent; withheld = NoStretch }
 
 abbrev pub valueGiven : Value → Bool
 valueGiven Absent = false
@@ -53,28 +54,39 @@ stretchGiven (GivenStretch read) = true
 -- whether an option has its value already
 abbrev pub isGiven : Options → valued.Valued → Bool
 isGiven o Rules = valueGiven (o .rules)
+isGiven o Edition = valueGiven (o .edition)
 isGiven o Minimum = valueGiven (o .minimum)
 isGiven o Skip = valueGiven (o .skip)
 isGiven o Withhold = stretchGiven (o .withheld)
 
 -- an option's value is put in; the others stay
 abbrev pub withRules : Options → Read → Options
-withRules o read = record { rules = Given read; check = o .check; minimum = o .minimum; skip = o .skip; withheld = o .withheld }
+withRules o read =
+    record { rules = Given read; edition = o .edition; check = o .check; minimum = o .minimum; skip = o .skip; withheld = o .withheld }
+
+abbrev pub withEdition : Options → Read → Options
+withEdition o read =
+    record { rules = o .rules; edition = Given read; check = o .check; minimum = o .minimum; skip = o .skip; withheld = o .withheld }
 
 abbrev pub withMinimum : Options → Read → Options
-withMinimum o read = record { rules = o .rules; check = o .check; minimum = Given read; skip = o .skip; withheld = o .withheld }
+withMinimum o read =
+    record { rules = o .rules; edition = o .edition; check = o .check; minimum = Given read; skip = o .skip; withheld = o .withheld }
 
 abbrev pub withSkip : Options → Read → Options
-withSkip o read = record { rules = o .rules; check = o .check; minimum = o .minimum; skip = Given read; withheld = o .withheld }
+withSkip o read =
+    record { rules = o .rules; edition = o .edition; check = o .check; minimum = o .minimum; skip = Given read; withheld = o .withheld }
 
 abbrev pub withWithheld : Options → Withheld → Options
-withWithheld o read = record { rules = o .rules; check = o .check; minimum = o .minimum; skip = o .skip; withheld = GivenStretch read }
+withWithheld o read =
+    record { rules = o .rules; edition = o .edition; check = o .check; minimum = o .minimum; skip = o .skip; withheld = GivenStretch read }
 
 abbrev pub uncheckedOf : Options → Options
-uncheckedOf o = record { rules = o .rules; check = false; minimum = o .minimum; skip = o .skip; withheld = o .withheld }
+uncheckedOf o =
+    record { rules = o .rules; edition = o .edition; check = false; minimum = o .minimum; skip = o .skip; withheld = o .withheld }
 
 abbrev pub withValue : Options → valued.Valued → List ℕ → ℕ → Options
 withValue o Rules word i = withRules o (rulesValue word i)
+withValue o Edition word i = withEdition o (numberValue word i)
 withValue o Minimum word i = withMinimum o (numberValue word i)
 withValue o Skip word i = withSkip o (numberValue word i)
 withValue o Withhold word i = withWithheld o (stretchValue word i)

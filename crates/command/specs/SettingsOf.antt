@@ -37,14 +37,17 @@ withStretch (WrongStretch m) next = WrongSettings m
 abbrev pub skipAdded : settings.Settings → Value → Wanted
 skipAdded s Absent = Settings s
 skipAdded s (Given read) =
-    withNumber read (λ n. Settings (record { rules = s .rules; check = s .check; minimum = s .minimum; skip = Above n; stretch = s .stretch }))
+    withNumber read
+    (λ n. Settings (record { rules = s .rules; edition = s .edition; check = s .check; minimum = s .minimum; skip = Above n; stretch = s .stretch }))
 
-abbrev pub stretchAdded : Options → ℕ → ℕ → Wanted
-stretchAdded o rules minimum =
+abbrev pub stretchAdded : Options → ℕ → ℕ → ℕ → Wanted
+stretchAdded o rules edition minimum =
     withStretch (stretchOr (o .withheld))
-    (λ s. skipAdded (record { rules = rules; check = o .check; minimum = minimum; skip = Never; stretch = s }) (o .skip))
+    (λ s. skipAdded (record { rules = rules; edition = edition; check = o .check; minimum = minimum; skip = Never; stretch = s }) (o .skip))
 
--- as documented, and three bytes, where nothing is said; of several values that are wrong the rules' is told first, then the minimum, the stretch and the
--- skip amount
+-- as documented, edition 1, and three bytes, where nothing is said; of several values that are wrong the rules' is told first, then the edition, the
+-- minimum, the stretch and the skip amount
 unfoldable pub settingsOf : Options → Wanted
-settingsOf o = withNumber (numberOr (o .rules) 1) (λ rules. withNumber (numberOr (o .minimum) 3) (λ minimum. stretchAdded o rules minimum))
+settingsOf o =
+    withNumber (numberOr (o .rules) 1) λ rules.
+    withNumber (numberOr (o .edition) 1) λ edition. withNumber (numberOr (o .minimum) 3) λ minimum. stretchAdded o rules edition minimum

@@ -1,6 +1,6 @@
 // The options by their words, and what is known of them so far.
 ghost use mathlib.Core.Path.{_≡_};
-ghost use Rattle.command.specs.Options.{optionOf, kindOf, noOptions, valueGiven, stretchGiven, isGiven, withRules, withMinimum, withSkip, withWithheld, withValue, uncheckedOf};
+ghost use Rattle.command.specs.Options.{optionOf, kindOf, noOptions, valueGiven, stretchGiven, isGiven, withRules, withEdition, withMinimum, withSkip, withWithheld, withValue, uncheckedOf};
 use crate::stretch::Withheld;
 use crate::stretch::stretch_value;
 use crate::values::Read;
@@ -11,6 +11,7 @@ use lent::names::same;
 // The options that have a value, which is the next word.
 pub enum Valued {
     Rules,
+    Edition,
     Minimum,
     Skip,
     Withhold,
@@ -39,6 +40,7 @@ pub enum Stretches {
 // The options so far. References are checked, unless --no-check is given.
 pub struct Options {
     pub rules: Value,
+    pub edition: Value,
     pub check: bool,
     pub minimum: Value,
     pub skip: Value,
@@ -59,6 +61,9 @@ fn option_of(word: &[u8]) -> Kind
     }
     if same(word, b"--rules") {
         return Kind::Valued(Valued::Rules);
+    }
+    if same(word, b"--edition") {
+        return Kind::Valued(Valued::Edition);
     }
     if same(word, b"--withhold") {
         return Kind::Valued(Valued::Withhold);
@@ -84,6 +89,7 @@ pub fn no_options() -> Options
 {
     Options {
         rules: Value::Absent,
+        edition: Value::Absent,
         check: true,
         minimum: Value::Absent,
         skip: Value::Absent,
@@ -114,11 +120,13 @@ pub fn is_given(o: Options, option: Valued) -> bool
     ensures { λ r. ⌜ r ≡ isGiven o option ⌝ }
 {
     let rules = o.rules;
+    let edition = o.edition;
     let minimum = o.minimum;
     let skip = o.skip;
     let withheld = o.withheld;
     match option {
         Valued::Rules => is_value_given(rules),
+        Valued::Edition => is_value_given(edition),
         Valued::Minimum => is_value_given(minimum),
         Valued::Skip => is_value_given(skip),
         Valued::Withhold => is_stretch_given(withheld),
@@ -128,11 +136,30 @@ pub fn is_given(o: Options, option: Valued) -> bool
 fn with_rules(o: Options, read: Read) -> Options
     ensures { λ r. ⌜ r ≡ withRules o read ⌝ }
 {
+    let edition = o.edition;
     let minimum = o.minimum;
     let skip = o.skip;
     let withheld = o.withheld;
     Options {
         rules: Value::Given(read),
+        edition,
+        check: o.check,
+        minimum,
+        skip,
+        withheld,
+    }
+}
+
+fn with_edition(o: Options, read: Read) -> Options
+    ensures { λ r. ⌜ r ≡ withEdition o read ⌝ }
+{
+    let rules = o.rules;
+    let minimum = o.minimum;
+    let skip = o.skip;
+    let withheld = o.withheld;
+    Options {
+        rules,
+        edition: Value::Given(read),
         check: o.check,
         minimum,
         skip,
@@ -144,10 +171,12 @@ fn with_minimum(o: Options, read: Read) -> Options
     ensures { λ r. ⌜ r ≡ withMinimum o read ⌝ }
 {
     let rules = o.rules;
+    let edition = o.edition;
     let skip = o.skip;
     let withheld = o.withheld;
     Options {
         rules,
+        edition,
         check: o.check,
         minimum: Value::Given(read),
         skip,
@@ -159,10 +188,12 @@ fn with_skip(o: Options, read: Read) -> Options
     ensures { λ r. ⌜ r ≡ withSkip o read ⌝ }
 {
     let rules = o.rules;
+    let edition = o.edition;
     let minimum = o.minimum;
     let withheld = o.withheld;
     Options {
         rules,
+        edition,
         check: o.check,
         minimum,
         skip: Value::Given(read),
@@ -174,10 +205,12 @@ fn with_withheld(o: Options, read: Withheld) -> Options
     ensures { λ r. ⌜ r ≡ withWithheld o read ⌝ }
 {
     let rules = o.rules;
+    let edition = o.edition;
     let minimum = o.minimum;
     let skip = o.skip;
     Options {
         rules,
+        edition,
         check: o.check,
         minimum,
         skip,
@@ -191,6 +224,7 @@ pub fn with_value(o: Options, option: Valued, word: &[u8], i: usize) -> Options
 {
     match option {
         Valued::Rules => with_rules(o, rules_value(word, i)),
+        Valued::Edition => with_edition(o, number_value(word, i)),
         Valued::Minimum => with_minimum(o, number_value(word, i)),
         Valued::Skip => with_skip(o, number_value(word, i)),
         Valued::Withhold => with_withheld(o, stretch_value(word, i)),

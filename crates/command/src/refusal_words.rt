@@ -5,10 +5,11 @@ use lent::refusal::Refusal;
 use lent::refusal::number;
 use run::Counts;
 
-// Document 01's words.
+// Document 01's words, and those of the later requests.
 fn settings_words(r: Refusal, lent: Counts) {
     match r {
         Refusal::RuleSet => say(b"rule set not 0 or 1"),
+        Refusal::OtherEdition => say(b"edition not 1 or 2"),
         Refusal::ImageTooLong => say(b"image too long (more than 65536 bytes)"),
         Refusal::LibraryTooLong => say(b"library too long (more than 65536 bytes)"),
         Refusal::StretchPastEnd => say(b"withheld start + length passes the image's end"),
@@ -26,6 +27,19 @@ fn library_words(r: Refusal, lent: Counts) {
         ),
         Refusal::LengthZero => say(b"a record expected here has length 0"),
         Refusal::NamesDiffer => say(b"a whole module's header and end names differ"),
+        _ => edition_words(r, lent),
+    }
+}
+
+// What edition 2 asks and edition 1 does not.
+fn edition_words(r: Refusal, lent: Counts) {
+    match r {
+        Refusal::WrongSum => say(
+            b"a record's bytes do not sum to 0 (--edition 1 does not look at sums)",
+        ),
+        Refusal::LeftOver => say(
+            b"bytes are left over behind a record's entries, or behind the file's last record (--edition 1 passes them over)",
+        ),
         _ => collecting_words(r, lent),
     }
 }

@@ -19,6 +19,9 @@ pub enum Wanted {
 // The rule set where nothing is said: as documented.
 const RULES: u64 = 1;
 
+// The edition where nothing is said: as document 01 reads a library.
+const EDITION: u64 = 1;
+
 // How many bytes of a pattern must count for it to be listed on its own, where nothing is said: as in document 01's printed case. at51's own command line
 // is not among the papers.
 const MINIMUM: u64 = 3;
@@ -53,6 +56,7 @@ fn with_skip(known: Settings, value: Value) -> Wanted
     match read {
         Read::Number(amount) => Wanted::Settings(Settings {
             rules: known.rules,
+            edition: known.edition,
             check: known.check,
             minimum: known.minimum,
             skip: Skip::Above(amount as usize),
@@ -62,8 +66,8 @@ fn with_skip(known: Settings, value: Value) -> Wanted
     }
 }
 
-fn with_stretch(o: Options, rules: u64, minimum: u64) -> Wanted
-    ensures { λ r. ⌜ r ≡ stretchAdded o rules minimum ⌝ }
+fn with_stretch(o: Options, rules: u64, edition: u64, minimum: u64) -> Wanted
+    ensures { λ r. ⌜ r ≡ stretchAdded o rules edition minimum ⌝ }
 {
     let withheld = o.withheld;
     let skip = o.skip;
@@ -71,6 +75,7 @@ fn with_stretch(o: Options, rules: u64, minimum: u64) -> Wanted
         Withheld::Stretch(stretch) => with_skip(
             Settings {
                 rules,
+                edition,
                 check: o.check,
                 minimum: minimum as usize,
                 skip: Skip::Never,
@@ -82,15 +87,19 @@ fn with_stretch(o: Options, rules: u64, minimum: u64) -> Wanted
     }
 }
 
-// Of several values that are wrong the rules' is told first, then the minimum, the stretch and the skip amount.
+// Of several values that are wrong the rules' is told first, then the edition, the minimum, the stretch and the skip amount.
 pub fn settings_of(o: Options) -> Wanted
     ensures { λ r. ⌜ r ≡ settingsOf o ⌝ }
 {
     let rules = o.rules;
+    let edition = o.edition;
     let minimum = o.minimum;
     match number_or(rules, RULES) {
-        Read::Number(set) => match number_or(minimum, MINIMUM) {
-            Read::Number(least) => with_stretch(o, set, least),
+        Read::Number(set) => match number_or(edition, EDITION) {
+            Read::Number(edition) => match number_or(minimum, MINIMUM) {
+                Read::Number(least) => with_stretch(o, set, edition, least),
+                Read::Wrong(m) => Wanted::Wrong(m),
+            },
             Read::Wrong(m) => Wanted::Wrong(m),
         },
         Read::Wrong(m) => Wanted::Wrong(m),

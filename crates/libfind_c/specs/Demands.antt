@@ -2,7 +2,7 @@
 -- the lent lists: they follow from those of the run. Assumes nothing.
 use Prim.Native.Nat.{ℕ, _+_, _-_, _*_, _≤_, _<_, _%_}
 use mathlib.Core.Path.{_≡_, refl, sym, ap, _∙_}
-use mathlib.Core.Logic.{_↔_}
+use mathlib.Core.Logic.{_↔_, _⊎_}
 use mathlib.Core.List.{List, _++_}
 use native.Mathlib.Decide.{decLt}
 use native.Mathlib.Omega.{arith}
@@ -16,13 +16,13 @@ use Rattle.lent.specs.Rows.{zeros, padded, cellOf}
 use Rattle.lent.specs.RowLaws.{padded-length, cell-there, cell-lacks, put-there, put-lacks, put-length}
 use Rattle.image.specs.View.{view}
 use Rattle.image.specs.ViewLaws.{Agree}
-use Rattle.omf51.specs.File.{file, modulesIn}
+use Rattle.omf51.specs.File.{modulesIn}
 use Rattle.listing_rules.specs.declared.Line.{Line}
 use Rattle.listing_rules.specs.Listing.{lineWidth, lineCells, lineNumbers}
 use Rattle.listing_rules.specs.LineLayout.{lineAt}
 use Rattle.run.specs.declared.Settings.{Settings}
 use Rattle.run.specs.declared.Answer.{Answer}
-use Rattle.run.specs.Run.{Lent, Outcome, counted, zeroed, filledWith, runSeen, run, numberOf, countsOf, askedOf}
+use Rattle.run.specs.Run.{libraryRead, Lent, Outcome, counted, zeroed, filledWith, runSeen, run, numberOf, countsOf, askedOf}
 use Rattle.run.specs.Given.{Given, NothingRefused}
 use Rattle.run.specs.Answers.{SameLengths, Sound, yielded}
 use Rattle.run.specs.Own.{Own}
@@ -31,7 +31,7 @@ use Rattle.run.specs.Demands.{memory as run-memory, same-lengths as run-lengths
 use Rattle.libfind_c.specs.Exported.{Handed, handed, handedRun, countsIn, countNumbers}
 
 -- the contract of `sillmarble_find`: its number, and the counts and the eight lists as it leaves them, are those of the run;
--- s is what `settingsOf` makes of the rule set, the choices, the numbers and the stretch
+-- s is what `settingsOf` makes of the rule set, the edition, the choices, the numbers and the stretch
 abbrev pub Contract : List ℕ → List ℕ → Settings → List ℕ → Lent → Handed → Type 0
 Contract image library s counts lent h = h ≡ handedRun image library s counts lent
 
@@ -80,10 +80,10 @@ module _ (image library : List ℕ) (s : Settings) (counts : List ℕ) (lent : L
     pub counts-refused : 1 ≤ h .number → 7 ≤ length counts → h .counts ≡ zeros 7 ++ drop 7 counts
     -- with fewer places none is written
     pub counts-short : length counts < 7 → h .counts ≡ counts
-    -- on 0 each lent list holds its stage's rows, the rest zero; 1 to 8 write nothing, and 9 to 13 set all to zero
+    -- on 0 each lent list holds its stage's rows, the rest zero; 9 to 13 set all to zero, and the others write nothing
     pub left-done : h .number ≡ 0 → h .left ≡ filledWith library (yielded image library s lent) lent
-    pub left-early : 1 ≤ h .number → h .number ≤ 8 → h .left ≡ lent
-    pub left-late : 9 ≤ h .number → h .left ≡ zeroed lent
+    pub left-zero : 9 ≤ h .number → h .number ≤ 13 → h .left ≡ zeroed lent
+    pub left-alone : 1 ≤ h .number → (h .number < 9) ⊎ (13 < h .number) → h .left ≡ lent
 
   abbrev outcome : Outcome
   outcome = run image library s lent
@@ -102,12 +102,12 @@ module _ (image library : List ℕ) (s : Settings) (counts : List ℕ) (lent : L
     counts-refused = λ e l. counts-front counts (outcome .answer) l ∙ ap (λ c. countNumbers c ++ drop 7 counts) (run-sound .counts-refused e);
     counts-short = λ l. counts-none counts (outcome .answer) l;
     left-done = run-sound .left-done;
-    left-early = run-sound .left-early;
-    left-late = run-sound .left-late;
+    left-zero = run-sound .left-zero;
+    left-alone = run-sound .left-alone;
   }
 
   own-graded : s .rules ≡ 1 → numberOf (outcome .answer) ≡ 0 → (i : ℕ) → 1 ≤ lineAt (outcome .left .lines) i .grade
-      → Own library (view image (s .stretch)) (askedOf s) (modulesIn (file library)) (lineAt (outcome .left .lines) i .name) (lineAt (outcome .left .lines) i .address)
+      → Own library (view image (s .stretch)) (askedOf s) (modulesIn (libraryRead library s)) (lineAt (outcome .left .lines) i .name) (lineAt (outcome .left .lines) i .address)
   unfolding counted filledWith
   own-graded r z i g = go (decLt i (countsOf (outcome .answer) .lines))
     where
@@ -121,7 +121,7 @@ module _ (image library : List ℕ) (s : Settings) (counts : List ℕ) (lent : L
       past b = ap (λ x. lineAt (x .lines) i .grade) (run-sound .left-done z) ∙ behind lines (length (lent .lines)) i room b
 
       go : Dec (i < countsOf (outcome .answer) .lines)
-          → Own library (view image (s .stretch)) (askedOf s) (modulesIn (file library)) (lineAt (outcome .left .lines) i .name) (lineAt (outcome .left .lines) i .address)
+          → Own library (view image (s .stretch)) (askedOf s) (modulesIn (libraryRead library s)) (lineAt (outcome .left .lines) i .name) (lineAt (outcome .left .lines) i .address)
       go (yes l) = run-own-row image library s lent outcome refl r z i l g
       go (no l) = absurd (omega (arith, g, past (omega (arith, l, ap (λ x. x .lines) (run-sound .counts-done z)))))
 
@@ -151,7 +151,7 @@ module _ (image library : List ℕ) (s : Settings) (counts : List ℕ) (lent : L
     -- OWN ADDRESS: each row of the list with a grade of 1 to 3, under rule set 1, as it is read from lent memory; a row
     -- behind the list's has grade 0, so that no count is asked for
     pub own-row : s .rules ≡ 1 → h .number ≡ 0 → (i : ℕ) → 1 ≤ lineAt (h .left .lines) i .grade
-        → Own library (view image (s .stretch)) (askedOf s) (modulesIn (file library)) (lineAt (h .left .lines) i .name) (lineAt (h .left .lines) i .address)
+        → Own library (view image (s .stretch)) (askedOf s) (modulesIn (libraryRead library s)) (lineAt (h .left .lines) i .name) (lineAt (h .left .lines) i .address)
     unfolding handed
     own-row = rw is-handed own-graded
 

@@ -23,11 +23,17 @@ use Rattle.run.specs.Run.{Lent, Outcome, run, numberOf, countsOf}
 abbrev pub skipOf : Bool → ℕ → Skip
 skipOf skips amount = if skips then Above amount else Never
 
--- the settings: rule set, whether references are checked, minimum, whether there is a skip amount and
--- which, start and length of the stretch
-abbrev pub settingsOf : ℕ → Bool → ℕ → Bool → ℕ → ℕ → ℕ → Settings
-settingsOf rules check minimum skips amount start len =
-    record { rules = rules; check = check; minimum = minimum; skip = skipOf skips amount; stretch = record { start = start; len = len } }
+-- the settings: rule set, edition, whether references are checked, minimum, whether there is a skip amount and which, start and
+-- length of the stretch
+abbrev pub settingsOf : ℕ → ℕ → Bool → ℕ → Bool → ℕ → ℕ → ℕ → Settings
+settingsOf rules edition check minimum skips amount start len = record {
+  rules = rules;
+  edition = edition;
+  check = check;
+  minimum = minimum;
+  skip = skipOf skips amount;
+  stretch = record { start = start; len = len };
+}
 
 -- the seven counts, in their order
 abbrev pub countNumbers : Counts → List ℕ

@@ -27,8 +27,9 @@ pub row-width-one : (list : ℕ) → Determines (λ (r : ℕ). r ≡ widthOf lis
 row-width-one list = by-equation (widthOf list)
 
 -- and the four functions on plain numbers inside them
-pub settings-of-one : (rules : ℕ) (check : Bool) (minimum : ℕ) (skips : Bool) (amount start len : ℕ) → Determines (λ r. r ≡ settingsOf rules check minimum skips amount start len)
-settings-of-one rules check minimum skips amount start len = by-equation (settingsOf rules check minimum skips amount start len)
+pub settings-of-one : (rules edition : ℕ) (check : Bool) (minimum : ℕ) (skips : Bool) (amount start len : ℕ)
+    → Determines (λ r. r ≡ settingsOf rules edition check minimum skips amount start len)
+settings-of-one rules edition check minimum skips amount start len = by-equation (settingsOf rules edition check minimum skips amount start len)
 
 -- `hand_over`: the number, and the counts afterwards
 abbrev pub HandsOver : Answer → List ℕ → ℕ × List ℕ → Type 0

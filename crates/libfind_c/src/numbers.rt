@@ -22,10 +22,11 @@ fn skip_of(skips: bool, amount: usize) -> Skip
     Skip::Never
 }
 
-// The settings of a run from plain numbers: the rule set, whether references are checked, the minimum, whether there is
-// a skip amount and which, and start and length of the stretch.
+// The settings of a run from plain numbers: the rule set, the edition, whether references are checked, the minimum,
+// whether there is a skip amount and which, and start and length of the stretch.
 pub fn settings_of(
     rules: u64,
+    edition: u64,
     check: bool,
     minimum: usize,
     skips: bool,
@@ -33,10 +34,11 @@ pub fn settings_of(
     start: usize,
     len: usize,
 ) -> Settings
-    ensures { λ r. ⌜ r ≡ settingsOf rules check minimum skips amount start len ⌝ }
+    ensures { λ r. ⌜ r ≡ settingsOf rules edition check minimum skips amount start len ⌝ }
 {
     Settings {
         rules,
+        edition,
         check,
         minimum,
         skip: skip_of(skips, amount),

@@ -42,13 +42,18 @@ fn find(image: &[u8], library: &[u8], settings: Settings) {
     }
 }
 
-// Files that are too long are refused in the order of document 01: before a stretch that passes the image's end, and before the library is read.
-fn find_in(image: &[u8], library: &[u8], settings: Settings) {
-    if LONGEST < image.len() {
-        say_refused(Refusal::ImageTooLong, memory::lent());
-        return;
+// Whether a run looks at the library: not if the edition is none or the image too long.
+fn is_library_next(image: &[u8], edition: u64) -> bool {
+    match edition {
+        1 | 2 => image.len() <= LONGEST,
+        _ => false,
     }
-    if LONGEST < library.len() {
+}
+
+// A run takes longer libraries than the program does. One that is too long for the program is refused in its place in the order: behind an edition that is none
+// and an image that is too long, before a stretch that passes the image's end.
+fn find_in(image: &[u8], library: &[u8], settings: Settings) {
+    if LONGEST < library.len() && is_library_next(image, settings.edition) {
         say_refused(Refusal::LibraryTooLong, memory::lent());
         return;
     }

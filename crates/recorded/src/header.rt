@@ -13,22 +13,22 @@ const SCENE: u8 = 4;
 
 const OWN: u8 = 8;
 
-// The rule set, the minimum, the skip amount, the start and the length of the stretch: what is not told is 0.
-pub const SETTINGS: usize = 5;
+// The rule set, the minimum, the skip amount, the start and the length of the stretch, the edition: what is not told is 0, and the edition 1.
+pub const SETTINGS: usize = 6;
 
 pub const SETTINGS_AT: usize = 2;
 
 // Behind the room for the settings: 8 lengths and the answer.
-pub const LENT_AT: usize = 42;
+pub const LENT_AT: usize = 50;
 
-const ANSWER_AT: usize = 74;
+const ANSWER_AT: usize = 82;
 
-pub const SIZE: usize = 146;
+pub const SIZE: usize = 154;
 
 const ANSWER: usize = 18;
 
-pub fn no_header() -> [u8; 146] {
-    [0u8; 146]
+pub fn no_header() -> [u8; 154] {
+    [0u8; 154]
 }
 
 fn byte_at(header: &[u8], i: usize) -> u8 {
@@ -70,9 +70,17 @@ fn skip_of(header: &[u8]) -> Skip {
     Skip::Never
 }
 
+fn edition_of(header: &[u8]) -> u64 {
+    if told_settings(header) < SETTINGS {
+        return 1;
+    }
+    setting(header, 5)
+}
+
 pub fn settings_of(header: &[u8]) -> Settings {
     Settings {
         rules: setting(header, 0),
+        edition: edition_of(header),
         check: has(header, CHECK),
         minimum: setting(header, 1) as usize,
         skip: skip_of(header),

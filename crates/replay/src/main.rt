@@ -3,6 +3,11 @@
 mod compare;
 mod trial;
 
+// A library of 1,048,577 bytes is refused as too long; the array is made here, so that the checker never writes it out.
+fn library_room() -> [u8; 1048832] {
+    [0u8; 1048832]
+}
+
 fn main() {
     let mut path = io::buffer();
     let n = os::arg(1, &mut path);
@@ -16,7 +21,7 @@ fn main() {
         return;
     }
     let mut image = [0u8; 65792];
-    let mut library = [0u8; 65792];
+    let mut library = library_room();
     let mut tally = recorded::tally::no_case();
     compare::compare_all(fd, &mut image, &mut library, &mut tally);
     libc::close(fd);

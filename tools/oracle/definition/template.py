@@ -82,9 +82,9 @@ caseLent = record {
   lines = replicate ROWS 7;
 }
 
-abbrev caseSettings : ℕ → Bool → ℕ → Skip → ℕ → ℕ → Settings
-caseSettings rules check minimum skip start len =
-    record { rules = rules; check = check; minimum = minimum; skip = skip; stretch = record { start = start; len = len } }
+abbrev caseSettings : ℕ → ℕ → Bool → ℕ → Skip → ℕ → ℕ → Settings
+caseSettings rules edition check minimum skip start len =
+    record { rules = rules; edition = edition; check = check; minimum = minimum; skip = skip; stretch = record { start = start; len = len } }
 
 abbrev caseListedIn : List ℕ → Outcome → CaseListed
 caseListedIn library o = record { number = numberOf (o .answer); lines = map (caseLineOf library) (caseLines o) }
@@ -152,7 +152,7 @@ def listing(numbers):
 
 def asked(run):
     skip = "Never" if run.skip is None else f"(Above {run.skip})"
-    settings = f"{run.rules} {str(run.check).lower()} {run.minimum} {skip} {run.stretch[0]} {run.stretch[1]}"
+    settings = f"{run.rules} {run.edition} {str(run.check).lower()} {run.minimum} {skip} {run.stretch[0]} {run.stretch[1]}"
     return f"{listing(run.image)} {listing(run.library)} (caseSettings {settings})"
 
 

@@ -1,5 +1,6 @@
 """Document 01's "Reading the file", written from its text and apart from the Rust: a library's bytes become modules, and each name is kept
-as its place and length in the library."""
+as its place and length in the library. That is edition 1; edition 2 is change request W-205 in its words: all bytes of a record sum to 0,
+entries use up their whole body, and the file is used up."""
 from dataclasses import dataclass, field
 
 KNOWN_TYPES = frozenset((0x02, 0x04, 0x06, 0x07, 0x08, 0x09, 0x0E, 0x0F, 0x10, 0x11, 0x12, 0x13, 0x16, 0x17, 0x18, 0x19,
@@ -8,6 +9,15 @@ UNKNOWN = frozenset(range(256)) - KNOWN_TYPES
 IDLE = UNKNOWN | {0x10, 0x12, 0x13}
 SEGMENTS, PUBLICS, EXTERNALS = {0x0E, 0x0F}, {0x16, 0x17}, {0x18, 0x19}
 CONTENTS, FIXUPS = {0x06, 0x07}, {0x08, 0x09}
+# The two editions of reading.
+FIRST, SECOND = 1, 2
+
+
+@dataclass
+class File:
+    """A library's bytes, and the edition by which they are read."""
+    data: bytes
+    edition: int
 
 
 class Refused(Exception):
@@ -95,7 +105,8 @@ class Body:
         return Part(self.at - size, size)
 
     def rest(self):
-        return self.data[self.at:self.end]
+        at, self.at = self.at, self.end
+        return self.data[at:self.end]
 
 
 def segment(b):
@@ -145,23 +156,28 @@ def end(b):
 
 
 def nothing(b):
-    return None
+    """A body without entries is taken whole."""
+    b.rest()
 
 
 def one_or_more(read):
-    """A body of whole entries; a partial one after the first is dropped."""
+    """A body of whole entries; a partial one after the first is left over."""
     def entries(b):
         found = [read(b)]
         while True:
+            at = b.at
             try:
                 found.append(read(b))
             except Rejected:
+                b.at = at
                 return found
     return entries
 
 
-def record(data, at, allowed, read):
-    """What a record's reader makes of its body, and the place after the record; None where it may not stand here."""
+def record(file, at, allowed, read):
+    """What a record's reader makes of its body, and the place after the record; None where it may not stand here. Edition 2 asks for the sum once
+    the checksum byte is reached, and for bytes left over once the body is read."""
+    data = file.data
     if at >= len(data) or data[at] not in allowed or at + 3 > len(data):
         return None
     length = int.from_bytes(data[at + 1:at + 3], "little")
@@ -172,57 +188,63 @@ def record(data, at, allowed, read):
         raise Refused(6)
     if last == len(data):
         return None
+    if file.edition == SECOND and sum(data[at:last + 1]) % 256 != 0:
+        raise Refused(14)
+    body = Body(data, at + 3, last, data[at] & 1)
     try:
-        return read(Body(data, at + 3, last, data[at] & 1)), last + 1
+        found = read(body)
     except Rejected:
         return None
+    if file.edition == SECOND and body.at < body.end:
+        raise Refused(15)
+    return found, last + 1
 
 
-def definitions(data, at, module):
+def definitions(file, at, module):
     sorts = ((SEGMENTS, segment, module.segments), (PUBLICS, public, module.publics), (EXTERNALS, external, module.externals))
     while True:
         for types, read, into in sorts:
-            if got := record(data, at, types, one_or_more(read)):
+            if got := record(file, at, types, one_or_more(read)):
                 into.extend(got[0])
                 break
         else:
-            got = record(data, at, UNKNOWN, nothing)
+            got = record(file, at, UNKNOWN, nothing)
         if not got:
             return at
         at = got[1]
 
 
-def contents(data, at, module):
+def contents(file, at, module):
     while True:
-        if got := record(data, at, CONTENTS, content):
+        if got := record(file, at, CONTENTS, content):
             module.contents.append(got[0])
-            while more := record(data, got[1], FIXUPS, one_or_more(fixup)):
+            while more := record(file, got[1], FIXUPS, one_or_more(fixup)):
                 module.contents[-1].fixups.extend(more[0])
                 got = more
         else:
-            got = record(data, at, IDLE, nothing)
+            got = record(file, at, IDLE, nothing)
         if not got:
             return at
         at = got[1]
 
 
-def module(data, at):
-    first = record(data, at, {0x02}, header)
+def module(file, at):
+    first = record(file, at, {0x02}, header)
     if not first:
         return None
     found = Module()
-    last = record(data, contents(data, definitions(data, first[1], found), found), {0x04}, end)
+    last = record(file, contents(file, definitions(file, first[1], found), found), {0x04}, end)
     if not last:
         return None
-    names = [data[p.at:p.at + p.len] for p in (first[0], last[0])]
+    names = [file.data[p.at:p.at + p.len] for p in (first[0], last[0])]
     if names[0] != names[1]:
         raise Refused(8)
     return found, last[1]
 
 
-def modules(data, at):
+def modules(file, at):
     found = []
-    while got := module(data, at):
+    while got := module(file, at):
         found.append(got[0])
         at = got[1]
     if not found:
@@ -230,17 +252,24 @@ def modules(data, at):
     return found, at
 
 
-def read(data):
-    """The modules of a library; Refused with 5 to 8."""
-    if data[:1] != b"\x2c":
-        return modules(data, 0)[0]
-    opening = record(data, 0, {0x2C}, nothing)
+def closed(file):
+    """The modules of a 2Ch library, and the place after its last closing record."""
+    opening = record(file, 0, {0x2C}, nothing)
     if not opening:
         raise Refused(5)
-    found, at = modules(data, opening[1])
+    found, at = modules(file, opening[1])
     for type_ in (0x28, 0x26, 0x2A):
-        closing = record(data, at, {type_}, nothing)
+        closing = record(file, at, {type_}, nothing)
         if not closing:
             raise Refused(5)
         at = closing[1]
+    return found, at
+
+
+def read(data, edition=FIRST):
+    """The modules of a library, by an edition; Refused with 5 to 8, 14 or 15. Edition 2 wants the file used up, too."""
+    file = File(data, edition)
+    found, at = closed(file) if data[:1] == b"\x2c" else modules(file, 0)
+    if edition == SECOND and at < len(data):
+        raise Refused(15)
     return found

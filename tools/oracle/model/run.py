@@ -1,5 +1,5 @@
-"""Document 01's whole run, put together from reader.py, collection.py, search.py and listing.py: an image, a library,
-settings and lent memory become a list, or a number."""
+"""Document 01's whole run, with the editions of change request W-205, put together from reader.py, collection.py, search.py
+and listing.py: an image, a library, settings and lent memory become a list, or a number."""
 from dataclasses import dataclass
 
 from model import collection, listing, reader, search
@@ -10,6 +10,8 @@ LISTS = ("segments", "references", "symbols", "bytes", "masks", "placed", "noted
 WIDTHS = (*collection.WIDTHS, search.PLACED, search.NOTED, listing.LINE)
 # What stands in each of them before a run.
 BEFORE = tuple(0xA5 if width == 1 else 0xA5A5A5A5A5A5A5A5 for width in WIDTHS)
+# The refusals that set all lent lists to zero; the others write nothing.
+ZEROING = range(9, 14)
 
 
 @dataclass
@@ -29,9 +31,10 @@ class Run:
     renamed: tuple = None
     # The numbers of which one must come, as far as the making tells.
     must: tuple = None
+    edition: int = reader.FIRST
 
     def settings(self):
-        return self.rules, self.check, self.minimum, self.skip, self.stretch
+        return self.rules, self.edition, self.check, self.minimum, self.skip, self.stretch
 
     def shown(self):
         """The run as plain values: hexadecimal for bytes, nothing for what is not given."""
@@ -65,9 +68,11 @@ class Watched(search.Search):
 
 
 def at_once(run):
-    """The first of 1 to 4 that is due, or 0."""
+    """The first of 1, 30, 2, 3 and 4 that is due, or 0."""
     if run.rules not in (collection.FOUND, collection.DOCUMENTED):
         return 1
+    if run.edition not in (reader.FIRST, reader.SECOND):
+        return 30
     if len(run.image) > search.LONGEST_IMAGE:
         return 2
     if len(run.library) > LONGEST_LIBRARY:
@@ -80,11 +85,11 @@ class Stages:
 
     def __init__(self, run):
         self.run, self.modules, self.segments, self.fault, self.listing = run, [], [], 0, None
-        # The first of 1 to 8, and of 10 to 13.
+        # The first of 1 to 8, 14, 15 and 30, and of 10 to 13.
         self.number = at_once(run)
         if self.number == 0:
             try:
-                self.modules = reader.read(run.library)
+                self.modules = reader.read(run.library, run.edition)
             except reader.Refused as why:
                 self.number = why.args[0]
         if self.number == 0:
@@ -135,10 +140,10 @@ class Stages:
         return self.fault or (9 if any(short) else 0)
 
     def outcome(self, lent):
-        """With lists of these lengths. 1 to 8 write nothing; a number after them leaves zeros."""
+        """With lists of these lengths."""
         number = self.number_with(lent)
         if number:
-            left = BEFORE if number < 9 else (0,) * 8
+            left = (0,) * 8 if number in ZEROING else BEFORE
             return Outcome(number, (0,) * 7, [[each] * n for each, n in zip(left, lent)], b"")
         lists = [rows + [0] * (n - len(rows)) for rows, n in zip(self.rows, lent)]
         counts = [n // width for n, width in zip(self.needed, WIDTHS)]

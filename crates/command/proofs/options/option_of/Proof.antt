@@ -60,7 +60,8 @@ returns-5 c =
 returns-6 : tie.Need-returns-6
 unfolding optionOf
 returns-6 c =
-    let t4 = c .before .before .before in
+    let t5 = c .before .before .before in
+    let t4 = t5 .before .before .before in
     let t3 = t4 .before .before .before in
     let t2 = t3 .before .before .before in
     let t1 = t2 .before .before .before in
@@ -69,7 +70,25 @@ returns-6 c =
       sym (t2 .before .same2 .ensures) ∙ t2 .if2 .left,
       sym (t3 .before .same3 .ensures) ∙ t3 .if3 .left,
       sym (t4 .before .same4 .ensures) ∙ t4 .if4 .left,
-      sym (c .before .same5 .ensures) ∙ c .if5 .left,
+      sym (t5 .before .same5 .ensures) ∙ t5 .if5 .left,
+      sym (c .before .same6 .ensures) ∙ c .if6 .taken,
+    )
+
+returns-7 : tie.Need-returns-7
+unfolding optionOf
+returns-7 c =
+    let t5 = c .before .before .before in
+    let t4 = t5 .before .before .before in
+    let t3 = t4 .before .before .before in
+    let t2 = t3 .before .before .before in
+    let t1 = t2 .before .before .before in
+    rw (
+      sym (t1 .before .same .ensures) ∙ t1 .if1 .left,
+      sym (t2 .before .same2 .ensures) ∙ t2 .if2 .left,
+      sym (t3 .before .same3 .ensures) ∙ t3 .if3 .left,
+      sym (t4 .before .same4 .ensures) ∙ t4 .if4 .left,
+      sym (t5 .before .same5 .ensures) ∙ t5 .if5 .left,
+      sym (c .before .same6 .ensures) ∙ c .if6 .left,
     )
 
 pub option-of-spec : {M : Type 1} → statement M
@@ -91,4 +110,7 @@ option-of-spec =
     (λ c. search needs)
     (λ c κs. search needs)
     returns-5
-    returns-6)
+    (λ c. search needs)
+    (λ c κs. search needs)
+    returns-6
+    returns-7)

@@ -7,13 +7,16 @@ returns : tie.Need-returns
 returns c = rw (c .before .before .enum-told .given .1, ← c .before .rules-value .ensures) (c .with-rules .ensures)
 
 returns-2 : tie.Need-returns-2
-returns-2 c = rw (c .before .before .enum-told2 .given .1, ← c .before .number-value .ensures) (c .with-minimum .ensures)
+returns-2 c = rw (c .before .before .enum-told2 .given .1, ← c .before .number-value .ensures) (c .with-edition .ensures)
 
 returns-3 : tie.Need-returns-3
-returns-3 c = rw (c .before .before .enum-told3 .given .1, ← c .before .number-value2 .ensures) (c .with-skip .ensures)
+returns-3 c = rw (c .before .before .enum-told3 .given .1, ← c .before .number-value2 .ensures) (c .with-minimum .ensures)
 
 returns-4 : tie.Need-returns-4
-returns-4 c = rw (c .before .before .enum-told4 .given .1, ← c .before .stretch-value .ensures) (c .with-withheld .ensures)
+returns-4 c = rw (c .before .before .enum-told4 .given .1, ← c .before .number-value3 .ensures) (c .with-skip .ensures)
+
+returns-5 : tie.Need-returns-5
+returns-5 c = rw (c .before .before .enum-told5 .given .1, ← c .before .stretch-value .ensures) (c .with-withheld .ensures)
 
 pub with-value-spec : {M : Type 1} → statement M
 with-value-spec =
@@ -31,7 +34,11 @@ with-value-spec =
     (λ c. search needs)
     (λ c κs. search needs)
     (λ c κs. search needs)
+    (λ c. search needs)
+    (λ c κs. search needs)
+    (λ c κs. search needs)
     returns
     returns-2
     returns-3
-    returns-4)
+    returns-4
+    returns-5)
