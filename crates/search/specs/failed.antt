@@ -1,4 +1,5 @@
 -- Which reference of a match fails first.
 pub mod Failures
 pub mod FailureLaws
+pub mod FailedMatchLaws
 pub mod OneOutcome

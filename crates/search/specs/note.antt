@@ -1,4 +1,4 @@
--- Names are noted, and whether references hold.
+-- Names are noted, and the references of a match gone over.
 pub mod NotedNames
 pub mod NotedNameLaws
 pub mod ReferLaws

@@ -3,7 +3,7 @@ ghost use mathlib.Core.Path.{_≡_};
 ghost use mathlib.Core.Bool.{not};
 ghost use Rattle.image.specs.View.{view};
 ghost use Rattle.search_rules.specs.FailedLaws.{isNothing};
-ghost use Rattle.search.specs.failed.Failures.{FailsAt, FailsFirst};
+ghost use Rattle.search.specs.failed.Failures.{FailsBy, FirstToFail};
 use crate::targets::is_match;
 use crate::targets::target_of;
 use image::Stretch;
@@ -13,7 +13,6 @@ use lent::part::Part;
 use search_rules::Failed;
 use search_rules::Why;
 use segments::Goal;
-use segments::Reference;
 use segments::recalled::lies_within;
 use segments::rows::REFERENCE_WIDTH;
 use segments::rows::reference_at;
@@ -28,24 +27,23 @@ pub fn is_failed(f: Failed) -> bool
     }
 }
 
-// Whether the reference `r`, number k of a match at `position`, fails, and why: it has no target, since its bytes pass the
-// image's end or are withheld, or its segment does not match at the target. The parameters are those of `first_failed`.
-fn failed_at(
+// Whether the reference number k of a match fails, by its goal and target, and why: it has no target, since its bytes pass
+// the image's end or are withheld, or its segment does not match at the target. The other parameters are those of
+// `first_failed`.
+pub fn failed_by(
     image: &[u8],
     s: Stretch,
-    rules: Rules,
-    position: usize,
     segments: &[u64],
     n: usize,
     bytes: &[u8],
     masks: &[u8],
     k: usize,
-    r: Reference,
+    goal: Goal,
+    target: Target,
 ) -> Failed
-    ensures { λ q. ⌜ FailsAt (view (now (image .entry)) s) rules position (now (segments .entry)) n (now (bytes .entry)) (now (masks .entry)) k r q ⌝ }
+    ensures { λ q. ⌜ FailsBy (view (now (image .entry)) s) (now (segments .entry)) n (now (bytes .entry)) (now (masks .entry)) k goal target q ⌝ }
 {
-    let goal = r.goal;
-    match target_of(image, s, rules, position, r) {
+    match target {
         Target::PastEnd => Failed::Reference {
             number: k,
             why: Why::PastEnd,
@@ -83,7 +81,7 @@ pub fn first_failed(
     bytes: &[u8],
     masks: &[u8],
 ) -> Failed
-    ensures { λ q. ⌜ FailsFirst (view (now (image .entry)) s) rules position (now (segments .entry)) n (now (references .entry)) part (now (bytes .entry)) (now (masks .entry)) q ⌝ }
+    ensures { λ q. ⌜ FirstToFail (view (now (image .entry)) s) rules position (now (segments .entry)) n (now (references .entry)) part (now (bytes .entry)) (now (masks .entry)) q ⌝ }
 {
     let at = part.at;
     let len = part.len;
@@ -93,7 +91,9 @@ pub fn first_failed(
     let mut k = 0;
     while k < len {
         let r = reference_at(references, at + k);
-        let f = failed_at(image, s, rules, position, segments, n, bytes, masks, k, r);
+        let goal = r.goal;
+        let target = target_of(image, s, rules, position, r);
+        let f = failed_by(image, s, segments, n, bytes, masks, k, goal, target);
         if is_failed(f) {
             return f;
         }

@@ -1,11 +1,12 @@
-// The references of a match: whether they hold, and the names that they note in lent memory.
+// The references of a match: the first that fails, and the names that they note in lent memory.
 pub mod name;
 pub mod refer;
 
+use search_rules::Failed;
 use tables::fill::Fill;
 
-// Whether all references that were gone over hold, and how far the rows of noted names are filled after them.
+// The first of the references that were gone over that fails, and how far the rows of noted names are filled after them.
 pub struct Referred {
-    pub holds: bool,
+    pub failed: Failed,
     pub fill: Fill,
 }

@@ -5,6 +5,8 @@ use mathlib.Core.List.{List}
 use mathlib.Core.Option.{Option}
 use Rattle.lent.specs.declared.part.Part.{Part}
 use Rattle.image.specs.declared.fixup.Rules.{Rules}
+use Rattle.image.specs.declared.fixup.Target.{Target}
+use Rattle.segments.specs.declared.Goal.{Goal}
 use Rattle.segments.specs.declared.Reference.{Reference}
 use Rattle.segments.specs.Collect.{Collected}
 use Rattle.segments.specs.SegmentLayouts.{referenceLayout}
@@ -19,14 +21,15 @@ use Rattle.search.specs.targets.Seats.{leads}
 abbrev pub whyOf : List ℕ → Rules → ℕ → List Collected → Reference → Option Why
 whyOf cells rules position gs r = failure cells gs (r .goal) (leads cells rules position r)
 
--- number k of the references, and the first of a part of the rows; the references and symbols that are stored with the
--- segments do not matter
-module _ (cells : List ℕ) (rules : Rules) (position : ℕ) (segments : List ℕ) (n : ℕ) where
-  abbrev pub FailsAt : List ℕ → List ℕ → ℕ → Reference → Failed → Type 0
-  FailsAt bytes masks k r q =
-      (stored symbols : List ℕ) → q ≡ failed k (whyOf cells rules position (recalled segments stored symbols bytes masks n) r) Failed.Nothing
+-- number k of the references, by its goal and target; the first of some references; and the first of a part of the rows.
+-- The references and symbols that are stored with the segments do not matter
+module _ (cells segments : List ℕ) (n : ℕ) (bytes masks : List ℕ) where
+  abbrev pub FailsBy : ℕ → Goal → Target → Failed → Type 0
+  FailsBy k goal t q = (stored symbols : List ℕ) → q ≡ failed k (failure cells (recalled segments stored symbols bytes masks n) goal t) Failed.Nothing
 
-  abbrev pub FailsFirst : List ℕ → Part → List ℕ → List ℕ → Failed → Type 0
-  FailsFirst references part bytes masks q =
-      (stored symbols : List ℕ)
-      → q ≡ failedFrom (whyOf cells rules position (recalled segments stored symbols bytes masks n)) 0 (rowsOf referenceLayout references part)
+module _ (cells : List ℕ) (rules : Rules) (position : ℕ) (segments : List ℕ) (n : ℕ) where
+  abbrev pub FirstAmong : List ℕ → List ℕ → List Reference → Failed → Type 0
+  FirstAmong bytes masks rs q = (stored symbols : List ℕ) → q ≡ failedFrom (whyOf cells rules position (recalled segments stored symbols bytes masks n)) 0 rs
+
+  abbrev pub FirstToFail : List ℕ → Part → List ℕ → List ℕ → Failed → Type 0
+  FirstToFail references part bytes masks q = FirstAmong bytes masks (rowsOf referenceLayout references part) q

@@ -8,10 +8,10 @@ use Rattle.lent.specs.OneOutcome.{Determines, by-equation}
 use Rattle.image.specs.declared.fixup.Rules.{Rules}
 use Rattle.search_rules.specs.declared.Failed.{Failed}
 use Rattle.search_rules.specs.FailedLaws.{isNothing}
-use Rattle.search.specs.failed.Failures.{FailsFirst}
+use Rattle.search.specs.failed.Failures.{FirstToFail}
 
 pub first-failed-one : (cells : List ℕ) (rules : Rules) (position : ℕ) (segments : List ℕ) (n : ℕ) (references : List ℕ) (part : Part) (bytes masks : List ℕ)
-    → Determines (FailsFirst cells rules position segments n references part bytes masks)
+    → Determines (FirstToFail cells rules position segments n references part bytes masks)
 first-failed-one cells rules position segments n references part bytes masks a b p q = p [] [] ∙ sym (q [] [])
 
 pub is-failed-one : (f : Failed) → Determines (λ r. r ≡ not (isNothing f))

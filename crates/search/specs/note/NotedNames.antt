@@ -1,21 +1,22 @@
--- What noting the references of a match leaves in lent memory, and whether they hold.
+-- What noting the references of a match leaves in lent memory, and which of them fails first.
 use Prim.Native.Nat.{ℕ}
-use mathlib.Core.Path.{_≡_}
 use mathlib.Core.Bool.{Bool, true}
 use mathlib.Core.List.{List}
 use Rattle.lent.specs.declared.part.Part.{Part}
-use Rattle.lent.specs.Lists.{one, joined, all}
+use Rattle.lent.specs.Lists.{one, joined}
 use Rattle.tables.specs.declared.fill.Fill.{Fill}
 use Rattle.image.specs.declared.fixup.Rules.{Rules}
+use Rattle.image.specs.declared.fixup.Target.{Target}
+use Rattle.segments.specs.declared.Goal.{Goal}
 use Rattle.segments.specs.declared.Reference.{Reference}
 use Rattle.segments.specs.SegmentLayouts.{referenceLayout}
-use Rattle.segments.specs.Collect.{Collected}
 use Rattle.tables.specs.by_name.Tables.{table, Takes}
-use Rattle.segments.specs.recalled.Recall.{rowsOf, recalled}
+use Rattle.segments.specs.recalled.Recall.{rowsOf}
 use Rattle.search_rules.specs.declared.Noted.{Noted}
-use Rattle.search_rules.specs.Search.{Noting, holdsAt, noteAt, note}
+use Rattle.search_rules.specs.Search.{Noting, noteAt, note}
 use Rattle.search_rules.specs.SearchRows.{notedSheet}
 use Rattle.search.specs.targets.Seats.{leads}
+use Rattle.search.specs.failed.Failures.{FirstAmong}
 use Rattle.search.specs.declared.note.Referred.{Referred}
 
 -- a noted row that is valid now
@@ -29,19 +30,19 @@ Notes library new m heads f m′ heads′ f′ = Takes notedSheet library (note 
 abbrev pub NotesOne : List ℕ → ℕ → Part → Bool → List ℕ → List ℕ → Fill → List ℕ → List ℕ → Fill → Type 0
 NotesOne library at name valid = Notes library (one (record { target = at; name = name; valid = valid }))
 
--- what a reference of a match at a position notes, and whether it holds among some segments
-module _ (cells : List ℕ) (rules : Rules) (position : ℕ) where
-  abbrev pub notesOf : Bool → Reference → List Noting
-  notesOf valid r = noteAt valid (r .goal) (leads cells rules position r)
+-- what a reference notes, by its goal and target, is taken in
+abbrev pub NotesAt : List ℕ → Bool → Goal → Target → List ℕ → List ℕ → Fill → List ℕ → List ℕ → Fill → Type 0
+NotesAt library valid goal t = Notes library (noteAt valid goal t)
 
-  abbrev pub holdsIn : List Collected → Reference → Bool
-  holdsIn gs r = holdsAt cells gs (r .goal) (leads cells rules position r)
+-- what a reference of a match at a position notes
+abbrev pub notesOf : List ℕ → Rules → ℕ → Bool → Reference → List Noting
+notesOf cells rules position valid r = noteAt valid (r .goal) (leads cells rules position r)
 
--- references are gone over: the names are noted, and the answer is whether they hold among the segments that are stored
+-- references are gone over: the names are noted, and the answer is the first that fails among the segments that are stored
 pub record Refers (cells : List ℕ) (rules : Rules) (position : ℕ) (valid : Bool) (library segments : List ℕ) (n : ℕ) (bytes masks : List ℕ) (rs : List Reference)
     (m heads : List ℕ) (f : Fill) (m′ heads′ : List ℕ) (r : Referred) : Type 0 where
   pub notes : Notes library (joined (notesOf cells rules position valid) rs) m heads f m′ heads′ (r .fill)
-  pub holds : (references symbols : List ℕ) → r .holds ≡ all (holdsIn cells rules position (recalled segments references symbols bytes masks n)) rs
+  pub fails : FirstAmong cells rules position segments n bytes masks rs (r .failed)
 
 abbrev pub RefersAll : List ℕ → Rules → ℕ → Bool → List ℕ → List ℕ → ℕ → List ℕ → Part → List ℕ → List ℕ → List ℕ → List ℕ → Fill → List ℕ → List ℕ → Referred → Type 0
 RefersAll cells rules position valid library segments n references part bytes masks =

@@ -9,7 +9,7 @@ use lib.Dec.{leb}
 use lib.ListN.{length}
 use Rattle.lent.specs.declared.part.Part.{Part}
 use Rattle.lent.specs.Choice.{if_then_else_}
-use Rattle.lent.specs.Lists.{one, joined, all, from, numbered}
+use Rattle.lent.specs.Lists.{one, joined, from, numbered}
 use Rattle.lent.specs.ListLaws.{from-turn, joined-turn}
 use Rattle.lent.specs.Rows.{Layout}
 use Rattle.segments.specs.declared.SegmentNumber.{SegmentNumber}
@@ -18,9 +18,13 @@ use Rattle.segments.specs.Collect.{Collected}
 use Rattle.segments.specs.SegmentLayouts.{referenceLayout, symbolLayout, segmentRowAt}
 use Rattle.segments.specs.recalled.Recall.{rowsOf, recalledBy, recalled}
 use Rattle.search_rules.specs.declared.Asked.{Asked}
+use Rattle.search_rules.specs.declared.Failed.{Failed}
 use Rattle.search_rules.specs.Search.{Match, Placing, positions, matchesOf, allMatches, isValid, holds, notes, symbolAt, symbolsAt}
+use Rattle.search_rules.specs.FailedLaws.{isNothing, holds-exactly}
 use Rattle.search.specs.place.PlacedSymbols.{placingOf}
-use Rattle.search.specs.note.NotedNames.{notesOf, holdsIn}
+use Rattle.search.specs.failed.Failures.{FirstToFail}
+use Rattle.search.specs.failed.FailedMatchLaws.{match-failed}
+use Rattle.search.specs.note.NotedNames.{notesOf}
 use Rattle.search.specs.visit.Visits.{Stored, segmentsIn, segmentAt, placings, notings, segmentBy, matchOf}
 
 same : {A : Type 0} (b : Bool) (x : A) → (if b then x else x) ≡ x
@@ -35,14 +39,10 @@ module _ (cells : List ℕ) (a : Asked) (library : List ℕ) (t : Stored) (n : �
   abbrev gs : List Collected
   gs = segmentsIn t n
 
-  -- its references note what the definition says, and hold where it says so
+  -- its references note what the definition says
   pub match-notes : joined (notesOf cells (a .rules) at valid) (rowsOf referenceLayout (t .references) (row .references)) ≡ notings cells a gs (one m)
   unfolding notes recalledBy joined
   match-notes = rw known (sym (append-nil (notes cells a (segmentBy cells a library t n row) at)))
-
-  match-holds : {q : Bool} → q ≡ all (holdsIn cells (a .rules) at gs) (rowsOf referenceLayout (t .references) (row .references)) → holds cells a gs m ≡ q
-  unfolding holds recalledBy
-  match-holds e = sym e
 
   -- its symbols, and that a failed check keeps them out
   one-placed : placings cells a gs (one m) ≡ symbolsAt cells a gs m
@@ -59,16 +59,20 @@ module _ (cells : List ℕ) (a : Asked) (library : List ℕ) (t : Stored) (n : �
   abbrev unless : Bool → List Placing
   unless fails = if fails then [] else map (symbolAt a m) (m .segment .symbols)
 
-  module _ (q out : Bool) (e : q ≡ all (holdsIn cells (a .rules) at gs) (rowsOf referenceLayout (t .references) (row .references))) (o : out ≡ (a .check && not q)) where
+  module _ (q : Failed) (e : FirstToFail cells (a .rules) at (t .segments) n (t .references) (row .references) (t .bytes) (t .masks) q)
+      (failed : Bool) (f : failed ≡ not (isNothing q)) (out : Bool) (o : out ≡ (a .check && failed)) where
+    holds-told : holds cells a gs m ≡ isNothing q
+    holds-told = holds-exactly cells a gs m ∙ ap isNothing (sym (match-failed cells a library t n number row at q e))
+
     placed-unless : placings cells a gs (one m) ≡ unless out
     unfolding symbolsAt
-    placed-unless = one-placed ∙ ap (λ h. unless (a .check && not h)) (match-holds e) ∙ ap unless (sym o)
+    placed-unless = one-placed ∙ ap (λ h. unless (a .check && not h)) holds-told ∙ ap unless (ap (λ x. a .check && x) (sym f) ∙ sym o)
 
     pub match-fails : out ≡ true → [] ≡ placings cells a gs (one m)
-    match-fails f = sym (placed-unless ∙ ap unless f)
+    match-fails is = sym (placed-unless ∙ ap unless is)
 
     pub match-passes : out ≡ false → own ≡ placings cells a gs (one m)
-    match-passes f = sym (placed-unless ∙ ap unless f ∙ own-symbols)
+    match-passes is = sym (placed-unless ∙ ap unless is ∙ own-symbols)
 
 -- a segment with no reference and no symbol leaves nothing, wherever it matches
 no-rows : {R : Type 0} (l : Layout R) (xs : List ℕ) (p : Part) → p .len ≡ 0 → rowsOf l xs p ≡ []

@@ -1,66 +1,48 @@
 // The references of a match are gone over in file order.
-ghost use Rattle.lent.specs.Lists.{one};
 ghost use Rattle.image.specs.View.{view};
-ghost use Rattle.search.specs.note.NotedNames.{Refers, RefersAll};
+ghost use Rattle.search.specs.note.NotedNames.{NotesAt, RefersAll};
+use crate::failed::failed_by;
+use crate::failed::is_failed;
 use crate::note::Referred;
 use crate::note::name::note_name;
-use crate::targets::is_match;
 use crate::targets::target_of;
 use image::Stretch;
 use image::fixup::Rules;
 use image::fixup::Target;
 use lent::part::Part;
+use search_rules::Failed;
 use segments::Goal;
-use segments::Reference;
 use segments::recalled::lies_within;
 use segments::rows::REFERENCE_WIDTH;
 use segments::rows::reference_at;
 use tables::fill::Fill;
 
-// Goes over one reference `r` of a match at `position`. A reference without a target does not hold; a reference to a
-// segment holds if that segment matches at the target; a reference to a name notes the name at the target, and holds.
-// The parameters are those of `refer_all`.
-fn refer_one(
-    image: &[u8],
-    s: Stretch,
-    rules: Rules,
-    position: usize,
-    valid: bool,
+// Notes what a reference notes, by its goal and target: a name, at its target. Nothing is checked here. The other
+// parameters are those of `refer_all`.
+fn note_at(
     library: &[u8],
-    segments: &[u64],
-    n: usize,
-    bytes: &[u8],
-    masks: &[u8],
-    r: Reference,
+    goal: Goal,
+    target: Target,
+    valid: bool,
     noted: &mut [u64],
     heads: &mut [u32],
     f: Fill,
-) -> Referred
-    ensures { λ q. ⌜ Refers (view (now (image .entry)) s) rules position valid (now (library .entry)) (now (segments .entry)) n (now (bytes .entry)) (now (masks .entry)) (one r)
-        (now (noted .entry)) (now (heads .entry)) f (now (noted .exit)) (now (heads .exit)) q ⌝ }
+) -> Fill
+    ensures { λ r. ⌜ NotesAt (now (library .entry)) valid goal target (now (noted .entry)) (now (heads .entry)) f (now (noted .exit)) (now (heads .exit)) r ⌝ }
 {
-    let goal = r.goal;
-    let Target::At(t) = target_of(image, s, rules, position, r) else {
-        return Referred {
-            holds: false,
-            fill: f,
-        };
+    let Target::At(t) = target else {
+        return f;
     };
-    match goal {
-        Goal::Segment(number) => Referred {
-            holds: is_match(image, s, segments, n, bytes, masks, number, t),
-            fill: f,
-        },
-        Goal::Name(name) => Referred {
-            holds: true,
-            fill: note_name(library, t, name, valid, noted, heads, f),
-        },
-    }
+    let Goal::Name(name) = goal else {
+        return f;
+    };
+    note_name(library, t, name, valid, noted, heads, f)
 }
 
-// Goes over the references in a part of the rows, for a match at `position`. The image with its stretch `s` gives the
-// targets; the first n segments, with `bytes` and `masks`, tell what matches there; names, parts of `library`, go into
-// `noted`, whose rows are found by `heads` and filled up to `before`.
+// Goes over the references in a part of the rows, for a match at `position`: each notes its name, and each is checked until
+// one fails. The image with its stretch `s` gives the targets, each of which is made once; the first n segments, with
+// `bytes` and `masks`, tell what matches there; names, parts of `library`, go into `noted`, whose rows are found by `heads`
+// and filled up to `before`. A match without references is answered before the loop, which spares it the loop's start.
 pub fn refer_all(
     image: &[u8],
     s: Stretch,
@@ -81,35 +63,26 @@ pub fn refer_all(
     ensures { λ q. ⌜ RefersAll (view (now (image .entry)) s) rules position valid (now (library .entry)) (now (segments .entry)) n (now (references .entry)) part (now (bytes .entry)) (now (masks .entry))
         (now (noted .entry)) (now (heads .entry)) before (now (noted .exit)) (now (heads .exit)) q ⌝ }
 {
-    let mut holds = true;
+    let mut failed = Failed::Nothing;
     let mut f = before;
     let at = part.at;
     let len = part.len;
     if !lies_within(part, references.len() / REFERENCE_WIDTH) {
-        return Referred { holds, fill: f };
+        return Referred { failed, fill: f };
+    }
+    if len == 0 {
+        return Referred { failed, fill: f };
     }
     let mut k = 0;
     while k < len {
         let r = reference_at(references, at + k);
-        let q = refer_one(
-            image,
-            s,
-            rules,
-            position,
-            valid,
-            library,
-            segments,
-            n,
-            bytes,
-            masks,
-            r,
-            noted,
-            heads,
-            f,
-        );
-        f = q.fill;
-        holds = holds && q.holds;
+        let goal = r.goal;
+        let target = target_of(image, s, rules, position, r);
+        f = note_at(library, goal, target, valid, noted, heads, f);
+        if !is_failed(failed) {
+            failed = failed_by(image, s, segments, n, bytes, masks, k, goal, target);
+        }
         k += 1;
     }
-    Referred { holds, fill: f }
+    Referred { failed, fill: f }
 }

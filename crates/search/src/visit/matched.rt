@@ -1,8 +1,9 @@
 // One match: its references are gone over in file order, and then its symbols are placed.
 ghost use mathlib.Core.Path.{_≡_};
-ghost use mathlib.Core.Bool.{_&&_, not};
+ghost use mathlib.Core.Bool.{_&&_};
 ghost use Rattle.image.specs.View.{view};
 ghost use Rattle.search.specs.visit.Visits.{stored, VisitsMatch};
+use crate::failed::is_failed;
 use crate::note::refer::refer_all;
 use crate::place::place_symbols;
 use crate::visit::Fills;
@@ -12,11 +13,11 @@ use segments::SegmentNumber;
 use segments::SegmentRow;
 use tables::fill::Fill;
 
-// Whether a match places no symbols: references are checked, and one does not hold.
-fn keeps_out(check: bool, holds: bool) -> bool
-    ensures { λ r. ⌜ r ≡ (check && not holds) ⌝ }
+// Whether a match places no symbols: references are checked, and one failed.
+fn keeps_out(check: bool, failed: bool) -> bool
+    ensures { λ r. ⌜ r ≡ (check && failed) ⌝ }
 {
-    check && !holds
+    check && failed
 }
 
 // How far the two lists of the search are filled.
@@ -27,7 +28,7 @@ fn fills(placed: Fill, noted: Fill) -> Fills
 }
 
 // Goes over one match, of the segment `number`, whose row is `row`, at the place `at`. With checking on, a reference
-// that does not hold keeps the symbols of the match out; the names that its references noted stay. The other parameters
+// that fails keeps the symbols of the match out; the names that its references noted stay. The other parameters
 // are those of `search_all`.
 pub fn visit_match(
     image: &[u8],
@@ -73,8 +74,9 @@ pub fn visit_match(
         goals,
         started,
     );
+    let failed = referred.failed;
     let reached = referred.fill;
-    if keeps_out(asked.check, referred.holds) {
+    if keeps_out(asked.check, is_failed(failed)) {
         return fills(before, reached);
     }
     let filled = place_symbols(

@@ -17,7 +17,7 @@ use Rattle.segments.specs.recalled.RowsLaws.{rowsFrom, rows-past, rows-few, row
 use Rattle.search_rules.specs.declared.Why.{Why}
 use Rattle.search_rules.specs.Search.{failedFrom}
 use Rattle.search.specs.failed.Failures.{whyOf}
-use Rattle.search.specs.failed.FailureLaws.{first-here, first-later, first-none}
+use Rattle.search.specs.failed.FailureLaws.{fails-led, first-here, first-later, first-none}
 use borrow.Author.Needs.{needs}
 use Rattle.search.proofs.failed.first_failed.Statement.{statement}
 use Rattle.search.proofs.failed.first_failed.Tie as tie
@@ -39,7 +39,7 @@ abbrev at-entry : tie.After-lies-within Inv-loop μ-loop → tie.Start Inv-loop 
 at-entry c = c .before .before .before .before .before .before
 
 abbrev at-in-loop : tie.After-is-failed Inv-loop μ-loop → tie.In-loop Inv-loop μ-loop
-at-in-loop c = c .before .before .before
+at-in-loop c = c .before .before .before .before
 
 fits : (c : tie.At-loop Inv-loop μ-loop) → at-entry (c .before .before) .args .part .at + at-entry (c .before .before) .args .part .len ≤ length
     (at-entry (c .before .before) .args .references .now) / 6
@@ -62,16 +62,19 @@ add-reference-at c = omega (arith, c .loop-test .taken, fits (c .before), at-ent
 
 returns-2 : tie.Need-returns-2 Inv-loop μ-loop
 returns-2 c stored symbols =
-    let failed-at = c .before .before in
-    let in-loop = failed-at .before .before in
+    let failed-by = c .before .before in
+    let target-of = failed-by .before in
+    let in-loop = target-of .before .before in
     let lies-within = in-loop .before .before .before in
     let a = at-entry lies-within .args in
     let l = in-loop .before .loop in
-    let r = failed-at .before .reference-at in
+    let r = target-of .before .reference-at in
     let why : Reference → Option Why = whyOf (view (a .image .now) (a .s)) (a .rules) (a .position) (recalled (a .segments .now) stored symbols (a .bytes .now) (a .masks .now) (a .n)) in
     sym (ap (failedFrom why 0) (rows-within referenceLayout (a .references .now) (a .part) (lies-within .lies-within .result) (lies-within .lies-within .ensures) (in-loop .before .before .if1 .left))
     ∙ l .inv .left stored symbols
-    ∙ first-here why (l .k) (r .result) (rowsFrom referenceLayout (a .references .now) (a .part) (l .k + 1)) (failed-at .failed-at .result) (failed-at .failed-at .ensures stored symbols)
+    ∙ first-here why (l .k) (r .result) (rowsFrom referenceLayout (a .references .now) (a .part) (l .k + 1)) (failed-by .failed-by .result)
+    (fails-led (view (a .image .now) (a .s)) (a .rules) (a .position) (a .segments .now) (a .n) (a .bytes .now) (a .masks .now) (l .k) (r .result) (target-of .target-of .result)
+    (target-of .target-of .ensures) (failed-by .failed-by .result) (failed-by .failed-by .ensures) stored symbols)
     (c .before .is-failed .result) (c .before .is-failed .ensures)
     (rows-turn referenceLayout (a .references .now) (a .part) (l .k) (omega (arith, in-loop .loop-test .taken)) ∙ ap
     (λ x. x ∷ rowsFrom referenceLayout (a .references .now) (a .part) (l .k + 1)) (sym (r .ensures)))
@@ -87,17 +90,20 @@ loop-less c = omega (arith, at-in-loop (c .before) .loop-test .taken)
 
 loop-again : tie.Need-loop-again Inv-loop μ-loop
 loop-again c =
-    let failed-at = c .before .before in
-    let in-loop = failed-at .before .before in
+    let failed-by = c .before .before in
+    let target-of = failed-by .before in
+    let in-loop = target-of .before .before in
     let a = at-entry (in-loop .before .before .before) .args in
     let l = in-loop .before .loop in
-    let r = failed-at .before .reference-at in
+    let r = target-of .before .reference-at in
     record {
       within = omega (arith, in-loop .loop-test .taken);
       left = λ stored symbols.
           let why : Reference → Option Why = whyOf (view (a .image .now) (a .s)) (a .rules) (a .position) (recalled (a .segments .now) stored symbols (a .bytes .now) (a .masks .now) (a .n)) in
           l .inv .left stored symbols
-          ∙ first-later why (l .k) (r .result) (rowsFrom referenceLayout (a .references .now) (a .part) (l .k + 1)) (failed-at .failed-at .result) (failed-at .failed-at .ensures stored symbols)
+          ∙ first-later why (l .k) (r .result) (rowsFrom referenceLayout (a .references .now) (a .part) (l .k + 1)) (failed-by .failed-by .result)
+          (fails-led (view (a .image .now) (a .s)) (a .rules) (a .position) (a .segments .now) (a .n) (a .bytes .now) (a .masks .now) (l .k) (r .result) (target-of .target-of .result)
+          (target-of .target-of .ensures) (failed-by .failed-by .result) (failed-by .failed-by .ensures) stored symbols)
           (c .before .is-failed .result) (c .before .is-failed .ensures)
           (rows-turn referenceLayout (a .references .now) (a .part) (l .k) (omega (arith, in-loop .loop-test .taken)) ∙ ap
           (λ x. x ∷ rowsFrom referenceLayout (a .references .now) (a .part) (l .k + 1)) (sym (r .ensures)))
@@ -124,6 +130,7 @@ first-failed-spec =
     returns
     loop-holds
     add-reference-at
+    (λ c κs. search needs)
     (λ c κs. search needs)
     (λ c κs. search needs)
     (λ c κs. search needs)

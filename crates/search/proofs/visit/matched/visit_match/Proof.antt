@@ -24,7 +24,7 @@ use Rattle.search.proofs.visit.matched.visit_match.Tie as tie
 abbrev after-shared-slice-known5 : tie.After-noted → tie.After-shared-slice-known5
 after-shared-slice-known5 c = c .before .before .before .before .before .before .before .before .before .before .before .before
 
-abbrev after-noted : tie.After-keeps-out → tie.After-noted
+abbrev after-noted : tie.After-is-failed → tie.After-noted
 after-noted c = c .before .before .before .before .before
 
 abbrev after-place-symbols : tie.After-fills2 → tie.After-place-symbols
@@ -47,7 +47,8 @@ Left c placed positions noted goals f =
 returns : tie.Need-returns
 returns c =
     let keeps-out = c .before .before in
-    let noted = after-noted keeps-out in
+    let is-failed = keeps-out .before in
+    let noted = after-noted is-failed in
     let entry = after-shared-slice-known5 noted .before .before .before .before .before in
     let a = entry .args in
     let q = noted .before .refer-all in
@@ -56,8 +57,8 @@ returns c =
       places =
           subst (λ xs. Takes placedSheet (a .library .now) (place (a .library .now) (length (seen entry))) xs
           (table (a .placed .now) (a .positions .now) (a .f .placed)) (table (a .placed .now) (a .positions .now) (a .f .placed)))
-          (match-fails (seen entry) (a .asked) (a .library .now) (rows entry) (a .n) (a .number) (a .row) (a .valid) (a .at) known (q .result .holds)
-          (keeps-out .keeps-out .result) (q .ensures .holds (a .references .now) (a .symbols .now)) (keeps-out .keeps-out .ensures) (c .before .if1 .taken))
+          (match-fails (seen entry) (a .asked) (a .library .now) (rows entry) (a .n) (a .number) (a .row) (a .valid) (a .at) known (q .result .failed) (q .ensures .fails)
+          (is-failed .is-failed .result) (is-failed .is-failed .ensures) (keeps-out .keeps-out .result) (keeps-out .keeps-out .ensures) (c .before .if1 .taken))
           (takes-none placedSheet (a .library .now) (place (a .library .now) (length (seen entry))) (table (a .placed .now) (a .positions .now) (a .f .placed)));
       notes =
           subst (λ xs. Takes notedSheet (a .library .now) (note (a .library .now)) xs (table (a .noted .now) (a .goals .now) (a .f .noted))
@@ -70,7 +71,8 @@ returns-2 : tie.Need-returns-2
 returns-2 c =
     let place-symbols = after-place-symbols c in
     let keeps-out = place-symbols .before .before .before .before in
-    let noted = after-noted keeps-out in
+    let is-failed = keeps-out .before in
+    let noted = after-noted is-failed in
     let entry = after-shared-slice-known5 noted .before .before .before .before .before in
     let a = entry .args in
     let q = noted .before .refer-all in
@@ -81,8 +83,8 @@ returns-2 c =
           subst (λ xs. Takes placedSheet (a .library .now) (place (a .library .now) (length (seen entry))) xs
           (table (a .placed .now) (a .positions .now) (a .f .placed)) (table (p .last .1 .1 .1 .1 .1 .1 .1 .0) (p .last .1 .1 .1 .1 .1 .1 .1 .1 .0) (p .result)))
           (match-passes (seen entry) (a .asked) (a .library .now) (rows entry) (a .n) (a .number) (a .row) (a .valid) (a .at) known
-          (q .result .holds) (keeps-out .keeps-out .result) (q .ensures .holds (a .references .now) (a .symbols .now))
-          (keeps-out .keeps-out .ensures) (place-symbols .before .before .before .if1 .left))
+          (q .result .failed) (q .ensures .fails) (is-failed .is-failed .result) (is-failed .is-failed .ensures)
+          (keeps-out .keeps-out .result) (keeps-out .keeps-out .ensures) (place-symbols .before .before .before .if1 .left))
           (subst (λ end. Takes placedSheet (a .library .now) (place (a .library .now) end)
           (map (placingOf (a .number) (a .at) (a .valid)) (rowsOf symbolLayout (a .symbols .now) (a .row .symbols)))
           (table (a .placed .now) (a .positions .now) (a .f .placed))
@@ -98,6 +100,7 @@ pub visit-match-spec : {M : Type 1} → statement M
 visit-match-spec =
     tie.close
     (tie.spec
+    (λ c κs. search needs)
     (λ c κs. search needs)
     (λ c κs. search needs)
     (λ c κs. search needs)
