@@ -182,8 +182,9 @@ def report(cases):
         done = [c.stages.lines() for c in some if c.outcome.number == 0]
         grades = Counter(line[1] for lines in done for line in lines)
         print(f"lists with lines {sum(map(bool, done))} of {len(done)}, most lines {max(map(len, done))}, by grade {[grades[g] for g in range(4)]}; "
-              f"checking on {sum(c.run.check for c in some)}, rule set 1 {sum(c.run.rules == 1 for c in some)}, edition 2 {sum(c.run.edition == 2 for c in some)}, "
-              f"a stretch {sum(c.run.stretch[1] > 0 for c in some)}, several {sum(bool(c.run.more) for c in some)}, 2Ch libraries {sum(c.run.library[:1] == b',' for c in some)}")
+              f"checking on {sum(c.run.check for c in some)}, rule set 1 {sum(c.run.rules == 1 for c in some)}, "
+              f"edition 2 {sum(c.run.edition == 2 for c in some)}, a stretch {sum(c.run.stretch[1] > 0 for c in some)}, "
+              f"several {sum(bool(c.run.more) for c in some)}, 2Ch libraries {sum(c.run.library[:1] == b',' for c in some)}")
         print("minimums", dict(sorted(Counter(c.run.minimum for c in some).items())), "skip amounts", dict(Counter(c.run.skip for c in some)))
     print("\nmost lent", [max(column) for column in zip(*(c.lent for c in cases))], "longest text", max(len(c.outcome.text) for c in cases))
 
