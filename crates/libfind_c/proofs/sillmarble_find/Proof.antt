@@ -15,7 +15,7 @@ after-settings-of c = after-find-names (c .before .before .before .before .befor
 returns : tie.Need-returns
 returns c =
     let hand-over = c .before .before in
-    let a = after-settings-of c .before .before .before .before .before .before .before .before .before .before .before .before .args in
+    let a = after-settings-of c .before .before .before .before .before .before .before .before .before .before .before .before .before .args in
     let before = lentLists (a .segments .now) (a .references .now) (a .symbols .now) (a .bytes .now) (a .masks .now) (a .placed .now) (a .noted .now) (a .lines .now) in
     handed-over (a .image .now) (a .library .now) _ _ (a .counts .now) before _ _ _ (after-settings-of c .settings-of .ensures)
     (after-find-names (hand-over .before .before .before .before) .find-names .ensures) (hand-over .hand-over .ensures .0) (hand-over .hand-over .ensures .1)
