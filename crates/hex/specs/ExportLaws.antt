@@ -33,17 +33,9 @@ module _ (bytes : List ℕ) where
   unfolding joined
   digits-more out to i h = rw (drop-turn bytes i 0 h) (sets-more out to (twoDigits (getD bytes i 0)) (allDigits (drop (i + 1) bytes)))
 
-  pub sum-more : (i : ℕ) → i < length bytes → sum (drop i bytes) ≡ getD bytes i 0 + sum (drop (i + 1) bytes)
-  unfolding total
-  sum-more i h = rw (drop-turn bytes i 0 h)
-
   pub digits-all : (out : List ℕ) (to i : ℕ) → length bytes ≤ i → out ≡ sets out to (allDigits (drop i bytes))
   unfolding joined
   digits-all out to i h = rw (drop-of-length-le bytes h)
-
-  pub sum-all : (i : ℕ) → length bytes ≤ i → sum (drop i bytes) ≡ 0
-  unfolding total
-  sum-all i h = rw (drop-of-length-le bytes h)
 
 -- a text that begins where the one before it ends
 then-sets : (out : List ℕ) (at : ℕ) (s t : List ℕ) {b : ℕ} → b ≡ at + length s → sets (sets out at s) b t ≡ sets out at (s ++ t)

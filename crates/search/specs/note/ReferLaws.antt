@@ -28,7 +28,6 @@ use Rattle.search_rules.specs.FailedLaws.{isNothing}
 use Rattle.search.specs.targets.Seats.{leads}
 use Rattle.search.specs.failed.Failures.{whyOf, FailsBy}
 use Rattle.search.specs.failed.FailureLaws.{fails-led, orElse, goes-on, all-asked}
-use Rattle.search.specs.declared.note.Referred.{Referred}
 use Rattle.search.specs.note.NotedNames.{NotesOne, NotesAt, notesOf, Refers}
 
 -- a reference notes nothing without a target, nor if its goal is a segment; else its name

@@ -6,8 +6,9 @@ use native.Mathlib.Omega.{arith}
 use borrow.Author.Needs.{needs}
 use lib.ListN.{length, drop}
 use lib.Seq.{sets}
+use Rattle.lent.specs.PartLaws.{total-turn, total-done}
 use Rattle.hex.specs.Digits.{sum, allDigits}
-use Rattle.hex.specs.ExportLaws.{digits-more, sum-more, digits-all, sum-all}
+use Rattle.hex.specs.ExportLaws.{digits-more, digits-all}
 use Rattle.hex.proofs.export.put_bytes.Statement.{statement}
 use Rattle.hex.proofs.export.put_bytes.Tie as tie
 
@@ -66,7 +67,7 @@ loop-again c =
       place = omega arith;
       most = omega (arith, c .shared-slice-known3 .given (l .i));
       long = search needs;
-      summed = omega (arith, l .inv .summed, sum-more (a .bytes .now) (l .i) (in-loop .loop-test .taken));
+      summed = omega (arith, l .inv .summed, total-turn (λ byte. byte) (a .bytes .now) (l .i) 0 (in-loop .loop-test .taken));
       same = ap (λ o. sets o (l .to + 2) (allDigits (drop (l .i + 1) (a .bytes .now)))) (c .before .before .before .put-byte .ensures) ∙ digits-more
           (a .bytes .now) (l .out) (l .to) (l .i) (in-loop .loop-test .taken) ∙ l .inv .same;
     }
@@ -76,7 +77,7 @@ same-length c = c .before .loop .inv .long
 
 returns : tie.Need-returns Inv-loop μ-loop
 returns c = let a = c .before .before .before .before .args in let l = c .before .loop in
-    (omega (arith, l .inv .summed, sum-all (a .bytes .now) (l .i) (c .loop-test .left)), digits-all (a .bytes .now) (l .out) (l .to) (l .i) (c .loop-test .left) ∙ l .inv .same)
+    (omega (arith, l .inv .summed, total-done (λ byte. byte) (a .bytes .now) (l .i) (c .loop-test .left)), digits-all (a .bytes .now) (l .out) (l .to) (l .i) (c .loop-test .left) ∙ l .inv .same)
 
 pub put-bytes-spec : {M : Type 1} → statement M
 put-bytes-spec =
