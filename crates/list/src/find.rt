@@ -7,6 +7,8 @@ use command::file::bytes_of;
 use command::file::load;
 use command::output::print;
 use command::refusal_words::say_refused;
+use command::settings::settings_with;
+use image::cover::Stretches;
 use lent::refusal::Refusal;
 use libfind::entry::find_names;
 use run::Answer;
@@ -61,7 +63,7 @@ fn find_in(image: &[u8], library: &[u8], settings: Settings) {
 }
 
 // Lists what stands of the library in the image.
-pub fn list(request: Request) {
+pub fn list(request: Request, withheld: Stretches) {
     let mut first = file::room();
     let Loaded::Size(in_image) = load(request.image, &mut first) else {
         return;
@@ -70,10 +72,10 @@ pub fn list(request: Request) {
     let Loaded::Size(in_library) = load(request.library, &mut second) else {
         return;
     };
-    let settings = request.settings;
+    let plain = request.settings;
     find_in(
         bytes_of(&first, in_image),
         bytes_of(&second, in_library),
-        settings,
+        settings_with(plain, withheld),
     );
 }

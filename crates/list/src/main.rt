@@ -8,8 +8,11 @@ use command::arguments::read_request;
 use command::mistake::say_usage;
 
 fn main() {
-    match read_request() {
-        Requested::Whole(request) => list(request),
+    let asked = read_request();
+    let requested = asked.requested;
+    let withheld = asked.withheld;
+    match requested {
+        Requested::Whole(request) => list(request, withheld),
         Requested::Wrong(mistake) => say_usage(mistake),
     }
 }
