@@ -1,14 +1,11 @@
 // The run: both files, what is lent, and what comes of it.
 use crate::memory;
-use command::arguments::Request;
 use command::file;
 use command::file::Loaded;
 use command::file::bytes_of;
 use command::file::load;
 use command::output::print;
 use command::refusal_words::say_refused;
-use command::settings::settings_with;
-use image::cover::Stretches;
 use lent::refusal::Refusal;
 use libfind::entry::find_names;
 use run::Answer;
@@ -62,20 +59,19 @@ fn find_in(image: &[u8], library: &[u8], settings: Settings) {
     find(image, library, settings);
 }
 
-// Lists what stands of the library in the image.
-pub fn list(request: Request, withheld: Stretches) {
+// Lists what stands of the library in the image; both are told by the numbers of their words.
+pub fn list(image: usize, library: usize, settings: Settings) {
     let mut first = file::room();
-    let Loaded::Size(in_image) = load(request.image, &mut first) else {
+    let Loaded::Size(in_image) = load(image, &mut first) else {
         return;
     };
     let mut second = file::room();
-    let Loaded::Size(in_library) = load(request.library, &mut second) else {
+    let Loaded::Size(in_library) = load(library, &mut second) else {
         return;
     };
-    let plain = request.settings;
     find_in(
         bytes_of(&first, in_image),
         bytes_of(&second, in_library),
-        settings_with(plain, withheld),
+        settings,
     );
 }
