@@ -17,7 +17,7 @@ use Rattle.command.specs.Stretches.{colonIn, stretchRead, stretchValue}
 use Rattle.command.specs.Options.{optionOf, kindOf}
 use Rattle.command.specs.SettingsOf.{settingsOf}
 use Rattle.command.specs.Arguments.{freeTaken, taken, requestOf, ended, settingsFrom, settingsIn}
-use Rattle.command.specs.declared.mistake.Fault.the-variants.{Twice, NoValue, NoLibrary, NumberTooLarge}
+use Rattle.command.specs.declared.mistake.Fault.the-variants.{Twice, NoValue, NoLibrary, NotAStretch, NumberTooLarge}
 use Rattle.command.specs.declared.mistake.Fault.{Fault}
 use Rattle.command.specs.declared.arguments.Asked.{Asked}
 use Rattle.command.specs.declared.arguments.Requested.the-variants.{Whole, Wrong}
@@ -74,3 +74,8 @@ no-library = refl
 too-large : asked ("aid.img" ∷ "routines.lib" ∷ "--withhold" ∷ "5" ∷ "--min-fn-length" ∷ "18446744073709551616" ∷ []) ≡ faulty NumberTooLarge 6
 unfolding asked faulty same digitOf digitsFrom numberOf numberRead numberValue colonIn stretchRead stretchValue optionOf kindOf settingsOf freeTaken taken requestOf ended settingsFrom
 too-large = refl
+
+-- and of two wrong stretches the first
+first-wrong : asked ("aid.img" ∷ "routines.lib" ∷ "--withhold" ∷ "5" ∷ "--withhold" ∷ "6" ∷ []) ≡ faulty NotAStretch 4
+unfolding asked faulty same digitOf digitsFrom numberOf numberRead colonIn stretchRead stretchValue optionOf kindOf settingsOf freeTaken taken requestOf ended settingsFrom
+first-wrong = refl
