@@ -79,6 +79,11 @@ printed withheld-table other.img routines.lib
 printed withheld-add aid.img routines.lib --withhold 0x788:1
 printed documented aid.img routines.lib --withhold 10240:0
 printed documented aid.img routines.lib --withhold 0:0x100
+printed withheld-both aid.img routines.lib --withhold 0x1204:8 --withhold 0x788:1
+printed withheld-both --withhold 0x788:1 aid.img --withhold 0x1204:8 routines.lib
+printed withheld-table aid.img routines.lib --withhold 0x1200:6 --withhold 0x1204:8
+printed withheld-table aid.img routines.lib --withhold 0x1204:8 --withhold 0x1204:8
+printed documented aid.img routines.lib --withhold 0:0x100 --withhold 10240:0
 
 refused '(2): image too long (more than 65536 bytes)' long.img routines.lib
 refused '(2): image too long (more than 65536 bytes)' long.img long.lib --withhold 70000:1
@@ -89,6 +94,25 @@ refused "$past" aid.img routines.lib --withhold 10240:1
 refused "$past" aid.img none.lib --withhold 10241:0
 refused "$past" aid.img routines.lib --withhold 1:0xffffffffffffffff
 refused "$past" aid.img routines.lib --withhold 18446744073709551615:18446744073709551615
+refused "$past" aid.img routines.lib --withhold 0:1 --withhold 10240:1
+refused "$past" aid.img routines.lib --withhold 10240:1 --withhold 0:1
+fifteen=
+for start in 0 1 2 3 4 5 6 7 8 9 10 11 12 13 14; do fifteen="$fifteen --withhold $start:1"; done
+# shellcheck disable=SC2086 # the words of several options
+several() {
+    printed withheld-table aid.img routines.lib $fifteen --withhold 0x1204:8
+    refused "$past" aid.img routines.lib $fifteen --withhold 10240:1
+    many='(16): more than 16 stretches are withheld'
+    refused "$many" aid.img routines.lib $fifteen --withhold 0x1204:8 --withhold 0:0
+    refused "$many" aid.img routines.lib $fifteen $fifteen
+    refused "$many" aid.img none.lib $fifteen --withhold 10240:1 --withhold 0:1
+    refused "$many" aid.img none.lib $fifteen --withhold 0:1 --withhold 10240:1
+    refused '(2): image too long (more than 65536 bytes)' long.img routines.lib $fifteen $fifteen
+    refused '(3): library too long (more than 65536 bytes)' aid.img long.lib $fifteen $fifteen
+    wrong "what is withheld is START:LENGTH, and not '17'" aid.img routines.lib $fifteen --withhold 0:1 --withhold 17
+    wrong "what is withheld is START:LENGTH, and not '31'" aid.img routines.lib $fifteen $fifteen --withhold 31 --withhold 32
+}
+several
 closing='(5): no first module can be read, or a 2Ch library lacks its 28h, 26h, 2Ah records in that order after its modules'
 refused "$closing" aid.img none.lib
 refused "$closing" aid.img unclosed.lib

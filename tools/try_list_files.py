@@ -92,6 +92,7 @@ def lists():
         "found": HEADING + line(0x0080, add, "()", added) + line(0x0140, gain, "[]") + rest + line(0x2400, "FITTING_TABLE"),
         "withheld-table": HEADING + line(0x0140, gain) + rest,
         "withheld-add": HEADING + line(0x0140, gain, "[]") + line(0x0200, multiply, says=multiplied) + line(0x0780, add, "()", added) + line(0x1200, "FITTING_TABLE"),
+        "withheld-both": HEADING + line(0x0140, gain, "[]") + line(0x0200, multiply, says=multiplied) + line(0x0780, add, "()", added),
         "heading": HEADING,
         "printed": HEADING + line(1, add, says=added),
         "full": HEADING + line(0, add, says=added),

@@ -5,12 +5,16 @@ use mathlib.Core.Bool.{Bool, true, false}
 use mathlib.Core.List.{List, [], _∷_}
 use lib.Dec.{eqb}
 use Rattle.lent.specs.Choice.{if_then_else_}
+use Rattle.image.specs.declared.cover.Stretches.{Stretches}
+use Rattle.image.specs.Cover.{noStretches}
 use Rattle.command.specs.Words.{tooLong, mistake}
+use Rattle.command.specs.Stretches.{stretchValue, stretchAdded}
 use Rattle.command.specs.Options.{kindOf, noOptions, isGiven, withValue, uncheckedOf}
 use Rattle.command.specs.SettingsOf.{settingsOf}
 use Rattle.command.specs.declared.mistake.Fault.the-variants.{TooLong, Unknown, Twice, NoValue, ThirdFile, NoImage, NoLibrary}
 use Rattle.command.specs.declared.options.Options.{Options}
 use Rattle.command.specs.declared.options.Valued as valued
+use Rattle.command.specs.declared.options.Valued.the-variants.{Rules, Edition, Minimum, Skip, Withhold}
 use Rattle.command.specs.declared.options.Kind.{Kind}
 use Rattle.command.specs.declared.options.Kind.the-variants.{NoCheck, Valued, Unknown as NoOption, File}
 use Rattle.command.specs.declared.settings.Wanted.{Wanted}
@@ -20,8 +24,10 @@ use Rattle.command.specs.declared.arguments.Expected.the-variants.{Any, 
 use Rattle.command.specs.declared.arguments.Given.{Given}
 use Rattle.command.specs.declared.arguments.Step.{Step}
 use Rattle.command.specs.declared.arguments.Step.the-variants.{Next, Wrong}
+use Rattle.command.specs.declared.arguments.Reached.{Reached}
 use Rattle.command.specs.declared.arguments.Requested.{Requested}
 use Rattle.command.specs.declared.arguments.Requested.the-variants.{Whole, Wrong as WrongRequest}
+use Rattle.command.specs.declared.arguments.Asked.{Asked}
 
 -- before the first word: no file is named, and no option given
 abbrev pub begun : Given
@@ -84,24 +90,41 @@ expectedEnded Any g last =
 unfoldable pub ended : Given → ℕ → Requested
 ended g last = expectedEnded (g .expected) g last
 
-abbrev pub andThen : Step → (Given → Requested) → Requested
-andThen (Next g) rest = rest g
-andThen (Wrong m) rest = WrongRequest m
+-- one stretch more is withheld, where the word is the value of --withhold
+abbrev pub valueWithheld : valued.Valued → Stretches → List ℕ → ℕ → Stretches
+valueWithheld Rules w word i = w
+valueWithheld Edition w word i = w
+valueWithheld Minimum w word i = w
+valueWithheld Skip w word i = w
+valueWithheld Withhold w word i = stretchAdded w (stretchValue word i)
+
+abbrev pub withheldAfter : Expected → Stretches → List ℕ → ℕ → Stretches
+withheldAfter Any w word i = w
+withheldAfter (Value option) w word i = valueWithheld option w word i
+
+-- one word more, and what is withheld by then
+abbrev pub after : Given → Stretches → List ℕ → ℕ → Reached
+after g w word i = record { step = taken g word i; withheld = withheldAfter (g .expected) w word i }
+
+abbrev pub andThen : Step → Stretches → (Given → Asked) → Asked
+andThen (Next g) w rest = rest g
+andThen (Wrong m) w rest = record { requested = WrongRequest m; withheld = w }
 
 -- the words from word i on
-unfoldable pub settingsFrom : Given → ℕ → List (List ℕ) → Requested
-settingsFrom g i [] = ended g (i - 1)
-settingsFrom g i (word ∷ rest) = andThen (taken g word i) (λ next. settingsFrom next (i + 1) rest)
+unfoldable pub settingsFrom : Given → Stretches → ℕ → List (List ℕ) → Asked
+settingsFrom g w i [] = record { requested = ended g (i - 1); withheld = w }
+settingsFrom g w i (word ∷ rest) =
+    andThen (after g w word i .step) (after g w word i .withheld) (λ next. settingsFrom next (after g w word i .withheld) (i + 1) rest)
 
 -- what the words of a command line, without the program's own name, ask for
-abbrev pub settingsIn : List (List ℕ) → Requested
-settingsIn words = settingsFrom begun 1 words
+abbrev pub settingsIn : List (List ℕ) → Asked
+settingsIn words = settingsFrom begun noStretches 1 words
 
 -- what the program came to is what some word makes of what was known, and what some words ask for: no contract can say which words were read
-pub record FromWord (g : Given) (i : ℕ) (r : Step) : Type 0 where
+pub record FromWord (g : Given) (w : Stretches) (i : ℕ) (r : Reached) : Type 0 where
   pub word : List ℕ
-  pub same : r ≡ taken g word i
+  pub same : r ≡ after g w word i
 
-pub record FromWords (r : Requested) : Type 0 where
+pub record FromWords (r : Asked) : Type 0 where
   pub words : List (List ℕ)
   pub same : r ≡ settingsIn words

@@ -17,27 +17,32 @@ use Rattle.command.specs.Stretches.{colonIn, stretchRead, stretchValue}
 use Rattle.command.specs.Options.{optionOf, kindOf}
 use Rattle.command.specs.SettingsOf.{settingsOf}
 use Rattle.command.specs.Arguments.{freeTaken, taken, requestOf, ended, settingsFrom, settingsIn}
-use Rattle.command.specs.declared.mistake.Fault.the-variants.{Twice, NoValue, NoLibrary, NumberTooLarge}
-use Rattle.command.specs.declared.arguments.Requested.{Requested}
+use Rattle.command.specs.declared.mistake.Fault.the-variants.{Twice, NoValue, NoLibrary, NotAStretch, NumberTooLarge}
+use Rattle.command.specs.declared.mistake.Fault.{Fault}
+use Rattle.command.specs.declared.arguments.Asked.{Asked}
 use Rattle.command.specs.declared.arguments.Requested.the-variants.{Whole, Wrong}
 
-asked : List String → Requested
+asked : List String → Asked
 asked words = settingsIn (map text words)
 
 -- the image is word `image`, the library word `library`
-for : ℕ → ℕ → ℕ → ℕ → Bool → ℕ → Skip → Stretches → Requested
-for image library rules edition check minimum skip stretches =
-    Whole (record {
-      image = image;
-      library = library;
-      settings = record { rules = rules; edition = edition; check = check; minimum = minimum; skip = skip; withheld = stretches };
-    })
+for : ℕ → ℕ → ℕ → ℕ → Bool → ℕ → Skip → Stretches → Asked
+for image library rules edition check minimum skip withheld =
+    record {
+      requested = Whole (record {
+        image = image;
+        library = library;
+        settings = record { rules = rules; edition = edition; check = check; minimum = minimum; skip = skip };
+      });
+      withheld = withheld;
+    }
 
-nothing : Stretches
-nothing = noStretches
+-- the words up to this fault withhold nothing
+faulty : Fault → ℕ → Asked
+faulty fault i = record { requested = Wrong (mistake fault i); withheld = noStretches }
 
-plain : asked ("aid.img" ∷ "routines.lib" ∷ []) ≡ for 1 2 1 1 true 3 Never nothing
-unfolding asked for nothing same kindOf settingsOf freeTaken taken requestOf ended settingsFrom
+plain : asked ("aid.img" ∷ "routines.lib" ∷ []) ≡ for 1 2 1 1 true 3 Never noStretches
+unfolding asked for same kindOf settingsOf freeTaken taken requestOf ended settingsFrom
 plain = refl
 
 withheld : asked ("aid.img" ∷ "routines.lib" ∷ "--withhold" ∷ "0x1204:8" ∷ []) ≡ for 1 2 1 1 true 3 Never (oneMore noStretches 0x1204 8)
@@ -45,27 +50,32 @@ unfolding asked for same digitOf digitsFrom numberOf numberRead colonIn stretchR
 withheld = refl
 
 all-options : asked ("--rules" ∷ "found" ∷ "aid.img" ∷ "--no-check" ∷ "--min-fn-length" ∷ "0xF" ∷ "routines.lib" ∷ "--skip-multiple" ∷ "2" ∷ "--edition" ∷ "2" ∷ [])
-    ≡ for 3 7 0 2 false 15 (Above 2) nothing
-unfolding asked for nothing same digitOf digitsFrom numberOf numberRead numberValue rulesValue optionOf kindOf settingsOf freeTaken taken requestOf ended settingsFrom
+    ≡ for 3 7 0 2 false 15 (Above 2) noStretches
+unfolding asked for same digitOf digitsFrom numberOf numberRead numberValue rulesValue optionOf kindOf settingsOf freeTaken taken requestOf ended settingsFrom
 all-options = refl
 
 several : asked ("--withhold" ∷ "0:1" ∷ "aid.img" ∷ "routines.lib" ∷ "--withhold" ∷ "2:3" ∷ []) ≡ for 3 4 1 1 true 3 Never (oneMore (oneMore noStretches 0 1) 2 3)
 unfolding asked for same digitOf digitsFrom numberOf numberRead colonIn stretchRead stretchValue optionOf kindOf settingsOf freeTaken taken requestOf ended settingsFrom
 several = refl
 
-twice : asked ("--rules" ∷ "found" ∷ "aid.img" ∷ "routines.lib" ∷ "--rules" ∷ "found" ∷ []) ≡ Wrong (mistake Twice 5)
-unfolding asked same rulesValue optionOf kindOf freeTaken taken settingsFrom
+twice : asked ("--rules" ∷ "found" ∷ "aid.img" ∷ "routines.lib" ∷ "--rules" ∷ "found" ∷ []) ≡ faulty Twice 5
+unfolding asked faulty same rulesValue optionOf kindOf freeTaken taken settingsFrom
 twice = refl
 
-no-value : asked ("aid.img" ∷ "--rules" ∷ []) ≡ Wrong (mistake NoValue 2)
-unfolding asked same optionOf kindOf freeTaken taken ended settingsFrom
+no-value : asked ("aid.img" ∷ "--rules" ∷ []) ≡ faulty NoValue 2
+unfolding asked faulty same optionOf kindOf freeTaken taken ended settingsFrom
 no-value = refl
 
-no-library : asked ("aid.img" ∷ "--min-fn-length" ∷ "x" ∷ []) ≡ Wrong (mistake NoLibrary 0)
-unfolding asked same digitOf digitsFrom numberOf numberRead numberValue optionOf kindOf freeTaken taken ended settingsFrom
+no-library : asked ("aid.img" ∷ "--min-fn-length" ∷ "x" ∷ []) ≡ faulty NoLibrary 0
+unfolding asked faulty same digitOf digitsFrom numberOf numberRead numberValue optionOf kindOf freeTaken taken ended settingsFrom
 no-library = refl
 
 -- of two wrong values the minimum is told before the stretch
-too-large : asked ("aid.img" ∷ "routines.lib" ∷ "--withhold" ∷ "5" ∷ "--min-fn-length" ∷ "18446744073709551616" ∷ []) ≡ Wrong (mistake NumberTooLarge 6)
-unfolding asked same digitOf digitsFrom numberOf numberRead numberValue colonIn stretchRead stretchValue optionOf kindOf settingsOf freeTaken taken requestOf ended settingsFrom
+too-large : asked ("aid.img" ∷ "routines.lib" ∷ "--withhold" ∷ "5" ∷ "--min-fn-length" ∷ "18446744073709551616" ∷ []) ≡ faulty NumberTooLarge 6
+unfolding asked faulty same digitOf digitsFrom numberOf numberRead numberValue colonIn stretchRead stretchValue optionOf kindOf settingsOf freeTaken taken requestOf ended settingsFrom
 too-large = refl
+
+-- and of two wrong stretches the first
+first-wrong : asked ("aid.img" ∷ "routines.lib" ∷ "--withhold" ∷ "5" ∷ "--withhold" ∷ "6" ∷ []) ≡ faulty NotAStretch 4
+unfolding asked faulty same digitOf digitsFrom numberOf numberRead colonIn stretchRead stretchValue optionOf kindOf settingsOf freeTaken taken requestOf ended settingsFrom
+first-wrong = refl

@@ -3,14 +3,17 @@ use Prim.Native.Nat.{ℕ}
 use mathlib.Core.Path.{_≡_}
 use mathlib.Core.List.{List}
 use Rattle.lent.specs.OneOutcome.{Determines, by-equation}
+use Rattle.image.specs.declared.cover.Stretches.{Stretches}
+use Rattle.command.specs.declared.stretch.Withheld.{Withheld}
+use Rattle.command.specs.declared.settings.Plain.{Plain}
 use Rattle.command.specs.declared.options.Valued.{Valued}
 use Rattle.command.specs.declared.options.Options.{Options}
 use Rattle.command.specs.Words.{tooLong}
 use Rattle.command.specs.Numbers.{numberOf}
 use Rattle.command.specs.Values.{numberRead, numberValue, rulesValue}
-use Rattle.command.specs.Stretches.{stretchValue}
+use Rattle.command.specs.Stretches.{stretchValue, stretchAdded}
 use Rattle.command.specs.Options.{kindOf, noOptions, isGiven, withValue, uncheckedOf}
-use Rattle.command.specs.SettingsOf.{settingsOf}
+use Rattle.command.specs.SettingsOf.{settingsOf, settingsWith}
 
 pub is-too-long-one : (word : List ℕ) → Determines (λ r. r ≡ tooLong word)
 is-too-long-one word = by-equation (tooLong word)
@@ -30,6 +33,9 @@ rules-value-one word i = by-equation (rulesValue word i)
 pub stretch-value-one : (word : List ℕ) (i : ℕ) → Determines (λ r. r ≡ stretchValue word i)
 stretch-value-one word i = by-equation (stretchValue word i)
 
+pub with-stretch-one : (known : Stretches) (read : Withheld) → Determines (λ r. r ≡ stretchAdded known read)
+with-stretch-one known read = by-equation (stretchAdded known read)
+
 pub kind-of-one : (word : List ℕ) → Determines (λ r. r ≡ kindOf word)
 kind-of-one word = by-equation (kindOf word)
 
@@ -47,3 +53,6 @@ unchecked-one o = by-equation (uncheckedOf o)
 
 pub settings-of-one : (o : Options) → Determines (λ r. r ≡ settingsOf o)
 settings-of-one o = by-equation (settingsOf o)
+
+pub settings-with-one : (plain : Plain) (withheld : Stretches) → Determines (λ r. r ≡ settingsWith plain withheld)
+settings-with-one plain withheld = by-equation (settingsWith plain withheld)

@@ -6,7 +6,6 @@ use lib.Dec.{eqb}
 use lib.ListN.{length, getD}
 use Rattle.lent.specs.Choice.{if_then_else_}
 use Rattle.lent.specs.Parts.{same}
-use Rattle.image.specs.Cover.{noStretches, oneMore}
 use Rattle.describe.specs.Describe.{text}
 use Rattle.command.specs.Values.{numberValue, rulesValue}
 use Rattle.command.specs.Stretches.{stretchValue}
@@ -43,7 +42,7 @@ kindOf word =
 
 -- where no option is given: references are checked, and nothing else is said
 abbrev pub noOptions : Options
-noOptions = record { rules = Absent; edition = Absent; check = true; minimum = Absent; skip = Absent; withheld = Stretches noStretches }
+noOptions = record { rules = Absent; edition = Absent; check = true; minimum = Absent; skip = Absent; withheld = Stretches }
 
 abbrev pub valueGiven : Value → Bool
 valueGiven Absent = false
@@ -74,10 +73,10 @@ abbrev pub withSkip : Options → Read → Options
 withSkip o read =
     record { rules = o .rules; edition = o .edition; check = o .check; minimum = o .minimum; skip = Given read; withheld = o .withheld }
 
--- one stretch more; of several values that are wrong the first is told
+-- one value more of --withhold; of several values that are wrong the first is told
 abbrev pub heldWith : Held → Withheld → Held
-heldWith (Stretches w) (Stretch s) = Stretches (oneMore w (s .start) (s .len))
-heldWith (Stretches w) (Wrong m) = WrongBefore m
+heldWith Stretches (Stretch s) = Stretches
+heldWith Stretches (Wrong m) = WrongBefore m
 heldWith (WrongBefore m) read = WrongBefore m
 
 abbrev pub withWithheld : Options → Withheld → Options

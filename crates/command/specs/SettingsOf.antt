@@ -10,6 +10,7 @@ use Rattle.command.specs.declared.options.Value.{Value}
 use Rattle.command.specs.declared.options.Value.the-variants.{Absent, Given}
 use Rattle.command.specs.declared.options.Held.{Held}
 use Rattle.command.specs.declared.options.Held.the-variants.{Stretches, Wrong as WrongStretch}
+use Rattle.command.specs.declared.settings.Plain.{Plain}
 use Rattle.command.specs.declared.settings.Wanted.{Wanted}
 use Rattle.command.specs.declared.settings.Wanted.the-variants.{Settings, Wrong as WrongSettings}
 
@@ -23,25 +24,30 @@ abbrev pub withNumber : Read → (ℕ → Wanted) → Wanted
 withNumber (Number n) next = next n
 withNumber (Wrong m) next = WrongSettings m
 
-abbrev pub withStretches : Held → (cover.Stretches → Wanted) → Wanted
-withStretches (Stretches w) next = next w
+abbrev pub withStretches : Held → Wanted → Wanted
+withStretches Stretches next = next
 withStretches (WrongStretch m) next = WrongSettings m
 
 -- settings that leave no address out, with the skip amount, if it is given
-abbrev pub skipAdded : settings.Settings → Value → Wanted
+abbrev pub skipAdded : Plain → Value → Wanted
 skipAdded s Absent = Settings s
 skipAdded s (Given read) =
     withNumber read
-    (λ n. Settings (record { rules = s .rules; edition = s .edition; check = s .check; minimum = s .minimum; skip = Above n; withheld = s .withheld }))
+    (λ n. Settings (record { rules = s .rules; edition = s .edition; check = s .check; minimum = s .minimum; skip = Above n }))
 
-abbrev pub stretchAdded : Options → ℕ → ℕ → ℕ → Wanted
-stretchAdded o rules edition minimum =
+abbrev pub restAdded : Options → ℕ → ℕ → ℕ → Wanted
+restAdded o rules edition minimum =
     withStretches (o .withheld)
-    (λ w. skipAdded (record { rules = rules; edition = edition; check = o .check; minimum = minimum; skip = Never; withheld = w }) (o .skip))
+    (skipAdded (record { rules = rules; edition = edition; check = o .check; minimum = minimum; skip = Never }) (o .skip))
 
 -- as documented, edition 1, and three bytes, where nothing is said; of several values that are wrong the rules' is told first, then the edition, the
 -- minimum, the first stretch that is, and the skip amount
 unfoldable pub settingsOf : Options → Wanted
 settingsOf o =
     withNumber (numberOr (o .rules) 1) λ rules.
-    withNumber (numberOr (o .edition) 1) λ edition. withNumber (numberOr (o .minimum) 3) λ minimum. stretchAdded o rules edition minimum
+    withNumber (numberOr (o .edition) 1) λ edition. withNumber (numberOr (o .minimum) 3) λ minimum. restAdded o rules edition minimum
+
+-- the settings with what is withheld
+abbrev pub settingsWith : Plain → cover.Stretches → settings.Settings
+settingsWith s w =
+    record { rules = s .rules; edition = s .edition; check = s .check; minimum = s .minimum; skip = s .skip; withheld = w }

@@ -4,6 +4,8 @@ use mathlib.Core.List.{List, [], _∷_}
 use lib.Dec.{eqb, leb}
 use lib.ListN.{length, take, drop}
 use Rattle.lent.specs.Choice.{if_then_else_}
+use Rattle.image.specs.declared.cover.Stretches.{Stretches}
+use Rattle.image.specs.Cover.{oneMore}
 use Rattle.command.specs.Words.{tooLong, mistake}
 use Rattle.command.specs.Values.{numberRead}
 use Rattle.command.specs.declared.mistake.Fault.the-variants.{TooLong, NotAStretch}
@@ -30,3 +32,8 @@ stretchRead word i =
 
 unfoldable pub stretchValue : List ℕ → ℕ → Withheld
 stretchValue word i = if tooLong word then WrongStretch (mistake TooLong i) else stretchRead word i
+
+-- the stretches with one more; a value that is wrong adds none
+abbrev pub stretchAdded : Stretches → Withheld → Stretches
+stretchAdded known (AStretch s) = oneMore known (s .start) (s .len)
+stretchAdded known (WrongStretch m) = known

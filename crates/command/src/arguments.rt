@@ -1,6 +1,6 @@
 // The whole command line of a program that takes an image and a library: what it asks for, told word by word.
 ghost use mathlib.Core.Path.{_≡_};
-ghost use Rattle.command.specs.Arguments.{begun, fileTaken, uncheckedTaken, optionTaken, freeTaken, taken, requestOf, ended, FromWord, FromWords};
+ghost use Rattle.command.specs.Arguments.{begun, fileTaken, uncheckedTaken, optionTaken, freeTaken, taken, requestOf, ended, withheldAfter, after, FromWord, FromWords};
 use crate::mistake::Fault;
 use crate::mistake::Mistake;
 use crate::options::Kind;
@@ -11,10 +11,14 @@ use crate::options::kind_of;
 use crate::options::no_options;
 use crate::options::unchecked;
 use crate::options::with_value;
+use crate::settings::Plain;
 use crate::settings::Wanted;
 use crate::settings::settings_of;
+use crate::stretch::stretch_value;
+use crate::stretch::with_stretch;
 use crate::words;
-use run::Settings;
+use image::cover::Stretches;
+use image::cover::no_stretches;
 
 // What the next word may be: a file or an option, or only the value of the option before it.
 pub enum Expected {
@@ -36,16 +40,28 @@ pub enum Step {
     Wrong(Mistake),
 }
 
+// The same, and what is withheld by then. It stands beside the step: no case of an enum may hold its numbers.
+pub struct Reached {
+    pub step: Step,
+    pub withheld: Stretches,
+}
+
 // What a whole command line asks for: what to do with which two files.
 pub struct Request {
     pub image: usize,
     pub library: usize,
-    pub settings: Settings,
+    pub settings: Plain,
 }
 
 pub enum Requested {
     Whole(Request),
     Wrong(Mistake),
+}
+
+// All that a command line asks for.
+pub struct Asked {
+    pub requested: Requested,
+    pub withheld: Stretches,
 }
 
 // Before the first word.
@@ -194,32 +210,65 @@ fn end(known: Given, last: usize) -> Requested
     request_of(known.image, known.library, options)
 }
 
+// What is withheld once word i is taken: one stretch more, where the word is the value of --withhold.
+fn withheld_after(expected: Expected, withheld: Stretches, word: &[u8], i: usize) -> Stretches
+    ensures { λ r. ⌜ r ≡ withheldAfter expected withheld (now (word .entry)) i ⌝ }
+{
+    let Expected::Value(option) = expected else {
+        return withheld;
+    };
+    match option {
+        Valued::Withhold => with_stretch(withheld, stretch_value(word, i)),
+        _ => withheld,
+    }
+}
+
+fn reach(known: Given, withheld: Stretches, word: &[u8], i: usize) -> Reached
+    ensures { λ r. ⌜ r ≡ after known withheld (now (word .entry)) i ⌝ }
+{
+    let expected = known.expected;
+    Reached {
+        step: take(known, word, i),
+        withheld: withheld_after(expected, withheld, word, i),
+    }
+}
+
 // Reads word i and takes it.
-fn take_argument(known: Given, i: usize) -> Step
-    ensures { λ r. ⌜ FromWord known i r ⌝ }
+fn take_argument(known: Given, withheld: Stretches, i: usize) -> Reached
+    ensures { λ r. ⌜ FromWord known withheld i r ⌝ }
 {
     let mut room = words::room();
     let n = words::read_word(i, &mut room);
-    take(known, &room[..n], i)
+    reach(known, withheld, &room[..n], i)
 }
 
 // What the program's own command line asks for.
-pub fn read_request() -> Requested
+pub fn read_request() -> Asked
     ensures { λ r. ⌜ FromWords r ⌝ }
 {
     let count = os::arg_count();
     let mut known = begin();
+    let mut withheld = no_stretches();
     let mut i = 1;
     while i < count {
-        match take_argument(known, i) {
+        let reached = take_argument(known, withheld, i);
+        let step = reached.step;
+        withheld = reached.withheld;
+        match step {
             Step::Next(next) => {
                 known = next;
             }
             Step::Wrong(m) => {
-                return Requested::Wrong(m);
+                return Asked {
+                    requested: Requested::Wrong(m),
+                    withheld,
+                };
             }
         }
         i += 1;
     }
-    end(known, i - 1)
+    Asked {
+        requested: end(known, i - 1),
+        withheld,
+    }
 }

@@ -7,9 +7,6 @@ use crate::stretch::stretch_value;
 use crate::values::Read;
 use crate::values::number_value;
 use crate::values::rules_value;
-use image::cover::Stretches;
-use image::cover::no_stretches;
-use image::cover::one_more;
 use lent::names::same;
 
 // The options that have a value, which is the next word.
@@ -35,9 +32,9 @@ pub enum Value {
     Given(Read),
 }
 
-// What --withhold asks for, which may be given more than once: the stretches so far, or the first value that is wrong.
+// The values of --withhold, which may be given more than once: all so far are stretches, or the first that is none.
 pub enum Held {
-    Stretches(Stretches),
+    Stretches,
     Wrong(Mistake),
 }
 
@@ -97,7 +94,7 @@ pub fn no_options() -> Options
         check: true,
         minimum: Value::Absent,
         skip: Value::Absent,
-        withheld: Held::Stretches(no_stretches()),
+        withheld: Held::Stretches,
     }
 }
 
@@ -110,13 +107,13 @@ fn is_value_given(value: Value) -> bool
     }
 }
 
-// One stretch more, or a value that is wrong; one that was wrong before is told.
+// One value more of --withhold; one that was wrong before is told.
 fn held_with(known: Held, read: Withheld) -> Held
     ensures { λ r. ⌜ r ≡ heldWith known read ⌝ }
 {
     match known {
-        Held::Stretches(w) => match read {
-            Withheld::Stretch(s) => Held::Stretches(one_more(w, s.start as u64, s.len as u64)),
+        Held::Stretches => match read {
+            Withheld::Stretch(_) => Held::Stretches,
             Withheld::Wrong(m) => Held::Wrong(m),
         },
         Held::Wrong(m) => Held::Wrong(m),

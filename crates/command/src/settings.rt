@@ -1,16 +1,26 @@
 // The settings that the options ask for. Where an option is not given, they are as the command's help says.
 ghost use mathlib.Core.Path.{_≡_};
-ghost use Rattle.command.specs.SettingsOf.{numberOr, skipAdded, stretchAdded, settingsOf};
+ghost use Rattle.command.specs.SettingsOf.{numberOr, skipAdded, restAdded, settingsOf, settingsWith};
 use crate::mistake::Mistake;
 use crate::options::Held;
 use crate::options::Options;
 use crate::options::Value;
 use crate::values::Read;
+use image::cover::Stretches;
 use listing_rules::Skip;
 use run::Settings;
 
+// Settings but for what is withheld.
+pub struct Plain {
+    pub rules: u64,
+    pub edition: u64,
+    pub check: bool,
+    pub minimum: usize,
+    pub skip: Skip,
+}
+
 pub enum Wanted {
-    Settings(Settings),
+    Settings(Plain),
     Wrong(Mistake),
 }
 
@@ -34,40 +44,38 @@ fn number_or(value: Value, otherwise: u64) -> Read
 }
 
 // Settings that leave no address out, with the skip amount still to be put in.
-fn with_skip(known: Settings, value: Value) -> Wanted
+fn with_skip(known: Plain, value: Value) -> Wanted
     ensures { λ r. ⌜ r ≡ skipAdded known value ⌝ }
 {
     let Value::Given(read) = value else {
         return Wanted::Settings(known);
     };
-    let withheld = known.withheld;
     match read {
-        Read::Number(amount) => Wanted::Settings(Settings {
+        Read::Number(amount) => Wanted::Settings(Plain {
             rules: known.rules,
             edition: known.edition,
             check: known.check,
             minimum: known.minimum,
             skip: Skip::Above(amount as usize),
-            withheld,
         }),
         Read::Wrong(m) => Wanted::Wrong(m),
     }
 }
 
-fn with_withheld(o: Options, rules: u64, edition: u64, minimum: u64) -> Wanted
-    ensures { λ r. ⌜ r ≡ stretchAdded o rules edition minimum ⌝ }
+// Stretches that are right are put in later.
+fn with_rest(o: Options, rules: u64, edition: u64, minimum: u64) -> Wanted
+    ensures { λ r. ⌜ r ≡ restAdded o rules edition minimum ⌝ }
 {
     let held = o.withheld;
     let skip = o.skip;
     match held {
-        Held::Stretches(withheld) => with_skip(
-            Settings {
+        Held::Stretches => with_skip(
+            Plain {
                 rules,
                 edition,
                 check: o.check,
                 minimum: minimum as usize,
                 skip: Skip::Never,
-                withheld,
             },
             skip,
         ),
@@ -85,11 +93,26 @@ pub fn settings_of(o: Options) -> Wanted
     match number_or(rules, RULES) {
         Read::Number(set) => match number_or(edition, EDITION) {
             Read::Number(edition) => match number_or(minimum, MINIMUM) {
-                Read::Number(least) => with_withheld(o, set, edition, least),
+                Read::Number(least) => with_rest(o, set, edition, least),
                 Read::Wrong(m) => Wanted::Wrong(m),
             },
             Read::Wrong(m) => Wanted::Wrong(m),
         },
         Read::Wrong(m) => Wanted::Wrong(m),
+    }
+}
+
+// The settings with what is withheld.
+pub fn settings_with(plain: Plain, withheld: Stretches) -> Settings
+    ensures { λ r. ⌜ r ≡ settingsWith plain withheld ⌝ }
+{
+    let skip = plain.skip;
+    Settings {
+        rules: plain.rules,
+        edition: plain.edition,
+        check: plain.check,
+        minimum: plain.minimum,
+        skip,
+        withheld,
     }
 }

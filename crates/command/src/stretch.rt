@@ -1,12 +1,14 @@
 // What is to be withheld of an image, as it is written on the command line: START:LENGTH.
 ghost use mathlib.Core.Path.{_≡_};
-ghost use Rattle.command.specs.Stretches.{colonIn, stretchRead, stretchValue};
+ghost use Rattle.command.specs.Stretches.{colonIn, stretchRead, stretchValue, stretchAdded};
 use crate::mistake::Fault;
 use crate::mistake::Mistake;
 use crate::values::Read;
 use crate::values::read_number;
 use crate::words::is_too_long;
 use image::Stretch;
+use image::cover::Stretches;
+use image::cover::one_more;
 
 // What the value of --withhold comes to.
 pub enum Withheld {
@@ -62,4 +64,14 @@ pub fn stretch_value(word: &[u8], i: usize) -> Withheld
         });
     }
     read_stretch(word, i)
+}
+
+// The stretches with one more. A value that is wrong adds none.
+pub fn with_stretch(known: Stretches, read: Withheld) -> Stretches
+    ensures { λ r. ⌜ r ≡ stretchAdded known read ⌝ }
+{
+    match read {
+        Withheld::Stretch(s) => one_more(known, s.start as u64, s.len as u64),
+        Withheld::Wrong(_) => known,
+    }
 }

@@ -1,6 +1,5 @@
 // The run: both files, what is lent, and what comes of it.
 use crate::memory;
-use command::arguments::Request;
 use command::file;
 use command::file::Loaded;
 use command::file::bytes_of;
@@ -60,17 +59,16 @@ fn find_in(image: &[u8], library: &[u8], settings: Settings) {
     find(image, library, settings);
 }
 
-// Lists what stands of the library in the image.
-pub fn list(request: Request) {
+// Lists what stands of the library in the image; both are told by the numbers of their words.
+pub fn list(image: usize, library: usize, settings: Settings) {
     let mut first = file::room();
-    let Loaded::Size(in_image) = load(request.image, &mut first) else {
+    let Loaded::Size(in_image) = load(image, &mut first) else {
         return;
     };
     let mut second = file::room();
-    let Loaded::Size(in_library) = load(request.library, &mut second) else {
+    let Loaded::Size(in_library) = load(library, &mut second) else {
         return;
     };
-    let settings = request.settings;
     find_in(
         bytes_of(&first, in_image),
         bytes_of(&second, in_library),

@@ -6,10 +6,21 @@ use crate::find::list;
 use command::arguments::Requested;
 use command::arguments::read_request;
 use command::mistake::say_usage;
+use command::settings::settings_with;
 
 fn main() {
-    match read_request() {
-        Requested::Whole(request) => list(request),
+    let asked = read_request();
+    let requested = asked.requested;
+    let withheld = asked.withheld;
+    match requested {
+        Requested::Whole(request) => {
+            let plain = request.settings;
+            list(
+                request.image,
+                request.library,
+                settings_with(plain, withheld),
+            )
+        }
         Requested::Wrong(mistake) => say_usage(mistake),
     }
 }

@@ -22,7 +22,7 @@ returns c =
       sym (rules .before .before .number-or .ensures) ∙ rules .set .given .1,
       sym (edition .before .before .number-or2 .ensures) ∙ edition .edition .given .1,
       sym (minimum .before .before .number-or3 .ensures) ∙ minimum .least .given .1,
-    ) (c .with-withheld .ensures)
+    ) (c .with-rest .ensures)
 
 returns-2 : tie.Need-returns-2
 unfolding settingsOf
