@@ -81,11 +81,22 @@ Gave (read (x ∷ xs) next) = Unit
 Gave stop = Unit
 Gave (refused r) = ⊥
 
+-- a record of edition 1 ends at its own end, whatever its body's reader leaves of it
+abbrev pub ownEnd : ℕ → End → End
+ownEnd next (At left) = At next
+ownEnd next Stop = Stop
+ownEnd next (Refused r) = Refused r
+
 -- a record ends at its own end `next` if its body, which goes up to `end`, is used up; in edition 1 it always is
 abbrev pub usedEnd : Edition → ℕ → ℕ → End → End
 usedEnd e end next (At left) = if leavesOver e left end then Refused LeftOver else At next
 usedEnd e end next Stop = Stop
 usedEnd e end next (Refused r) = Refused r
+
+pub used-own : (end next : ℕ) (e : End) → usedEnd One end next e ≡ ownEnd next e
+used-own end next (At left) = refl
+used-own end next Stop = refl
+used-own end next (Refused r) = refl
 
 module _ {A : Type 0} (library : List ℕ) (each : Reader (List A)) (gives : (at : ℕ) → Gave (each at)) where
   abbrev Filled : ReadOutcome (List A) → Type 0

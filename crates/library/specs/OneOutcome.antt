@@ -9,14 +9,14 @@ use Rattle.omf51.specs.Module.{sectionsBy}
 use Rattle.omf51.specs.Ends.{endOf}
 use Rattle.library.specs.declared.ModuleAt.{ModuleAt}
 use Rattle.library.specs.declared.ModuleAt.the-variants.{Whole, Stop, Refused}
-use Rattle.library.specs.Passes.{holds, recordEndBy, allEndBy, sectionsEndBy, placesBy, placesRead}
+use Rattle.library.specs.Passes.{holds, recordEnd, allEndBy, sectionsEndBy, placesBy, placesRead}
 use Rattle.library.specs.Reading.{reading}
 
 pub holds-one : (what : Entries) (kind : ℕ) → Determines (λ r. r ≡ holds what kind)
 holds-one what kind = by-equation (holds what kind)
 
-pub record-end-one : (library : List ℕ) (edition : Edition) (what : Entries) (at : ℕ) → Determines (λ r. r ≡ recordEndBy edition what library at)
-record-end-one library edition what at = by-equation (recordEndBy edition what library at)
+pub record-end-one : (library : List ℕ) (what : Entries) (at : ℕ) → Determines (λ r. r ≡ recordEnd what library at)
+record-end-one library what at = by-equation (recordEnd what library at)
 
 pub skip-one : (library : List ℕ) (edition : Edition) (what : Entries) (from : ℕ) → Determines (λ r. r ≡ allEndBy edition what library from)
 skip-one library edition what from = by-equation (allEndBy edition what library from)

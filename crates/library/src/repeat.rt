@@ -3,9 +3,10 @@ ghost use mathlib.Core.Path.{_≡_};
 ghost use Prim.Native.Nat.{_≤_};
 ghost use lib.ListN.{length};
 ghost use Rattle.omf51.specs.Module.{sectionBy, sectionsBy};
-ghost use Rattle.omf51.specs.Ends.{endOf, restEnd};
-ghost use Rattle.library.specs.Passes.{allowedFor, holds as holdsType, recordEndBy, allEndBy, sectionsEndBy, bodyEnd};
-ghost use Rattle.library.specs.EndLaws.{usedEnd};
+ghost use Rattle.omf51.specs.declared.Edition.the-variants.{Two};
+ghost use Rattle.omf51.specs.Ends.{endOf, restEnd, entriesEnd};
+ghost use Rattle.library.specs.Passes.{allowedFor, holds as holdsType, recordEnd, recordEndBy, allEndBy, sectionsEndBy};
+ghost use Rattle.library.specs.EndLaws.{ownEnd, usedEnd};
 use lent::refusal::Refusal;
 use omf51::Edition;
 use omf51::End;
@@ -18,6 +19,7 @@ use omf51::entry::Entries;
 use omf51::read_entry::entry_end;
 use omf51::read_entry::id_size;
 use omf51::read_record::byte_at;
+use omf51::read_record::record_at;
 use omf51::record::Framed;
 use omf51::types::Allowed;
 
@@ -62,29 +64,25 @@ fn rest_end(library: &[u8], what: Entries, f: Frame, from: usize) -> End
     }
 }
 
-// Where the entries of a body end, as far as an edition asks: the first in edition 1, the last whole one in edition 2.
-fn body_end(library: &[u8], edition: Edition, what: Entries, f: Frame) -> End
+// Where the entries of a body end, of which it has one at least.
+fn entries_end(library: &[u8], what: Entries, f: Frame) -> End
     requires { ⌜ f .end ≤ length (now library) ⌝ }
-    ensures { λ r. ⌜ r ≡ bodyEnd edition what (now (library .entry)) f ⌝ }
+    ensures { λ r. ⌜ r ≡ entriesEnd what (now (library .entry)) f ⌝ }
 {
-    let first = entry_end(library, what, f, f.body);
-    let Edition::Two = edition else {
-        return first;
-    };
-    match first {
+    match entry_end(library, what, f, f.body) {
         End::At(next) => rest_end(library, what, f, next),
         End::Stop => End::Stop,
         End::Refused(r) => End::Refused(r),
     }
 }
 
-// The end of a record whose body goes up to `end`, by where its entries end: bytes that are left over are refused (15) in edition 2.
-fn used_end(edition: Edition, end: usize, next: usize, last: End) -> End
-    ensures { λ r. ⌜ r ≡ usedEnd edition end next last ⌝ }
+// The end of a record of edition 2 whose body goes up to `end`, by where its entries end: bytes that are left over are refused (15).
+fn used_end(end: usize, next: usize, last: End) -> End
+    ensures { λ r. ⌜ r ≡ usedEnd Two end next last ⌝ }
 {
     match last {
         End::At(left) => {
-            if leaves_over(edition, left, end) {
+            if leaves_over(Edition::Two, left, end) {
                 return End::Refused(Refusal::LeftOver);
             }
             End::At(next)
@@ -94,21 +92,60 @@ fn used_end(edition: Edition, end: usize, next: usize, last: End) -> End
     }
 }
 
-// Where the record at a place ends: a record of such entries, the first of which is whole,
-// or a record that is skipped among them.
-pub fn record_end(library: &[u8], edition: Edition, what: Entries, at: usize) -> End
-    ensures { λ r. ⌜ r ≡ recordEndBy edition what (now (library .entry)) at ⌝ }
+// The end of a record by how reading its first entry ended: a record with one whole entry ends at its own end `next`,
+// whatever its other entries are.
+fn own_end(next: usize, first: End) -> End
+    ensures { λ r. ⌜ r ≡ ownEnd next first ⌝ }
 {
-    match record_by(library, edition, allowed_for(what), at) {
+    match first {
+        End::At(left) => End::At(next),
+        End::Stop => End::Stop,
+        End::Refused(r) => End::Refused(r),
+    }
+}
+
+// Where the record at a place ends in edition 1: a record of such entries, the first of which is whole, or a record that is
+// skipped among them. Walks over modules ask nothing else, and this is small enough to stand inside them.
+pub fn record_end(library: &[u8], what: Entries, at: usize) -> End
+    ensures { λ r. ⌜ r ≡ recordEnd what (now (library .entry)) at ⌝ }
+{
+    match record_at(library, allowed_for(what), at) {
         Framed::Read(f) => {
             let next = f.end + 1;
             if holds(what, f.kind) {
-                return used_end(edition, f.end, next, body_end(library, edition, what, f));
+                return own_end(next, entry_end(library, what, f, f.body));
             }
             End::At(next)
         }
         Framed::Stop => End::Stop,
         Framed::Refused(r) => End::Refused(r),
+    }
+}
+
+// The same in edition 2: the record sums to 0, and its entries use up its body.
+fn sound_end(library: &[u8], what: Entries, at: usize) -> End
+    ensures { λ r. ⌜ r ≡ recordEndBy Two what (now (library .entry)) at ⌝ }
+{
+    match record_by(library, Edition::Two, allowed_for(what), at) {
+        Framed::Read(f) => {
+            let next = f.end + 1;
+            if holds(what, f.kind) {
+                return used_end(f.end, next, entries_end(library, what, f));
+            }
+            End::At(next)
+        }
+        Framed::Stop => End::Stop,
+        Framed::Refused(r) => End::Refused(r),
+    }
+}
+
+// Where the record at a place ends, in an edition.
+fn record_end_by(library: &[u8], edition: Edition, what: Entries, at: usize) -> End
+    ensures { λ r. ⌜ r ≡ recordEndBy edition what (now (library .entry)) at ⌝ }
+{
+    match edition {
+        Edition::One => record_end(library, what, at),
+        Edition::Two => sound_end(library, what, at),
     }
 }
 
@@ -118,7 +155,7 @@ pub fn skip(library: &[u8], edition: Edition, what: Entries, from: usize) -> End
 {
     let mut at = from;
     loop {
-        match record_end(library, edition, what, at) {
+        match record_end_by(library, edition, what, at) {
             End::At(next) => {
                 at = next;
             }

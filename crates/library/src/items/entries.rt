@@ -7,7 +7,6 @@ use crate::items::Cursor;
 use crate::items::Step;
 use crate::repeat::holds;
 use crate::repeat::record_end;
-use omf51::Edition;
 use omf51::End;
 use omf51::Frame;
 use omf51::entry::Entries;
@@ -73,7 +72,7 @@ pub fn next_entry(library: &[u8], what: Entries, from: Cursor) -> Step
             return Step::Entry { here: c, end };
         }
         let at = c.next;
-        let End::At(next) = record_end(library, Edition::One, what, at) else {
+        let End::At(next) = record_end(library, what, at) else {
             return Step::Done;
         };
         c = entered(library, what, at, next);
