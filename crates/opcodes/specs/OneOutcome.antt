@@ -1,0 +1,15 @@
+-- The functions on opcodes have one outcome each, by their contracts alone. Assumes nothing.
+use Prim.Native.Nat.{ℕ}
+use mathlib.Core.Path.{_≡_}
+use Rattle.lent.specs.OneOutcome.{Determines, by-equation}
+use Rattle.opcodes.specs.Lengths.{lengthOf, isReturn}
+use Rattle.opcodes.specs.Leads.{leadsOf}
+
+pub length-of-one : (opcode : ℕ) → Determines (λ r. r ≡ lengthOf opcode)
+length-of-one opcode = by-equation (lengthOf opcode)
+
+pub leads-of-one : (opcode : ℕ) → Determines (λ r. r ≡ leadsOf opcode)
+leads-of-one opcode = by-equation (leadsOf opcode)
+
+pub is-return-one : (opcode : ℕ) → Determines (λ r. r ≡ isReturn opcode)
+is-return-one opcode = by-equation (isReturn opcode)
