@@ -10,7 +10,7 @@ use borrow.Author.Tests.{eqb-true, ne-eqb, leb-true}
 use lib.Dec.{eqb, leb}
 use lib.ListN.{length, getD}
 use Rattle.lent.specs.Choice.{if_then_else_}
-use Rattle.lent.specs.ChoiceLaws.{both}
+use Rattle.lent.specs.ChoiceLaws.{both, either}
 use Rattle.lent.specs.Lists.{one, any, all, keep, from}
 use Rattle.lent.specs.ListLaws.{every}
 use Rattle.opcodes.specs.declared.Leads.{Leads}
@@ -109,10 +109,19 @@ pub at-most-three : (opcode : ℕ) → opcode < 256 → lengthOf opcode ≤ 3
 at-most-three opcode h =
     leb-true (lengthOf opcode) 3 (both (leb (lengthOf opcode) 3) (eqb opcode 0xA5 || leb 1 (lengthOf opcode)) (of-all oneToThree lengths-computed opcode h) .0)
 
-pub at-least-one : (opcode : ℕ) → opcode < 256 → (opcode ≡ 0xA5 → ⊥) → 1 ≤ lengthOf opcode
-at-least-one opcode h other =
-    let t = both (leb (lengthOf opcode) 3) (eqb opcode 0xA5 || leb 1 (lengthOf opcode)) (of-all oneToThree lengths-computed opcode h) .1 in
-    leb-true 1 (lengthOf opcode) (rw (ne-eqb opcode 0xA5 other) at t)
+pub reserved-or-some : (opcode : ℕ) → opcode < 256 → (opcode ≡ 0xA5) ⊎ (1 ≤ lengthOf opcode)
+reserved-or-some opcode h = go (either (eqb opcode 0xA5) (leb 1 (lengthOf opcode)) (both (leb (lengthOf opcode) 3) (eqb opcode 0xA5 || leb 1 (lengthOf opcode)) (of-all oneToThree lengths-computed opcode h) .1))
+  where
+    go : (eqb opcode 0xA5 ≡ true) ⊎ (leb 1 (lengthOf opcode) ≡ true) → (opcode ≡ 0xA5) ⊎ (1 ≤ lengthOf opcode)
+    go (inl e) = inl (eqb-true opcode 0xA5 e)
+    go (inr e) = inr (leb-true 1 (lengthOf opcode) e)
+
+pub no-length : (opcode : ℕ) → opcode < 256 → lengthOf opcode ≡ 0 → opcode ≡ 0xA5
+no-length opcode h e = go (reserved-or-some opcode h)
+  where
+    go : (opcode ≡ 0xA5) ⊎ (1 ≤ lengthOf opcode) → opcode ≡ 0xA5
+    go (inl q) = q
+    go (inr l) = absurd (omega (arith, e, l))
 
 -- A REFERENCE ENDS WITH ITS INSTRUCTION, in all 47 that have one
 abbrev endsWith : Leads → ℕ → Bool
@@ -122,17 +131,11 @@ ends-computed : all (λ k. endsWith (leadsOf k) (lengthOf k)) (from 0 256) ≡ t
 unfolding leadsOf lengthOf any all from
 ends-computed = refl
 
-pub ends-together : (opcode : ℕ) → opcode < 256 → (leadsOf opcode ≡ Nowhere → ⊥) → placeOf (leadsOf opcode) + bytesOf (leadsOf opcode) ≡ lengthOf opcode
-ends-together opcode h some = go (leadsOf opcode) some (of-all (λ k. endsWith (leadsOf k) (lengthOf k)) ends-computed opcode h)
-  where
-    go : (l : Leads) → (l ≡ Nowhere → ⊥) → endsWith l (lengthOf opcode) ≡ true → placeOf l + bytesOf l ≡ lengthOf opcode
-    go Nowhere n t = absurd (n refl)
-    go PageJump n t = eqb-true 2 (lengthOf opcode) t
-    go PageCall n t = eqb-true 2 (lengthOf opcode) t
-    go LongJump n t = eqb-true 3 (lengthOf opcode) t
-    go LongCall n t = eqb-true 3 (lengthOf opcode) t
-    go ShortJump n t = eqb-true 2 (lengthOf opcode) t
-    go LaterJump n t = eqb-true 3 (lengthOf opcode) t
+pub ends-together : (opcode : ℕ) → opcode < 256 → 0 < leadNumber (leadsOf opcode) → placeOf (leadsOf opcode) + bytesOf (leadsOf opcode) ≡ lengthOf opcode
+ends-together opcode h some =
+    let t = of-all (λ k. endsWith (leadsOf k) (lengthOf k)) ends-computed opcode h in
+    let other : leadNumber (leadsOf opcode) ≡ 0 → ⊥ = λ e. omega arith in
+    eqb-true (placeOf (leadsOf opcode) + bytesOf (leadsOf opcode)) (lengthOf opcode) (rw (ne-eqb (leadNumber (leadsOf opcode)) 0 other) at t)
 
 pub with-targets : length (keep (λ opcode. not (eqb (leadNumber (leadsOf opcode)) 0)) (from 0 256)) ≡ 47
 unfolding leadsOf any keep from

@@ -77,7 +77,7 @@ shown-seen image s bytes pos n fit =
           (rw (view-outside image s (pos + k) (h (pos + k) (omega arith) (omega arith))) (bytes (pos + k))))),
     )
 
-shown-window : (image : List ℕ) (s : List Stretch) → Bytes image → (pos n : ℕ) → pos + n ≤ length image → shown (view image s) pos n ≡ isApart s pos n
+pub shown-window : (image : List ℕ) (s : List Stretch) → Bytes image → (pos n : ℕ) → pos + n ≤ length image → shown (view image s) pos n ≡ isApart s pos n
 shown-window image s bytes pos n fit =
     same-test (shown (view image s) pos n) (isApart s pos n)
     (λ e. is-apart s pos n .1 (shown-seen image s bytes pos n fit .0 e)) (λ e. shown-seen image s bytes pos n fit .1 (is-apart s pos n .0 e))
