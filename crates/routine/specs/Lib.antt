@@ -7,3 +7,6 @@ pub mod DirectLaws
 pub mod StepLaws
 pub mod WalkLaws
 pub mod OutcomeLaws
+pub mod Exactly
+pub mod Withheld
+pub mod OneOutcome
