@@ -10,3 +10,4 @@ pub mod OutcomeLaws
 pub mod Exactly
 pub mod Withheld
 pub mod OneOutcome
+pub mod StopsExactly
