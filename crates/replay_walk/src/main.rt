@@ -1,0 +1,36 @@
+// Walks each case of the file that the first argument names, and holds what came of it against what is recorded; then each
+// instruction of the file that the second argument names against what a disassembler tells of it (README.md).
+mod compare;
+mod told;
+mod trial;
+
+// Opens the file that word i names; below 0, and said so, where that fails.
+fn open(i: usize) -> i32 {
+    let mut path = io::buffer();
+    let n = os::arg(i, &mut path);
+    if os::errno() != 0 {
+        os::fail(b"a file of cases");
+        return -1;
+    }
+    let fd = os::open_read(&path[..n]);
+    if fd < 0 {
+        os::fail(&path[..n]);
+    }
+    fd
+}
+
+fn main() {
+    let cases = open(1);
+    if cases < 0 {
+        return;
+    }
+    let mut tally = recorded::tally::no_case();
+    compare::compare_all(cases, &mut tally);
+    libc::close(cases);
+    let instructions = open(2);
+    if instructions < 0 {
+        return;
+    }
+    told::compare_all(instructions);
+    libc::close(instructions);
+}
