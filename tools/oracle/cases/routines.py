@@ -71,7 +71,7 @@ def refusals(rng):
         yield b"", [(0, 1)], start
     long = bytes(0x10000) + b"\x22"
     yield long, [], 0
-    yield long, [*many, past[4]], MOST
+    yield long, [*many[:16], past[4]], MOST
     yield long[1:], [], 0xFFFF
     yield long[1:], [(0xFFFE, 1)], 0xFFF0
 
