@@ -1,10 +1,10 @@
 -- Where an instruction leads that names an address, by the MCS-51 manual.
 use Prim.Native.Nat.{ℕ, _%_}
 use mathlib.Core.Bool.{Bool, _||_, _&&_}
-use mathlib.Core.List.{List, _∷_}
+use mathlib.Core.List.{List, _∷_, map}
 use lib.Dec.{eqb, leb}
 use Rattle.lent.specs.Choice.{if_then_else_}
-use Rattle.lent.specs.Lists.{one, isIn}
+use Rattle.lent.specs.Lists.{one, isIn, from}
 use Rattle.opcodes.specs.declared.Leads.{Leads}
 use Rattle.opcodes.specs.declared.Leads.the-variants.{Nowhere, PageJump, PageCall, LongJump, LongCall, ShortJump, LaterJump}
 
@@ -36,6 +36,10 @@ leadNumber LongJump = 3
 leadNumber LongCall = 4
 leadNumber ShortJump = 5
 leadNumber LaterJump = 6
+
+-- the table: the number at each of the 256 opcodes
+unfoldable pub leadTable : List ℕ
+leadTable = map (λ k. leadNumber (leadsOf k)) (from 0 256)
 
 -- what a row says of it: 1 a call, 2 a jump, 0 neither
 abbrev pub whatOf : Leads → ℕ

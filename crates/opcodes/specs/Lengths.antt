@@ -2,10 +2,10 @@
 -- table, tell the operand that it works on, and its high four bits, its row, what is done with it.
 use Prim.Native.Nat.{ℕ, _/_, _%_}
 use mathlib.Core.Bool.{Bool, _||_}
-use mathlib.Core.List.{List, [], _∷_}
+use mathlib.Core.List.{List, [], _∷_, map}
 use lib.Dec.{eqb, ltb}
 use Rattle.lent.specs.Choice.{if_then_else_}
-use Rattle.lent.specs.Lists.{one, isIn}
+use Rattle.lent.specs.Lists.{one, isIn, from}
 
 -- a column: the rows whose instructions have three bytes, those that have two; all others have one
 abbrev inColumn : List ℕ → List ℕ → ℕ → ℕ
@@ -33,6 +33,10 @@ byColumn column row =
 -- A5h is reserved: no instruction
 unfoldable pub lengthOf : ℕ → ℕ
 lengthOf opcode = if eqb opcode 0xA5 then 0 else byColumn (opcode % 16) (opcode / 16)
+
+-- the table: the rule at each of the 256 opcodes
+unfoldable pub lengthTable : List ℕ
+lengthTable = map lengthOf (from 0 256)
 
 -- RET and RETI
 abbrev pub isReturn : ℕ → Bool

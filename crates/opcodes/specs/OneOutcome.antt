@@ -2,8 +2,14 @@
 use Prim.Native.Nat.{ℕ}
 use mathlib.Core.Path.{_≡_}
 use Rattle.lent.specs.OneOutcome.{Determines, by-equation}
-use Rattle.opcodes.specs.Lengths.{lengthOf, isReturn}
-use Rattle.opcodes.specs.Leads.{leadsOf}
+use Rattle.opcodes.specs.Lengths.{lengthOf, lengthTable, isReturn}
+use Rattle.opcodes.specs.Leads.{leadsOf, leadTable}
+
+pub length-table-one : Determines (λ r. r ≡ lengthTable)
+length-table-one = by-equation lengthTable
+
+pub lead-table-one : Determines (λ r. r ≡ leadTable)
+lead-table-one = by-equation leadTable
 
 pub length-of-one : (opcode : ℕ) → Determines (λ r. r ≡ lengthOf opcode)
 length-of-one opcode = by-equation (lengthOf opcode)

@@ -1,8 +1,8 @@
 // The instructions of an 8051 part by their opcodes: how long each is, and where those that name an address lead. Both are
 // constant tables of all 256 opcodes, sixteen in a line; the rules by which they are filled are in specs/.
 ghost use mathlib.Core.Path.{_≡_};
-ghost use Rattle.opcodes.specs.Lengths.{lengthOf, isReturn};
-ghost use Rattle.opcodes.specs.Leads.{leadsOf, leadNumber};
+ghost use Rattle.opcodes.specs.Lengths.{lengthOf, lengthTable, isReturn};
+ghost use Rattle.opcodes.specs.Leads.{leadsOf, leadNumber, leadTable};
 
 // How many bytes each instruction has. A5h, which the manual reserves, has none.
 const LENGTHS: [u8; 256] = *b"\x01\x02\x03\x01\x01\x02\x01\x01\x01\x01\x01\x01\x01\x01\x01\x01\
@@ -52,24 +52,40 @@ pub enum Leads {
     LaterJump,
 }
 
-// The length of the instruction with an opcode.
-pub fn length_of(opcode: u8) -> u8
-    ensures { λ r. ⌜ r ≡ lengthOf opcode ⌝ }
+// The two tables, to be lent to what looks opcodes up: a constant that is indexed in place is written out at every use.
+pub fn length_table() -> [u8; 256]
+    ensures { λ r. ⌜ r ≡ lengthTable ⌝ }
 {
-    LENGTHS[opcode as usize]
+    LENGTHS
 }
 
-fn lead_number(opcode: u8) -> u8
+pub fn lead_table() -> [u8; 256]
+    ensures { λ r. ⌜ r ≡ leadTable ⌝ }
+{
+    LEADS
+}
+
+// The length of the instruction with an opcode.
+pub fn length_of(lengths: &[u8; 256], opcode: u8) -> u8
+    requires { ⌜ now lengths ≡ lengthTable ⌝ }
+    ensures { λ r. ⌜ r ≡ lengthOf opcode ⌝ }
+{
+    lengths[opcode as usize]
+}
+
+fn lead_number(leads: &[u8; 256], opcode: u8) -> u8
+    requires { ⌜ now leads ≡ leadTable ⌝ }
     ensures { λ r. ⌜ r ≡ leadNumber (leadsOf opcode) ⌝ }
 {
-    LEADS[opcode as usize]
+    leads[opcode as usize]
 }
 
 // Where the instruction with an opcode leads.
-pub fn leads_of(opcode: u8) -> Leads
+pub fn leads_of(leads: &[u8; 256], opcode: u8) -> Leads
+    requires { ⌜ now leads ≡ leadTable ⌝ }
     ensures { λ r. ⌜ r ≡ leadsOf opcode ⌝ }
 {
-    match lead_number(opcode) {
+    match lead_number(leads, opcode) {
         0 => Leads::Nowhere,
         1 => Leads::PageJump,
         2 => Leads::PageCall,

@@ -81,7 +81,13 @@ fn agrees(image: &mut [u8], entry: &[u8]) -> bool {
         byte_of(entry, 4),
     );
     let none = [0u64; 0];
-    let step = step_at(image, &none, at as usize);
+    let step = step_at(
+        image,
+        &none,
+        &opcodes::length_table(),
+        &opcodes::lead_table(),
+        at as usize,
+    );
     put_three(image, at, 0, 0, 0);
     shows(step, entry)
 }

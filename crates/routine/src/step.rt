@@ -3,7 +3,8 @@ ghost use mathlib.Core.Path.{_≡_};
 ghost use Prim.Native.Nat.{_+_, _-_, _≤_, _<_};
 ghost use lib.ListN.{length};
 ghost use Rattle.image.specs.View.{stretchesIn, view, cellAt};
-ghost use Rattle.opcodes.specs.Lengths.{lengthOf};
+ghost use Rattle.opcodes.specs.Lengths.{lengthOf, lengthTable};
+ghost use Rattle.opcodes.specs.Leads.{leadTable};
 ghost use Rattle.routine.specs.Step.{stepAt};
 ghost use Rattle.routine.specs.Direct.{shortTo, pageTo, longTo, rowBy};
 use crate::Row;
@@ -64,12 +65,12 @@ fn row(address: usize, what: u64, target: u64) -> Row
 }
 
 // The row of an instruction that ends before `next`: the bytes of an address are always its last ones.
-fn row_of(image: &[u8], at: usize, next: usize, opcode: u8) -> Row
-    requires { ⌜ (at + lengthOf opcode ≡ next) × (1 ≤ lengthOf opcode) × (next ≤ length (now image)) ⌝ }
+fn row_of(image: &[u8], leads: &[u8; 256], at: usize, next: usize, opcode: u8) -> Row
+    requires { ⌜ (now leads ≡ leadTable) × (at + lengthOf opcode ≡ next) × (1 ≤ lengthOf opcode) × (next ≤ length (now image)) ⌝ }
     ensures { λ r. ⌜ r ≡ rowBy (now (image .entry)) at next opcode ⌝ }
 {
     let low = image[next - 1];
-    match leads_of(opcode) {
+    match leads_of(leads, opcode) {
         Leads::Nowhere => row(at, 0, 0),
         Leads::PageJump => row(at, 2, page_target(next, opcode, low)),
         Leads::PageCall => row(at, 1, page_target(next, opcode, low)),
@@ -81,8 +82,9 @@ fn row_of(image: &[u8], at: usize, next: usize, opcode: u8) -> Row
 }
 
 // What stands at a place. An opcode that is withheld is said before anything is asked of it; of the other bytes the
-// image's end is asked before what is withheld.
-pub fn step_at(image: &[u8], s: &[u64], at: usize) -> Step
+// image's end is asked before what is withheld. The tables of the opcodes are lent, so that a walk makes them once.
+pub fn step_at(image: &[u8], s: &[u64], lengths: &[u8; 256], leads: &[u8; 256], at: usize) -> Step
+    requires { ⌜ (now lengths ≡ lengthTable) × (now leads ≡ leadTable) ⌝ }
     ensures { λ r. ⌜ r ≡ stepAt (view (now (image .entry)) (stretchesIn (now (s .entry)))) at ⌝ }
 {
     if image.len() <= at {
@@ -92,7 +94,7 @@ pub fn step_at(image: &[u8], s: &[u64], at: usize) -> Step
         return Step::Stopped(Why::Withheld);
     }
     let opcode = image[at];
-    let len = wide(length_of(opcode)) as usize;
+    let len = wide(length_of(lengths, opcode)) as usize;
     if len == 0 {
         return Step::Stopped(Why::Reserved);
     }
@@ -104,7 +106,7 @@ pub fn step_at(image: &[u8], s: &[u64], at: usize) -> Step
     }
     let next = at + len;
     Step::Shown {
-        row: row_of(image, at, next, opcode),
+        row: row_of(image, leads, at, next, opcode),
         next,
         last: is_return(opcode),
     }

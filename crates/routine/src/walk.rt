@@ -3,6 +3,8 @@ ghost use mathlib.Core.Path.{_≡_};
 ghost use Prim.Native.Nat.{_<_};
 ghost use lib.ListN.{length};
 ghost use Rattle.image.specs.View.{stretchesIn, view};
+ghost use Rattle.opcodes.specs.Lengths.{lengthTable};
+ghost use Rattle.opcodes.specs.Leads.{leadTable};
 ghost use Rattle.routine.specs.Walk.{walked};
 ghost use Rattle.routine.specs.Outcome.{stored, laid, outcome};
 use crate::Row;
@@ -17,6 +19,8 @@ use image::cover::Stretches;
 use image::cover::first_pairs;
 use image::cover::passes_end;
 use lent::rows::clear;
+use opcodes::lead_table;
+use opcodes::length_table;
 
 // No walk shows more instructions.
 pub const MOST_STEPS: usize = 256;
@@ -37,14 +41,22 @@ fn store(rows: &mut [u64], i: usize, row: Row) -> bool
 }
 
 // Walks from a place on, into rows that are set to zero first.
-fn follow(image: &[u8], s: &[u64], start: usize, rows: &mut [u64]) -> Walked
+fn follow(
+    image: &[u8],
+    s: &[u64],
+    lengths: &[u8; 256],
+    leads: &[u8; 256],
+    start: usize,
+    rows: &mut [u64],
+) -> Walked
+    requires { ⌜ (now lengths ≡ lengthTable) × (now leads ≡ leadTable) ⌝ }
     ensures { λ r. ⌜ (r, now (rows .exit)) ≡ laid (walked (view (now (image .entry)) (stretchesIn (now (s .entry)))) start) (length (now (rows .entry))) ⌝ }
 {
     clear(rows);
     let mut at = start;
     let mut i = 0;
     while i < MOST_STEPS {
-        match step_at(image, s, at) {
+        match step_at(image, s, lengths, leads, at) {
             Step::Stopped(why) => {
                 return Walked::Done { steps: i, why };
             }
@@ -89,5 +101,7 @@ pub fn walk_routine(image: &[u8], withheld: Stretches, start: usize, rows: &mut 
     if image.len() <= start {
         return Walked::Refused(WalkRefusal::StartPastEnd);
     }
-    follow(image, s, start, rows)
+    let lengths = length_table();
+    let leads = lead_table();
+    follow(image, s, &lengths, &leads, start, rows)
 }

@@ -1,17 +1,16 @@
--- `lead_number`: so does the rule of the leads. Assumes nothing.
+-- `lead_number`: the rule holds at each entry of the table. Assumes nothing.
+use mathlib.Core.Path.{ap, _∙_}
+use native.Mathlib.Omega.{arith}
 use borrow.Author.Needs.{needs}
-use Rattle.lent.specs.Lists.{any, from}
-use Rattle.opcodes.specs.Leads.{leadsOf, leadNumber}
+use lib.ListN.{getD}
+use Rattle.opcodes.specs.Leads.{leadsOf, leadNumber, leadTable}
 use Rattle.opcodes.specs.OpcodeLaws.{table-at}
 use Rattle.opcodes.proofs.lead_number.Statement.{statement}
 use Rattle.opcodes.proofs.lead_number.Tie as tie
 
-array-read-result : tie.Need-array-read-result
-array-read-result c = search needs
-
 returns : tie.Need-returns
-unfolding leadsOf any from
-returns c = table-at (λ k. leadNumber (leadsOf k)) (c .args .opcode) (array-read-result c)
+unfolding leadTable
+returns c = let a = c .before .args in ap (λ xs. getD xs (a .opcode) 0) (c .before .pre) ∙ table-at (λ k. leadNumber (leadsOf k)) (a .opcode) (omega arith)
 
 pub lead-number-spec : {M : Type 1} → statement M
-lead-number-spec = tie.close (tie.spec array-read-result returns)
+lead-number-spec = tie.close (tie.spec (λ c. search needs) returns)

@@ -29,10 +29,10 @@ long-ends c l e three some =
     omega (arith, ends, three, at-entry c .pre)
 
 long-target-requires : tie.Need-long-target-requires
-long-target-requires c κs = (long-ends (c .before .before) LongJump (c .enum-told4 .given .1) refl (omega arith), at-entry (c .before .before) .pre .2)
+long-target-requires c κs = (long-ends (c .before .before) LongJump (c .enum-told4 .given .1) refl (omega arith), at-entry (c .before .before) .pre .3)
 
 long-target-requires-2 : tie.Need-long-target-requires-2
-long-target-requires-2 c κs = (long-ends (c .before .before) LongCall (c .enum-told5 .given .1) refl (omega arith), at-entry (c .before .before) .pre .2)
+long-target-requires-2 c κs = (long-ends (c .before .before) LongCall (c .enum-told5 .given .1) refl (omega arith), at-entry (c .before .before) .pre .3)
 
 returns : tie.Need-returns
 returns c =

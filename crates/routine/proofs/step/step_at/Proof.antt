@@ -77,7 +77,7 @@ row-of-requires : tie.Need-row-of-requires
 row-of-requires c κs =
     let wide = c .before .before .before .before in
     let a = at-entry (else1 wide) .args in
-    (ap (λ n. a .at + n) (sym (size wide)), omega (arith, size wide, c .before .before .before .if3 .left), omega (arith, size wide, else1 wide .if1 .left, c .before .before .if4 .left))
+    (at-entry (else1 wide) .pre .1, ap (λ n. a .at + n) (sym (size wide)), omega (arith, size wide, c .before .before .before .if3 .left), omega (arith, size wide, else1 wide .if1 .left, c .before .before .if4 .left))
 
 returns-6 : tie.Need-returns-6
 returns-6 c =

@@ -20,10 +20,10 @@ use Rattle.routine.proofs.walk.follow.Statement.{statement}
 use Rattle.routine.proofs.walk.follow.Tie as tie
 
 abbrev Inv-loop : tie.InvT-loop
-Inv-loop image s start rows₀ at₀ i₀ rows at i = Going (view image (stretchesIn s)) start (length rows₀) rows at i
+Inv-loop image s lengths leads start rows₀ at₀ i₀ rows at i = Going (view image (stretchesIn s)) start (length rows₀) rows at i
 
 abbrev μ-loop : tie.MeasureT-loop
-μ-loop image s start rows₀ at₀ i₀ rows at i = 256 - i
+μ-loop image s lengths leads start rows₀ at₀ i₀ rows at i = 256 - i
 
 -- The ladder: places of the code that the answers cite, each as it is seen from a later place.
 abbrev at-entry : tie.At-loop Inv-loop μ-loop → tie.Start Inv-loop μ-loop

@@ -48,7 +48,7 @@ returns-4 c =
 
 returns-5 : tie.Need-returns-5
 returns-5 c =
-    let else4 = c .before .before .before .before in
+    let else4 = c .before .before .before .before .before .before .before .before in
     let passes = else4 .before .before in
     let known = after-known passes in
     let a = at-entry known .args in
@@ -68,6 +68,8 @@ walk-routine-spec =
     (λ c κs. search needs)
     returns-3
     returns-4
+    (λ c κs. search needs)
+    (λ c κs. search needs)
     (λ c κs. search needs)
     (λ c. search needs)
     returns-5)
