@@ -1,6 +1,6 @@
 #!/bin/sh
 # run.sh OUT: builds the static libraries and the examples for x86-64, runs them on the files of examples/ and on one that is refused, and compares what they
-# print with what `./sillmarble list`, `hex` and `unhex` print. Left: OUT/example-c, OUT/example-rs, OUT/hex-c. The last line is 'N passed, 0 failed', and then the status is 0.
+# print with what `./sillmarble list`, `hex`, `unhex` and `walk` print. Left: OUT/example-c, OUT/example-rs, OUT/hex-c, OUT/walk-c. The last line is 'N passed, 0 failed', and then the status is 0.
 # README.md names what has to be installed. On another machine than x86-64 Debian's emulator runs them (a program of Rust's ends that of the kit, QEMU 8.2.2, as it
 # starts), and Rust's standard library for x86-64 is unpacked under OUT; nothing is installed.
 set -eu
@@ -9,15 +9,17 @@ root=$(cd "$(dirname "$0")/.." && pwd)
 mkdir -p "$1"
 out=$(cd "$1" && pwd)
 cd "$root"
-for each in libfind_c hex_c; do
+for each in libfind_c hex_c routine_c; do
     rt staticlib "$each" >"$out/staticlib.log" 2>&1 || { cat "$out/staticlib.log"; exit 1; }
 done
 library=$root/target/staticlib/liblibfind_c.a
 hex=$root/target/staticlib/libhex_c.a
+walk=$root/target/staticlib/libroutine_c.a
 
 build_here() {
     cc -O2 -std=c99 -Wall -Wextra -o "$out/example-c" callers/example.c "$library"
     cc -O2 -std=c99 -Wall -Wextra -o "$out/hex-c" callers/hex.c "$hex"
+    cc -O2 -std=c99 -Wall -Wextra -o "$out/walk-c" callers/walk.c "$walk"
     rustc -O --edition 2021 -o "$out/example-rs" -L "native=$root/target/staticlib" -l static=libfind_c callers/example.rs
 }
 
@@ -26,6 +28,7 @@ build_across() {
     target=x86_64-unknown-linux-gnu
     x86_64-linux-gnu-gcc -O2 -std=c99 -Wall -Wextra -static -o "$out/example-c" callers/example.c "$library"
     x86_64-linux-gnu-gcc -O2 -std=c99 -Wall -Wextra -static -o "$out/hex-c" callers/hex.c "$hex"
+    x86_64-linux-gnu-gcc -O2 -std=c99 -Wall -Wextra -static -o "$out/walk-c" callers/walk.c "$walk"
     if [ ! -d "$out/std/usr" ]; then
         mkdir -p "$out/std"
         (cd "$out/std" && apt-get download libstd-rust-dev:amd64 && dpkg -x libstd-rust-dev_*_amd64.deb .)
@@ -77,7 +80,32 @@ try_hex() { # JOB COMMAND FILE
     fi
 }
 
+# The same of the example for walks, without the bytes and forms, which it does not print.
+try_walk() { # IMAGE ADDRESS STRETCHES..
+    was=0 got=0 at=$1 start=$2
+    shift 2
+    $emulator "$out/walk-c" "$at" "$start" "$@" >"$out/got" 2>"$out/got.err" || got=$?
+    for stretch; do
+        shift
+        set -- "$@" --withhold "$stretch"
+    done
+    ./sillmarble walk "$at" "$start" "$@" >"$out/was" 2>"$out/was.err" || was=$?
+    sed -e 1d -e '/^0x/s/^\(0x....\).\{36\}/\1 /' -e '/^0x/s/^\(0x....\)    .*/\1/' "$out/was" >"$out/was.short"
+    if [ "$was" -eq "$got" ] && cmp -s "$out/was.short" "$out/got" && [ "$(sed 's/:.*//' "$out/was.err")" = "$(cat "$out/got.err")" ]; then
+        passed=$((passed + 1))
+    else
+        failed=$((failed + 1))
+        echo "failed: walk-c $at $start $* (status $got and $was)"
+    fi
+}
+
 ./sillmarble list examples/aid.img examples/routines.lib >"$out/was"
+# the first routine of the list, with nothing withheld, with its start and with another byte; a start past the end: refusal 19
+start=$(sed -n '2s/ .*//p' "$out/was")
+try_walk examples/aid.img "$start"
+try_walk examples/aid.img "$start" "$start:1"
+try_walk examples/aid.img "$start" "$((start + 4)):1" 0:0
+try_walk examples/aid.img 70000
 ./sillmarble hex examples/aid.img >"$out/aid.hex"
 try_hex export hex examples/aid.img
 try_hex import unhex "$out/aid.hex"
