@@ -10,4 +10,5 @@ pub mod OutcomeLaws
 pub mod Exactly
 pub mod Withheld
 pub mod OneOutcome
+pub mod Examples
 pub mod StopsExactly
