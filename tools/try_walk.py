@@ -132,6 +132,9 @@ def usage(folder):
 
 def main():
     with tempfile.TemporaryDirectory() as folder:
+        image = pathlib.Path(folder) / "image"
+        image.write_bytes(b"\x22")
+        run(image, 0)     # once more than needed, so that building it first is not taken for its words
         for each in (outcomes, as_hex, usage):
             each(pathlib.Path(folder))
     print(f"{passed} passed, {failed} failed")
