@@ -1,10 +1,9 @@
 // The module at a place: where its parts stand, if it is whole.
 ghost use mathlib.Core.Path.{_≡_};
-ghost use Rattle.library.specs.Passes.{placesRead, placesBy, restPlaces, lastPlaces};
+ghost use Rattle.omf51.specs.declared.entry.Entries.the-variants.{Definitions};
+ghost use Rattle.library.specs.Passes.{placesRead, placesBy, restPlaces, lastPlaces, allEndBy, sectionsEndBy};
 use crate::ModuleAt;
 use crate::Places;
-use crate::repeat::skip;
-use crate::repeat::skip_sections;
 use lent::names::same_name;
 use lent::part::Part;
 use lent::refusal::Refusal;
@@ -41,12 +40,32 @@ fn last_places(
     }
 }
 
+// Where the definitions of a module end, in an edition.
+fn skip_definitions(library: &[u8], edition: Edition, from: usize) -> End
+    ensures { λ r. ⌜ r ≡ allEndBy edition Definitions (now (library .entry)) from ⌝ }
+{
+    match edition {
+        Edition::One => crate::repeat::skip(library, Entries::Definitions, from),
+        Edition::Two => crate::sound::skip(library, Entries::Definitions, from),
+    }
+}
+
+// Where its contents end.
+fn skip_contents(library: &[u8], edition: Edition, from: usize) -> End
+    ensures { λ r. ⌜ r ≡ sectionsEndBy edition (now (library .entry)) from ⌝ }
+{
+    match edition {
+        Edition::One => crate::repeat::skip_sections(library, from),
+        Edition::Two => crate::sound::skip_sections(library, from),
+    }
+}
+
 // The rest of a module behind its header: definitions, contents, the end record.
 fn rest_places(library: &[u8], edition: Edition, name: Part, definitions: usize) -> ModuleAt
     ensures { λ r. ⌜ placesRead r ≡ restPlaces edition (now (library .entry)) name definitions ⌝ }
 {
-    match skip(library, edition, Entries::Definitions, definitions) {
-        End::At(contents) => match skip_sections(library, edition, contents) {
+    match skip_definitions(library, edition, definitions) {
+        End::At(contents) => match skip_contents(library, edition, contents) {
             End::At(at) => last_places(library, edition, name, definitions, contents, at),
             End::Stop => ModuleAt::Stop,
             End::Refused(r) => ModuleAt::Refused(r),

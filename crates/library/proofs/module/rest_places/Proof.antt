@@ -10,34 +10,34 @@ use Rattle.library.proofs.module.rest_places.Statement.{statement}
 use Rattle.library.proofs.module.rest_places.Tie as tie
 
 -- The ladder: places of the code that the answers cite, each as it is seen from a later place.
-abbrev after-skip : tie.After-skip-sections → tie.After-skip
-after-skip c = c .before .before .before .before
+abbrev after-skip-definitions : tie.After-skip-contents → tie.After-skip-definitions
+after-skip-definitions c = c .before .before .before .before
 
 -- where the definitions end, once it is known
-defined : (c : tie.After-skip) {e : End} → c .skip .result ≡ e → allEndBy (c .before .before .args .edition) Definitions (now (c .before .before .args .library)) (c .before .before .args .definitions) ≡ e
-defined c e = sym (c .skip .ensures) ∙ e
+defined : (c : tie.After-skip-definitions) {e : End} → c .skip-definitions .result ≡ e → allEndBy (c .before .before .args .edition) Definitions (now (c .before .before .args .library)) (c .before .before .args .definitions) ≡ e
+defined c e = sym (c .skip-definitions .ensures) ∙ e
 
 returns : tie.Need-returns
 returns c =
-    let skip = after-skip (c .before .before .before .before) in
+    let skip = after-skip-definitions (c .before .before .before .before) in
     let a = skip .before .before .args in
     c .last-places .ensures
     ∙ sym (contents-known (a .edition) (a .library .now) (a .name) (a .definitions)
-    (defined skip (c .before .before .before .before .before .before .contents .given .1)) (sym (c .before .before .before .before .skip-sections .ensures) ∙ c .before .before .at .given .1))
+    (defined skip (c .before .before .before .before .before .before .contents .given .1)) (sym (c .before .before .before .before .skip-contents .ensures) ∙ c .before .before .at .given .1))
 
 returns-2 : tie.Need-returns-2
 returns-2 c =
-    let skip = after-skip (c .before .before) in
+    let skip = after-skip-definitions (c .before .before) in
     let a = skip .before .before .args in
     sym (contents-known (a .edition) (a .library .now) (a .name) (a .definitions) (defined skip (c .before .before .before .before .contents .given .1))
-    (sym (c .before .before .skip-sections .ensures) ∙ c .enum-told .given .1))
+    (sym (c .before .before .skip-contents .ensures) ∙ c .enum-told .given .1))
 
 returns-3 : tie.Need-returns-3
 returns-3 c =
-    let skip = after-skip (c .before .before .before) in
+    let skip = after-skip-definitions (c .before .before .before) in
     let a = skip .before .before .args in
     sym (contents-known (a .edition) (a .library .now) (a .name) (a .definitions) (defined skip (c .before .before .before .before .before .contents .given .1))
-    (sym (c .before .before .before .skip-sections .ensures) ∙ c .before .r .given .1))
+    (sym (c .before .before .before .skip-contents .ensures) ∙ c .before .r .given .1))
 
 returns-4 : tie.Need-returns-4
 returns-4 c = let a = c .before .before .before .before .args in sym (rest-known (a .edition) (a .library .now) (a .name) (a .definitions) (defined (c .before .before) (c .enum-told2 .given .1)))

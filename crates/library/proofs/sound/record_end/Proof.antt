@@ -1,4 +1,4 @@
--- `sound_end`: the frame, then the entries of its body. Assumes nothing.
+-- `record_end` of edition 2: the frame, then the entries of its body. Assumes nothing.
 use mathlib.Core.Path.{_≡_, sym, ap, _∙_}
 use native.Mathlib.Omega.{arith}
 use denote.Ref.{now}
@@ -11,8 +11,8 @@ use Rattle.library.specs.Passes.{allowedFor}
 use Rattle.library.specs.EndLaws.{usedEnd}
 use Rattle.library.specs.PassLaws.{record-halts, record-refuses, record-holds, record-skipped}
 use borrow.Author.Needs.{needs}
-use Rattle.library.proofs.repeat.sound_end.Statement.{statement}
-use Rattle.library.proofs.repeat.sound_end.Tie as tie
+use Rattle.library.proofs.sound.record_end.Statement.{statement}
+use Rattle.library.proofs.sound.record_end.Tie as tie
 
 -- The ladder: places of the code that the answers cite, each as it is seen from a later place.
 abbrev at-entry : tie.After-record-by → tie.Start
@@ -59,8 +59,8 @@ returns-3 c = let a = at-entry (c .before .before) .args in sym (record-halts Tw
 returns-4 : tie.Need-returns-4
 returns-4 c = let a = at-entry (c .before .before .before) .args in sym (record-refuses Two (a .what) (a .library .now) (a .at) (framed (c .before .before .before) (c .before .r .given .1)))
 
-pub sound-end-spec : {M : Type 1} → statement M
-sound-end-spec =
+pub record-end-spec : {M : Type 1} → statement M
+record-end-spec =
     tie.close
     (tie.spec
     (λ c κs. search needs)
