@@ -1,24 +1,33 @@
-// The same in edition 2: each record sums to 0 (14), and its entries use up its body (15).
+// Records and modules in edition 2, without keeping what they say: each record sums to 0 (14), and its entries use up its body
+// (15).
 ghost use mathlib.Core.Path.{_≡_};
 ghost use Prim.Native.Nat.{_≤_};
 ghost use lib.ListN.{length};
 ghost use Rattle.omf51.specs.Module.{sectionBy, sectionsBy};
 ghost use Rattle.omf51.specs.declared.Edition.the-variants.{Two};
 ghost use Rattle.omf51.specs.Ends.{endOf, restEnd, entriesEnd};
-ghost use Rattle.library.specs.Passes.{recordEndBy, allEndBy, sectionsEndBy};
+ghost use Rattle.library.specs.Passes.{recordEndBy, allEndBy, sectionsEndBy, placesRead, placesBy, restPlaces, lastPlaces};
 ghost use Rattle.library.specs.EndLaws.{usedEnd};
+use crate::ModuleAt;
+use crate::Places;
 use crate::repeat::allowed_for;
 use crate::repeat::holds;
+use lent::names::name;
+use lent::names::same;
+use lent::part::Part;
 use lent::refusal::Refusal;
 use omf51::Edition;
 use omf51::End;
 use omf51::Frame;
+use omf51::allowed_types::allows;
 use omf51::allowed_types::fills;
 use omf51::by_edition::leaves_over;
 use omf51::by_edition::record_by;
 use omf51::entry::Entries;
+use omf51::entry::Named;
 use omf51::read_entry::entry_end;
 use omf51::read_entry::id_size;
+use omf51::read_entry::named_at;
 use omf51::read_record::byte_at;
 use omf51::record::Framed;
 use omf51::types::Allowed;
@@ -72,11 +81,16 @@ fn used_end(end: usize, next: usize, last: End) -> End
     }
 }
 
-// Where the record at a place ends: a record of such entries, or a record that is skipped among them.
+// Where the record at a place ends: a record of such entries, or a record that is skipped among them. Its type is asked for
+// before the rest, since every repetition ends at a record of another type.
 fn record_end(library: &[u8], what: Entries, at: usize) -> End
     ensures { λ r. ⌜ r ≡ recordEndBy Two what (now (library .entry)) at ⌝ }
 {
-    match record_by(library, Edition::Two, allowed_for(what), at) {
+    let allowed = allowed_for(what);
+    if !allows(allowed, byte_at(library, at)) {
+        return End::Stop;
+    }
+    match record_by(library, Edition::Two, allowed, at) {
         Framed::Read(f) => {
             let next = f.end + 1;
             if holds(what, f.kind) {
@@ -90,7 +104,7 @@ fn record_end(library: &[u8], what: Entries, at: usize) -> End
 }
 
 // Where all records of such entries from a place on end, one after another.
-pub fn skip(library: &[u8], what: Entries, from: usize) -> End
+fn skip(library: &[u8], what: Entries, from: usize) -> End
     ensures { λ r. ⌜ r ≡ allEndBy Two what (now (library .entry)) from ⌝ }
 {
     let mut at = from;
@@ -142,7 +156,7 @@ fn section_end(library: &[u8], at: usize) -> End
 }
 
 // Where all contents of a module, with their fixups, end, one after another.
-pub fn skip_sections(library: &[u8], from: usize) -> End
+fn skip_sections(library: &[u8], from: usize) -> End
     ensures { λ r. ⌜ r ≡ sectionsEndBy Two (now (library .entry)) from ⌝ }
 {
     let mut at = from;
@@ -158,5 +172,58 @@ pub fn skip_sections(library: &[u8], from: usize) -> End
                 return End::Refused(r);
             }
         }
+    }
+}
+
+// The end record of a module at a place: it has the header's name again, or the file is refused (8). The names are compared
+// by `same`, so that edition 1 alone calls `same_name`, and the compiler puts it into its only caller.
+fn last_places(
+    library: &[u8],
+    head: Part,
+    definitions: usize,
+    contents: usize,
+    at: usize,
+) -> ModuleAt
+    ensures { λ r. ⌜ placesRead r ≡ lastPlaces Two (now (library .entry)) head definitions contents at ⌝ }
+{
+    match named_at(library, Edition::Two, 0x04, 4, at) {
+        Named::Read { name: last, next } => {
+            if same(name(library, head), name(library, last)) {
+                return ModuleAt::Whole(Places {
+                    definitions,
+                    contents,
+                    next,
+                });
+            }
+            ModuleAt::Refused(Refusal::NamesDiffer)
+        }
+        Named::Stop => ModuleAt::Stop,
+        Named::Refused(r) => ModuleAt::Refused(r),
+    }
+}
+
+// The rest of a module behind its header: definitions, contents, the end record.
+fn rest_places(library: &[u8], name: Part, definitions: usize) -> ModuleAt
+    ensures { λ r. ⌜ placesRead r ≡ restPlaces Two (now (library .entry)) name definitions ⌝ }
+{
+    match skip(library, Entries::Definitions, definitions) {
+        End::At(contents) => match skip_sections(library, contents) {
+            End::At(at) => last_places(library, name, definitions, contents, at),
+            End::Stop => ModuleAt::Stop,
+            End::Refused(r) => ModuleAt::Refused(r),
+        },
+        End::Stop => ModuleAt::Stop,
+        End::Refused(r) => ModuleAt::Refused(r),
+    }
+}
+
+// Where the parts of the module at a place stand, or why there is none.
+pub fn module_at(library: &[u8], at: usize) -> ModuleAt
+    ensures { λ r. ⌜ placesRead r ≡ placesBy Two (now (library .entry)) at ⌝ }
+{
+    match named_at(library, Edition::Two, 0x02, 2, at) {
+        Named::Read { name, next } => rest_places(library, name, next),
+        Named::Stop => ModuleAt::Stop,
+        Named::Refused(r) => ModuleAt::Refused(r),
     }
 }
