@@ -14,7 +14,6 @@ use library::items::decoded::next_definition;
 use library::items::decoded::next_fixup;
 use library::items::entries::start;
 use library::module::module_at;
-use omf51::Edition;
 
 // The sum of all definitions of a module.
 fn over_definitions(library: &[u8], definitions: usize) -> usize {
@@ -85,7 +84,7 @@ pub fn over_modules(library: &[u8], first: usize, count: usize) -> usize {
     let mut at = first;
     let mut i = 0;
     while i < count {
-        let ModuleAt::Whole(places) = module_at(library, Edition::One, at) else {
+        let ModuleAt::Whole(places) = module_at(library, at) else {
             return sum;
         };
         sum = plus(sum, over_module(library, places));

@@ -8,7 +8,8 @@ use native.Mathlib.Omega.{arith}
 use native.Mathlib.Decide.{decLe}
 use borrow.Author.Tests.{leb-true, le-leb}
 use lib.Dec.{leb}
-use lib.ListN.{length, getD, drop, length-drop}
+use lib.ListN.{length, getD, take, drop, length-drop}
+use lib.Seq.{take-all, length-take-le}
 use Rattle.lent.specs.ChoiceLaws.{either, same-test}
 use Rattle.lent.specs.Lists.{any, all, from}
 use Rattle.lent.specs.ListLaws.{every, if-every}
@@ -99,14 +100,21 @@ module _ (s : List ℕ) (i : ℕ) where
   pub pairs-end : length s ≤ i + 1 → stretchesIn (drop i s) ≡ []
   pairs-end h = few-pairs (drop i s) (omega (arith, length-drop i s))
 
--- a window by these pairs: the first of them decides, or the others do; with none left the window is apart
-module _ (s : List ℕ) (at n i : ℕ) where
-  pub left-turn : (t : Bool) → i + 1 < length s → isBeside (pairAt s i) at n ≡ t
-      → isApart (stretchesIn (drop i s)) at n ≡ (t && isApart (stretchesIn (drop (i + 2) s)) at n)
-  left-turn t h e = ap (λ c. isApart c at n) (pairs-turn s i h) ∙ apart-turn (pairAt s i) (stretchesIn (drop (i + 2) s)) at n ∙ rw e
+-- what is behind the first pair is shorter
+pub behind-shorter : (s : List ℕ) → 1 < length s → length (take (length s - 2) (drop 2 s)) < length s
+behind-shorter s h = omega (arith, h, length-take-le (length s - 2) (drop 2 s) (omega (arith, length-drop 2 s)))
 
-  pub left-none : length s ≤ i + 1 → isApart (stretchesIn (drop i s)) at n ≡ true
-  left-none h = ap (λ c. isApart c at n) (pairs-end s i h) ∙ apart-none at n
+-- a window by the pairs of a lent list: the first of them decides, or those behind it do; without any the window is apart
+module _ (s : List ℕ) (at n : ℕ) where
+  pub first-turn : (t : Bool) → 1 < length s → isBeside (pairAt s 0) at n ≡ t
+      → isApart (stretchesIn s) at n ≡ (t && isApart (stretchesIn (take (length s - 2) (drop 2 s))) at n)
+  first-turn t h e =
+      ap (λ c. isApart c at n) (pairs-turn s 0 h) ∙ apart-turn (pairAt s 0) (stretchesIn (drop 2 s)) at n
+      ∙ ap (λ b. b && isApart (stretchesIn (drop 2 s)) at n) e
+      ∙ ap (λ xs. t && isApart (stretchesIn xs) at n) (sym (take-all (length s - 2) (drop 2 s) (omega (arith, length-drop 2 s))))
+
+  pub no-pair : length s < 2 → isApart (stretchesIn s) at n ≡ true
+  no-pair h = ap (λ c. isApart c at n) (few-pairs s (omega (arith, h))) ∙ apart-none at n
 
 -- one stretch, by the four answers of the code: an empty window or stretch, a window that begins before the stretch, and one
 -- that does not

@@ -3,12 +3,12 @@ ghost use mathlib.Core.Path.{_≡_};
 ghost use Rattle.omf51.specs.Reader.{many};
 ghost use Rattle.omf51.specs.Module.{moduleBy};
 ghost use Rattle.omf51.specs.File.{modulesBy};
+ghost use Rattle.library.specs.Passes.{placesRead, placesBy};
 ghost use Rattle.library.specs.Reading.{countOf, reading, typeEnd};
 ghost use Rattle.library.specs.ReadingLaws.{closingEnd, usedReading, libraryReading};
 use crate::Counted;
 use crate::ModuleAt;
 use crate::Reading;
-use crate::module::module_at;
 use lent::refusal::Refusal;
 use omf51::Edition;
 use omf51::End;
@@ -18,6 +18,16 @@ use omf51::read_record::byte_at;
 use omf51::record::Framed;
 use omf51::types::Allowed;
 
+// Where the parts of the module at a place stand, read in an edition, or why there is none.
+fn module_by(library: &[u8], edition: Edition, at: usize) -> ModuleAt
+    ensures { λ r. ⌜ placesRead r ≡ placesBy edition (now (library .entry)) at ⌝ }
+{
+    match edition {
+        Edition::One => crate::module::module_at(library, at),
+        Edition::Two => crate::sound::module_at(library, at),
+    }
+}
+
 // Counts the modules from a place on, as many as can be read.
 fn count(library: &[u8], edition: Edition, from: usize) -> Counted
     ensures { λ r. ⌜ r ≡ countOf (many (now (library .entry)) (moduleBy edition (now (library .entry))) from) ⌝ }
@@ -25,7 +35,7 @@ fn count(library: &[u8], edition: Edition, from: usize) -> Counted
     let mut at = from;
     let mut count = 0;
     loop {
-        match module_at(library, edition, at) {
+        match module_by(library, edition, at) {
             ModuleAt::Whole(places) => {
                 at = places.next;
                 count += 1;

@@ -3,6 +3,7 @@ pub mod file;
 pub mod items;
 pub mod module;
 pub mod repeat;
+pub mod sound;
 
 use lent::refusal::Refusal;
 

@@ -1,5 +1,12 @@
-// The module at a place: where its parts stand, if it is whole.
+// The module at a place in edition 1: where its parts stand, if it is whole. What goes over modules again calls these, whatever
+// edition they were read in.
 ghost use mathlib.Core.Path.{_≡_};
+ghost use Prim.Native.Nat.{_≤_};
+ghost use Rattle.omf51.specs.declared.Edition.the-variants.{One};
+ghost use Rattle.omf51.specs.Record.{recordBy};
+ghost use Rattle.omf51.specs.Entry.{nameWith};
+ghost use Rattle.omf51.specs.Expected.{oneType};
+ghost use Rattle.omf51.specs.Ends.{nameRead};
 ghost use Rattle.library.specs.Passes.{placesRead, placesBy, restPlaces, lastPlaces};
 use crate::ModuleAt;
 use crate::Places;
@@ -8,24 +15,57 @@ use crate::repeat::skip_sections;
 use lent::names::same_name;
 use lent::part::Part;
 use lent::refusal::Refusal;
-use omf51::Edition;
 use omf51::End;
 use omf51::entry::Entries;
 use omf51::entry::Named;
-use omf51::read_entry::named_at;
+use omf51::read_entry::name_at;
+use omf51::read_record::byte_at;
+use omf51::read_record::record_at;
+use omf51::record::Framed;
+use omf51::types::Allowed;
+
+// A byte as a size.
+fn wide(x: u8) -> usize
+    ensures { λ r. ⌜ (r ≡ x) × (r ≤ 255) ⌝ }
+{
+    x as usize
+}
+
+// The header or end record at a place, by its type `kind`: its body has a name and `more` bytes behind it at least.
+fn named_at(library: &[u8], kind: u8, more: u8, at: usize) -> Named
+    ensures { λ r. ⌜ nameRead r ≡ recordBy One (now (library .entry)) (oneType kind) (nameWith more (now (library .entry))) at ⌝ }
+{
+    match record_at(library, Allowed::One(kind), at) {
+        Framed::Read(f) => {
+            let body = f.body;
+            let end = f.end;
+            let len = wide(byte_at(library, body));
+            let need = 1 + len + wide(more);
+            if end - body < need {
+                return Named::Stop;
+            }
+            let name = name_at(library, body);
+            Named::Read {
+                name,
+                next: end + 1,
+            }
+        }
+        Framed::Stop => Named::Stop,
+        Framed::Refused(r) => Named::Refused(r),
+    }
+}
 
 // The end record of a module at a place: it has the header's name again, or the file is refused (8).
 fn last_places(
     library: &[u8],
-    edition: Edition,
     name: Part,
     definitions: usize,
     contents: usize,
     at: usize,
 ) -> ModuleAt
-    ensures { λ r. ⌜ placesRead r ≡ lastPlaces edition (now (library .entry)) name definitions contents at ⌝ }
+    ensures { λ r. ⌜ placesRead r ≡ lastPlaces One (now (library .entry)) name definitions contents at ⌝ }
 {
-    match named_at(library, edition, 0x04, 4, at) {
+    match named_at(library, 0x04, 4, at) {
         Named::Read { name: last, next } => {
             if same_name(library, name, last) {
                 return ModuleAt::Whole(Places {
@@ -42,12 +82,12 @@ fn last_places(
 }
 
 // The rest of a module behind its header: definitions, contents, the end record.
-fn rest_places(library: &[u8], edition: Edition, name: Part, definitions: usize) -> ModuleAt
-    ensures { λ r. ⌜ placesRead r ≡ restPlaces edition (now (library .entry)) name definitions ⌝ }
+fn rest_places(library: &[u8], name: Part, definitions: usize) -> ModuleAt
+    ensures { λ r. ⌜ placesRead r ≡ restPlaces One (now (library .entry)) name definitions ⌝ }
 {
-    match skip(library, edition, Entries::Definitions, definitions) {
-        End::At(contents) => match skip_sections(library, edition, contents) {
-            End::At(at) => last_places(library, edition, name, definitions, contents, at),
+    match skip(library, Entries::Definitions, definitions) {
+        End::At(contents) => match skip_sections(library, contents) {
+            End::At(at) => last_places(library, name, definitions, contents, at),
             End::Stop => ModuleAt::Stop,
             End::Refused(r) => ModuleAt::Refused(r),
         },
@@ -56,12 +96,12 @@ fn rest_places(library: &[u8], edition: Edition, name: Part, definitions: usize)
     }
 }
 
-// Where the parts of the module at a place stand, read in an edition, or why there is none.
-pub fn module_at(library: &[u8], edition: Edition, at: usize) -> ModuleAt
-    ensures { λ r. ⌜ placesRead r ≡ placesBy edition (now (library .entry)) at ⌝ }
+// Where the parts of the module at a place stand, or why there is none.
+pub fn module_at(library: &[u8], at: usize) -> ModuleAt
+    ensures { λ r. ⌜ placesRead r ≡ placesBy One (now (library .entry)) at ⌝ }
 {
-    match named_at(library, edition, 0x02, 2, at) {
-        Named::Read { name, next } => rest_places(library, edition, name, next),
+    match named_at(library, 0x02, 2, at) {
+        Named::Read { name, next } => rest_places(library, name, next),
         Named::Stop => ModuleAt::Stop,
         Named::Refused(r) => ModuleAt::Refused(r),
     }

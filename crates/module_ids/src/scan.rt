@@ -19,7 +19,6 @@ use library::items::contents::next_content;
 use library::items::decoded::next_fixup;
 use library::module::module_at;
 use omf51::Content;
-use omf51::Edition;
 
 // The first refusal among the fixups of a content, from a cursor on.
 fn fixups_fault(library: &[u8], table: &[u32], from: Cursor) -> Verdict
@@ -85,7 +84,7 @@ pub fn scan(library: &[u8], first: usize, table: &mut [u32]) -> Verdict
 {
     let mut at = first;
     loop {
-        let ModuleAt::Whole(places) = module_at(library, Edition::One, at) else {
+        let ModuleAt::Whole(places) = module_at(library, at) else {
             return Verdict::Passed;
         };
         fill(library, places.definitions, table);

@@ -15,7 +15,6 @@ use crate::stored::rules::is_own;
 use image::fixup::Rules;
 use library::ModuleAt;
 use library::module::module_at;
-use omf51::Edition;
 
 // The counts before anything is stored.
 fn none_yet() -> CollectCounts
@@ -57,7 +56,7 @@ pub fn store_all(
     let mut at = from;
     let mut c = none_yet();
     loop {
-        let ModuleAt::Whole(module) = module_at(library, Edition::One, at) else {
+        let ModuleAt::Whole(module) = module_at(library, at) else {
             return Stored::Rows(c);
         };
         let stored = store_module(

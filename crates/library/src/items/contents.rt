@@ -11,7 +11,6 @@ use crate::items::entries::start;
 use crate::repeat::section_end;
 use lent::part::Part;
 use omf51::Content;
-use omf51::Edition;
 use omf51::End;
 use omf51::Frame;
 use omf51::read_entry::id_size;
@@ -43,7 +42,7 @@ pub fn next_content(library: &[u8], from: usize) -> NextContent
 {
     let mut at = from;
     loop {
-        let End::At(next) = section_end(library, Edition::One, at) else {
+        let End::At(next) = section_end(library, at) else {
             return NextContent::Done;
         };
         let framed = record_at(library, Allowed::Contents, at);

@@ -27,36 +27,36 @@ abbrev μ-loop : tie.MeasureT-loop
 μ-loop library edition from at₀ count₀ at count = length library - at
 
 -- The ladder: places of the code that the answers cite, each as it is seen from a later place.
-abbrev at-entry : tie.After-module-at Inv-loop μ-loop → tie.Start Inv-loop μ-loop
+abbrev at-entry : tie.After-module-by Inv-loop μ-loop → tie.Start Inv-loop μ-loop
 at-entry c = c .before .before .before
 
-abbrev after-module-at : tie.After-known-told Inv-loop μ-loop → tie.After-module-at Inv-loop μ-loop
-after-module-at c = c .before .before .before
+abbrev after-module-by : tie.After-known-told Inv-loop μ-loop → tie.After-module-by Inv-loop μ-loop
+after-module-by c = c .before .before .before
 
 -- the module at the place, once it is known
-stands : (c : tie.After-module-at Inv-loop μ-loop) {r : ModuleAt} → c .module-at .result ≡ r → placesBy (at-entry c .args .edition) (now (at-entry c .args .library)) (c .before .loop .at) ≡ placesRead r
-stands c e = sym (c .module-at .ensures) ∙ ap placesRead e
+stands : (c : tie.After-module-by Inv-loop μ-loop) {r : ModuleAt} → c .module-by .result ≡ r → placesBy (at-entry c .args .edition) (now (at-entry c .args .library)) (c .before .loop .at) ≡ placesRead r
+stands c e = sym (c .module-by .ensures) ∙ ap placesRead e
 
 loop-holds : tie.Need-loop-holds Inv-loop μ-loop
 loop-holds c = let a = c .before .args in record { few = omega arith; same = count-all (many (a .library .now) (moduleBy (a .edition) (a .library .now)) (a .from)) }
 
 add-count : tie.Need-add-count Inv-loop μ-loop
 add-count c =
-    let module-at = after-module-at c in
-    let loop = module-at .before in
-    omega (arith, loop .loop .inv .few, module-moved (at-entry module-at .args .edition) (at-entry module-at .args .library .now) (loop .loop .at) (stands module-at (c .before .places .given .1)))
+    let module-by = after-module-by c in
+    let loop = module-by .before in
+    omega (arith, loop .loop .inv .few, module-moved (at-entry module-by .args .edition) (at-entry module-by .args .library .now) (loop .loop .at) (stands module-by (c .before .places .given .1)))
 
 loop-less : tie.Need-loop-less Inv-loop μ-loop
 loop-less c =
-    let module-at = after-module-at c in
-    omega (arith, module-moved (at-entry module-at .args .edition) (at-entry module-at .args .library .now) (module-at .before .loop .at) (stands module-at (c .before .places .given .1)))
+    let module-by = after-module-by c in
+    omega (arith, module-moved (at-entry module-by .args .edition) (at-entry module-by .args .library .now) (module-by .before .loop .at) (stands module-by (c .before .places .given .1)))
 
 loop-again : tie.Need-loop-again Inv-loop μ-loop
 loop-again c =
-    let module-at = after-module-at c in
-    let entry = at-entry module-at in
-    let l = module-at .before .loop in
-    let e = stands module-at (c .before .places .given .1) in
+    let module-by = after-module-by c in
+    let entry = at-entry module-by in
+    let l = module-by .before .loop in
+    let e = stands module-by (c .before .places .given .1) in
     record {
       few = omega (arith, l .inv .few, module-moved (entry .args .edition) (entry .args .library .now) (l .at) e);
       same = sym (count-turn (entry .args .edition) (entry .args .library .now) (l .at) (l .count) e) ∙ l .inv .same;

@@ -1,6 +1,7 @@
 -- `last_places`: the end record, and then its name beside the header's. Assumes nothing.
 use mathlib.Core.Path.{_≡_, sym, ap, _∙_}
 use denote.Ref.{now}
+use Rattle.omf51.specs.declared.Edition.the-variants.{One}
 use Rattle.omf51.specs.declared.entry.Named.{Named}
 use Rattle.omf51.specs.Ends.{nameRead}
 use Rattle.library.specs.Passes.{lastBy}
@@ -10,28 +11,28 @@ use Rattle.library.proofs.module.last_places.Statement.{statement}
 use Rattle.library.proofs.module.last_places.Tie as tie
 
 -- the end record, once it is known
-ended : (c : tie.After-named-at) {r : Named} → c .named-at .result ≡ r → lastBy (c .before .before .args .edition) (now (c .before .before .args .library)) (c .before .before .args .at) ≡ nameRead r
+ended : (c : tie.After-named-at) {r : Named} → c .named-at .result ≡ r → lastBy One (now (c .before .before .args .library)) (c .before .before .args .at) ≡ nameRead r
 ended c e = sym (c .named-at .ensures) ∙ ap nameRead e
 
 returns : tie.Need-returns
 returns c =
     let a = c .before .before .before .before .before .before .before .args in
-    sym (last-same (a .edition) (a .library .now) (a .name) (a .definitions) (a .contents) (a .at)
+    sym (last-same One (a .library .now) (a .name) (a .definitions) (a .contents) (a .at)
     (ended (c .before .before .before .before .before) (c .before .before .before .last .given .1)) (sym (c .before .same-name .ensures) ∙ c .if1 .taken))
 
 returns-2 : tie.Need-returns-2
 returns-2 c =
     let a = c .before .before .before .before .before .before .before .args in
-    sym (last-differs (a .edition) (a .library .now) (a .name) (a .definitions) (a .contents) (a .at)
+    sym (last-differs One (a .library .now) (a .name) (a .definitions) (a .contents) (a .at)
     (ended (c .before .before .before .before .before) (c .before .before .before .last .given .1)) (sym (c .before .same-name .ensures) ∙ c .if1 .left))
 
 returns-3 : tie.Need-returns-3
 returns-3 c = let a = c .before .before .before .before .args in sym
-    (last-known (a .edition) (a .library .now) (a .name) (a .definitions) (a .contents) (a .at) (ended (c .before .before) (c .enum-told .given .1)))
+    (last-known One (a .library .now) (a .name) (a .definitions) (a .contents) (a .at) (ended (c .before .before) (c .enum-told .given .1)))
 
 returns-4 : tie.Need-returns-4
 returns-4 c = let a = c .before .before .before .before .before .args in sym
-    (last-known (a .edition) (a .library .now) (a .name) (a .definitions) (a .contents) (a .at) (ended (c .before .before .before) (c .before .r .given .1)))
+    (last-known One (a .library .now) (a .name) (a .definitions) (a .contents) (a .at) (ended (c .before .before .before) (c .before .r .given .1)))
 
 pub last-places-spec : {M : Type 1} → statement M
 last-places-spec =

@@ -1,6 +1,7 @@
 -- `rest_places`: definitions, contents, the end, each from where the one before ended. Assumes nothing.
 use mathlib.Core.Path.{_≡_, sym, _∙_}
 use denote.Ref.{now}
+use Rattle.omf51.specs.declared.Edition.the-variants.{One}
 use Rattle.omf51.specs.declared.End.{End}
 use Rattle.omf51.specs.declared.entry.Entries.the-variants.{Definitions}
 use Rattle.library.specs.Passes.{allEndBy}
@@ -14,7 +15,7 @@ abbrev after-skip : tie.After-skip-sections → tie.After-skip
 after-skip c = c .before .before .before .before
 
 -- where the definitions end, once it is known
-defined : (c : tie.After-skip) {e : End} → c .skip .result ≡ e → allEndBy (c .before .before .args .edition) Definitions (now (c .before .before .args .library)) (c .before .before .args .definitions) ≡ e
+defined : (c : tie.After-skip) {e : End} → c .skip .result ≡ e → allEndBy One Definitions (now (c .before .before .args .library)) (c .before .before .args .definitions) ≡ e
 defined c e = sym (c .skip .ensures) ∙ e
 
 returns : tie.Need-returns
@@ -22,28 +23,28 @@ returns c =
     let skip = after-skip (c .before .before .before .before) in
     let a = skip .before .before .args in
     c .last-places .ensures
-    ∙ sym (contents-known (a .edition) (a .library .now) (a .name) (a .definitions)
+    ∙ sym (contents-known One (a .library .now) (a .name) (a .definitions)
     (defined skip (c .before .before .before .before .before .before .contents .given .1)) (sym (c .before .before .before .before .skip-sections .ensures) ∙ c .before .before .at .given .1))
 
 returns-2 : tie.Need-returns-2
 returns-2 c =
     let skip = after-skip (c .before .before) in
     let a = skip .before .before .args in
-    sym (contents-known (a .edition) (a .library .now) (a .name) (a .definitions) (defined skip (c .before .before .before .before .contents .given .1))
+    sym (contents-known One (a .library .now) (a .name) (a .definitions) (defined skip (c .before .before .before .before .contents .given .1))
     (sym (c .before .before .skip-sections .ensures) ∙ c .enum-told .given .1))
 
 returns-3 : tie.Need-returns-3
 returns-3 c =
     let skip = after-skip (c .before .before .before) in
     let a = skip .before .before .args in
-    sym (contents-known (a .edition) (a .library .now) (a .name) (a .definitions) (defined skip (c .before .before .before .before .before .contents .given .1))
+    sym (contents-known One (a .library .now) (a .name) (a .definitions) (defined skip (c .before .before .before .before .before .contents .given .1))
     (sym (c .before .before .before .skip-sections .ensures) ∙ c .before .r .given .1))
 
 returns-4 : tie.Need-returns-4
-returns-4 c = let a = c .before .before .before .before .args in sym (rest-known (a .edition) (a .library .now) (a .name) (a .definitions) (defined (c .before .before) (c .enum-told2 .given .1)))
+returns-4 c = let a = c .before .before .before .before .args in sym (rest-known One (a .library .now) (a .name) (a .definitions) (defined (c .before .before) (c .enum-told2 .given .1)))
 
 returns-5 : tie.Need-returns-5
-returns-5 c = let a = c .before .before .before .before .before .args in sym (rest-known (a .edition) (a .library .now) (a .name) (a .definitions) (defined (c .before .before .before) (c .before .r2 .given .1)))
+returns-5 c = let a = c .before .before .before .before .before .args in sym (rest-known One (a .library .now) (a .name) (a .definitions) (defined (c .before .before .before) (c .before .r2 .given .1)))
 
 pub rest-places-spec : {M : Type 1} → statement M
 rest-places-spec =

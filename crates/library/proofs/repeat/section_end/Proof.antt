@@ -2,9 +2,10 @@
 use mathlib.Core.Path.{_≡_, sym, ap, _∙_}
 use native.Mathlib.Omega.{arith}
 use denote.Ref.{now}
+use Rattle.omf51.specs.declared.Edition.the-variants.{One}
 use Rattle.omf51.specs.declared.record.Framed.{Framed}
 use Rattle.omf51.specs.Record.{expectedBy}
-use Rattle.omf51.specs.RecordLaws.{read-by}
+use Rattle.omf51.specs.RecordLaws.{read-by, first-expected}
 use Rattle.omf51.specs.Module.{fills, isIdle, sectionsBy}
 use Rattle.omf51.specs.Expected.{frameRead}
 use Rattle.omf51.specs.Ends.{endOf}
@@ -14,27 +15,27 @@ use Rattle.library.proofs.repeat.section_end.Statement.{statement}
 use Rattle.library.proofs.repeat.section_end.Tie as tie
 
 -- The ladder: places of the code that the answers cite, each as it is seen from a later place.
-abbrev at-entry : tie.After-record-by → tie.Start
+abbrev at-entry : tie.After-record-at → tie.Start
 at-entry c = c .before .before .before .before .before
 
 -- the record at the place, once it is known
-framed : (c : tie.After-record-by) {r : Framed} → c .record-by .result ≡ r → expectedBy (at-entry c .args .edition) (now (at-entry c .args .library)) isIdle (at-entry c .args .at) ≡ frameRead r
-framed c e = sym (c .record-by .ensures) ∙ ap frameRead e
+framed : (c : tie.After-record-at) {r : Framed} → c .record-at .result ≡ r → expectedBy One (now (at-entry c .args .library)) isIdle (at-entry c .args .at) ≡ frameRead r
+framed c e = let a = at-entry c .args in first-expected (a .library .now) isIdle (a .at) ∙ sym (c .record-at .ensures) ∙ ap frameRead e
 
-idle : (c : tie.After-record-by) {r : Framed} → c .record-by .result ≡ r → endOf (sectionsBy (at-entry c .args .edition) (now (at-entry c .args .library)) (at-entry c .args .at)) ≡ endOf (frameRead r)
+idle : (c : tie.After-record-at) {r : Framed} → c .record-at .result ≡ r → endOf (sectionsBy One (now (at-entry c .args .library)) (at-entry c .args .at)) ≡ endOf (frameRead r)
 idle c e =
     let a = at-entry c .args in
-    section-idle (a .edition) (a .library .now) (a .at) (ap fills (sym (c .before .before .before .byte-at .ensures)) ∙ sym (c .before .before .fills .ensures) ∙ c .before .if1 .left) (framed c e)
+    section-idle One (a .library .now) (a .at) (ap fills (sym (c .before .before .before .byte-at .ensures)) ∙ sym (c .before .before .fills .ensures) ∙ c .before .if1 .left) (framed c e)
 
 returns : tie.Need-returns
 returns c =
     let a = c .before .before .before .before .before .args in
-    c .content-end .ensures ∙ sym (section-content (a .edition) (a .library .now) (a .at)
+    c .content-end .ensures ∙ sym (section-content One (a .library .now) (a .at)
     (ap fills (sym (c .before .before .before .byte-at .ensures)) ∙ sym (c .before .before .fills .ensures) ∙ c .before .if1 .taken))
 
-add-t11 : tie.Need-add-t11
-add-t11 c = let a = at-entry (c .before .before .before .before) .args in omega
-    (arith, read-by (a .library .now) isIdle (a .at) (a .edition) (framed (c .before .before .before .before) (c .before .before .f .given .1)))
+add-t10 : tie.Need-add-t10
+add-t10 c = let a = at-entry (c .before .before .before .before) .args in omega
+    (arith, read-by (a .library .now) isIdle (a .at) One (framed (c .before .before .before .before) (c .before .before .f .given .1)))
 
 returns-2 : tie.Need-returns-2
 returns-2 c = sym (idle (c .before .before .before .before) (c .before .before .f .given .1))
@@ -55,7 +56,7 @@ section-end-spec =
     returns
     (λ c κs. search needs)
     (λ c. search needs)
-    add-t11
+    add-t10
     (λ c. search needs)
     (λ c. search needs)
     returns-2

@@ -6,8 +6,8 @@ use lib.ListN.{length}
 use Rattle.omf51.specs.Ends.{restEnd}
 use Rattle.library.specs.BodyLaws.{rest-turn, entry-moved}
 use borrow.Author.Needs.{needs}
-use Rattle.library.proofs.repeat.rest_end.Statement.{statement}
-use Rattle.library.proofs.repeat.rest_end.Tie as tie
+use Rattle.library.proofs.sound.rest_end.Statement.{statement}
+use Rattle.library.proofs.sound.rest_end.Tie as tie
 
 abbrev Inv-loop : tie.InvT-loop
 Inv-loop library what f from at₀ at = restEnd what library f at ≡ restEnd what library f from

@@ -1,8 +1,8 @@
 -- `used_end` by where the entries end. Assumes nothing.
 use mathlib.Core.Path.{sym, _∙_}
 use borrow.Author.Needs.{needs}
-use Rattle.library.proofs.repeat.used_end.Statement.{statement}
-use Rattle.library.proofs.repeat.used_end.Tie as tie
+use Rattle.library.proofs.sound.used_end.Statement.{statement}
+use Rattle.library.proofs.sound.used_end.Tie as tie
 
 returns : tie.Need-returns
 returns c = rw (c .before .before .before .last .given .1, sym (c .before .leaves-over .ensures) ∙ c .if1 .taken)

@@ -2,8 +2,8 @@
 use mathlib.Core.Path.{sym, _∙_}
 use Rattle.library.specs.BodyLaws.{entries-known}
 use borrow.Author.Needs.{needs}
-use Rattle.library.proofs.repeat.entries_end.Statement.{statement}
-use Rattle.library.proofs.repeat.entries_end.Tie as tie
+use Rattle.library.proofs.sound.entries_end.Statement.{statement}
+use Rattle.library.proofs.sound.entries_end.Tie as tie
 
 returns : tie.Need-returns
 returns c =
