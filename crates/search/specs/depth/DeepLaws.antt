@@ -112,12 +112,6 @@ module _ (cells : List ℕ) (rules : Rules) (segments : List ℕ) (n : ℕ) (ref
         abbrev answer : Bool → Bool → Failed
         answer b c = failed k (if b then (if c then none else some Why.NotHeld) else some Why.NoMatch) Failed.Nothing
 
-        in-both : (b c : Bool) → found ≡ b → ((symbols : List ℕ) → answer true c ≡ answer true (holdsTo cells rules (In symbols) below (segmentOf (In symbols) number) t)) → Fails (answer b c)
-        in-both true c f so = by-goal (Goal.Segment number) is (answer true c) (λ symbols.
-            so symbols ∙ ap (λ b. answer b (holdsTo cells rules (In symbols) below (segmentOf (In symbols) number) t)) (sym f ∙ h references symbols))
-        in-both false c f so = by-goal (Goal.Segment number) is (answer false c) (λ symbols.
-            ap (λ b. answer b (holdsTo cells rules (In symbols) below (segmentOf (In symbols) number) t)) (sym f ∙ h references symbols))
-
         pub at-unmatched : not found ≡ true → Fails (Failed.Reference k Why.NoMatch)
         at-unmatched f = go found refl f
           where
@@ -165,3 +159,8 @@ module _ (cells : List ℕ) (rules : Rules) (segments : List ℕ) (n : ℕ) (ref
         go : (b : Bool) → holdsTo cells rules (In symbols) depth g position ≡ b → true ≡ not (holdsTo cells rules (In symbols) depth g position)
         go true e = absurd (false≢true (sym fails ∙ holds-every-less cells rules (In symbols) depth 1 l g position e))
         go false e = sym (ap not e)
+
+    pub kept-once : (depth : ℕ) → depth ≡ 1 → (q : Failed) → FirstToFail cells rules position segments n references part bytes masks q → (out : Bool) → out ≡ not (isNothing q) → out ≡ false
+        → KeepsOut cells rules segments n references bytes masks depth position part false
+    kept-once depth e q h out o is symbols g refers =
+        sym is ∙ kept-to 1 q (once-to q h) out o symbols g refers ∙ ap (λ d. not (holdsTo cells rules (In symbols) d g position)) (sym e)
