@@ -41,12 +41,7 @@ pub fn answer_at(m: &[u64], i: usize) -> Answered
 pub fn put_answer(m: &mut [u64], i: usize, row: Answered)
     ensures { λ _. ⌜ now (m .exit) ≡ putRow 4 (now (m .entry)) i (answerCells row) ⌝ }
 {
-    let cells = [
-        row.number as u64,
-        row.at,
-        row.depth,
-        rows::flag(row.holds),
-    ];
+    let cells = [row.number as u64, row.at, row.depth, rows::flag(row.holds)];
     rows::put(m, i, &cells);
 }
 

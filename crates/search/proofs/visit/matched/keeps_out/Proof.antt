@@ -15,33 +15,30 @@ at-entry c = c .before .before .before .before .before .before .before .before .
 
 returns : tie.Need-returns
 returns c =
-    let start = c .before .before .before .before .before .before .before .before in
-    let a = start .args in
-    (
-      (λ h. kept-none (view (a .image .now) (stretchesIn (a .s .now))) (a .rules) (a .segments .now) (a .n) (a .references .now) (a .bytes .now) (a .masks .now) (a .at) (a .part) (a .depth) (c .if1 .taken)),
-      start .pre,
+    let entry = c .before .before .before .before .before .before .before .before in
+    let a = entry .args in (
+      (λ h. kept-none (view (a .image .now) (stretchesIn (a .s .now))) (a .rules) (a .segments .now) (a .n) (a .references .now) (a .bytes .now)
+          (a .masks .now) (a .at) (a .part) (a .depth) (c .if1 .taken)),
+      entry .pre,
     )
 
 returns-2 : tie.Need-returns-2
 returns-2 c =
-    let is-failed = c .before in
-    let start = at-entry is-failed in
-    let a = start .args in
-    (
+    let entry = at-entry (c .before) in
+    let a = entry .args in (
       (λ h. kept-early (view (a .image .now) (stretchesIn (a .s .now))) (a .rules) (a .segments .now) (a .n) (a .references .now) (a .bytes .now) (a .masks .now) (a .at) (a .part) (a .depth)
-      (pos-of-ne-zero (is-failed .before .if1 .left)) (a .failed) h (is-failed .is-failed .result) (is-failed .is-failed .ensures) (c .if2 .taken)),
-      start .pre,
+          (pos-of-ne-zero (c .before .before .if1 .left)) (a .failed) h (c .before .is-failed .result) (c .before .is-failed .ensures) (c .if2 .taken)),
+      entry .pre,
     )
 
 returns-3 : tie.Need-returns-3
 returns-3 c =
     let is-failed = c .before .before in
-    let start = at-entry is-failed in
-    let a = start .args in
-    (
+    let entry = at-entry is-failed in
+    let a = entry .args in (
       (λ h. kept-once (view (a .image .now) (stretchesIn (a .s .now))) (a .rules) (a .segments .now) (a .n) (a .references .now) (a .bytes .now) (a .masks .now) (a .at) (a .part) (a .depth)
-      (c .if3 .taken) (a .failed) h (is-failed .is-failed .result) (is-failed .is-failed .ensures) (c .before .if2 .left)),
-      start .pre,
+          (c .if3 .taken) (a .failed) h (is-failed .is-failed .result) (is-failed .is-failed .ensures) (c .before .if2 .left)),
+      entry .pre,
     )
 
 failed-among-requires : tie.Need-failed-among-requires
@@ -49,15 +46,13 @@ failed-among-requires c κs = at-entry (c .before .before .before) .pre
 
 returns-4 : tie.Need-returns-4
 returns-4 c =
-    let among = c .before .before .before in
-    let else3 = among .before .before in
-    let a = at-entry (else3 .before .before) .args in
-    let seen = view (a .image .now) (stretchesIn (a .s .now)) in
-    (
-      (λ h. kept-to seen (a .rules) (a .segments .now) (a .n) (a .references .now) (a .bytes .now) (a .masks .now) (a .at) (a .part) (a .depth) (among .failed-among .result)
-      (among-to seen (a .rules) (a .segments .now) (a .n) (a .references .now) (a .bytes .now) (a .masks .now) (a .depth - 1) (a .depth) (a .at) (a .part) (among .failed-among .result)
-      (omega (arith, pos-of-ne-zero (else3 .before .before .before .if1 .left))) (among .failed-among .ensures .0)) (c .is-failed2 .result) (c .is-failed2 .ensures)),
-      among .failed-among .ensures .1,
+    let failed-among = c .before .before .before in
+    let a = at-entry (failed-among .before .before .before .before) .args in
+    let seen = view (a .image .now) (stretchesIn (a .s .now)) in (
+      (λ h. kept-to seen (a .rules) (a .segments .now) (a .n) (a .references .now) (a .bytes .now) (a .masks .now) (a .at) (a .part) (a .depth) (failed-among .failed-among .result)
+          (among-to seen (a .rules) (a .segments .now) (a .n) (a .references .now) (a .bytes .now) (a .masks .now) (a .depth - 1) (a .depth) (a .at) (a .part) (failed-among .failed-among .result)
+          (omega (arith, pos-of-ne-zero (failed-among .before .before .before .before .before .if1 .left))) (failed-among .failed-among .ensures .0)) (c .is-failed2 .result) (c .is-failed2 .ensures)),
+      failed-among .failed-among .ensures .1,
     )
 
 pub keeps-out-spec : {M : Type 1} → statement M
