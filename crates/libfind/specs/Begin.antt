@@ -6,7 +6,7 @@ use mathlib.Core.Option.{Option, none, some}
 use lib.Dec.{ltb}
 use lib.ListN.{length}
 use Rattle.lent.specs.declared.refusal.Refusal.{Refusal}
-use Rattle.lent.specs.declared.refusal.Refusal.the-variants.{RuleSet, OtherEdition, ImageTooLong, LibraryTooLong, TooManyStretches, StretchPastEnd}
+use Rattle.lent.specs.declared.refusal.Refusal.the-variants.{RuleSet, OtherEdition, TooDeep, ImageTooLong, LibraryTooLong, TooManyStretches, StretchPastEnd}
 use Rattle.lent.specs.Choice.{when, orElse, leading}
 use Rattle.image.specs.Cover.{tooManyStretches, passesEnd}
 use Rattle.omf51.specs.Module.{moduleAt}
@@ -14,19 +14,20 @@ use Rattle.omf51.specs.File.{fileRefusal, modulesIn}
 use Rattle.library.specs.Gathered.{itemsAt}
 use Rattle.library.specs.Reading.{firstAt}
 use Rattle.run.specs.declared.Settings.{Settings}
-use Rattle.run.specs.Run.{libraryRead, otherEdition, cover}
+use Rattle.run.specs.Run.{libraryRead, otherEdition, tooDeep, cover}
 use Rattle.run.specs.Given.{Accepted}
 use Rattle.libfind.specs.declared.begin.Checked.{Checked}
 use Rattle.libfind.specs.declared.begin.Checked.the-variants as Checked
 use Rattle.libfind.specs.declared.begin.Beginning.{Beginning}
 use Rattle.libfind.specs.declared.begin.Beginning.the-variants as Beginning
 
--- the first of refusals 1, 30, 2, 3, 16 and 4 that applies, by the lengths of the image and of the library
+-- the first of refusals 1, 30, 17, 2, 3, 16 and 4 that applies, by the lengths of the image and of the library
 unfoldable pub settingsRefusal : ℕ → ℕ → Settings → Option Refusal
 settingsRefusal image library s =
     leading
     (when (ltb 1 (s .rules)) RuleSet
     ∷ when (otherEdition (s .edition)) OtherEdition
+    ∷ when (tooDeep (s .depth)) TooDeep
     ∷ when (ltb 65536 image) ImageTooLong
     ∷ when (ltb 1048576 library) LibraryTooLong
     ∷ when (tooManyStretches (s .withheld)) TooManyStretches

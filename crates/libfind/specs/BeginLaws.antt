@@ -11,7 +11,7 @@ use borrow.Author.Tests.{ltb-true, ltb-false, lt-ltb, le-ltb}
 use lib.Dec.{ltb}
 use lib.ListN.{length}
 use Rattle.lent.specs.declared.refusal.Refusal.{Refusal}
-use Rattle.lent.specs.declared.refusal.Refusal.the-variants.{RuleSet, OtherEdition, ImageTooLong, LibraryTooLong, TooManyStretches, StretchPastEnd}
+use Rattle.lent.specs.declared.refusal.Refusal.the-variants.{RuleSet, OtherEdition, TooDeep, ImageTooLong, LibraryTooLong, TooManyStretches, StretchPastEnd}
 use Rattle.lent.specs.Choice.{when, orElse, leading}
 use Rattle.lent.specs.FirstOf.{none≢some}
 use Rattle.image.specs.Cover.{passesEnd}
@@ -33,7 +33,7 @@ use Rattle.libfind.specs.declared.begin.Beginning.{Beginning}
 use Rattle.libfind.specs.declared.begin.Beginning.the-variants as Beginning
 use Rattle.libfind.specs.Begin.{settingsRefusal, checked, beginsAt, beginning, Begun}
 
--- 1, 30, 2, 3, 16 and 4, one after another
+-- 1, 30, 17, 2, 3, 16 and 4, one after another
 module _ (image library : ℕ) (s : Settings) where
   pub refused-1 : 1 < s .rules → Checked.Refused RuleSet ≡ checked (settingsRefusal image library s)
   unfolding settingsRefusal leading
@@ -45,40 +45,46 @@ module _ (image library : ℕ) (s : Settings) where
     refused-30 h = rw (le-ltb 1 (s .rules) a, h) refl
 
     module _ (e : otherEdition (s .edition) ≡ false) where
-      pub refused-2 : 65536 < image → Checked.Refused ImageTooLong ≡ checked (settingsRefusal image library s)
+      pub refused-17 : 4 < s .depth → Checked.Refused TooDeep ≡ checked (settingsRefusal image library s)
       unfolding settingsRefusal leading
-      refused-2 h = rw (le-ltb 1 (s .rules) a, e, lt-ltb 65536 image h) refl
+      refused-17 h = rw (le-ltb 1 (s .rules) a, e, lt-ltb 4 (s .depth) h) refl
 
-      module _ (b : image ≤ 65536) where
-        pub refused-3 : 1048576 < library → Checked.Refused LibraryTooLong ≡ checked (settingsRefusal image library s)
+      module _ (f : s .depth ≤ 4) where
+        pub refused-2 : 65536 < image → Checked.Refused ImageTooLong ≡ checked (settingsRefusal image library s)
         unfolding settingsRefusal leading
-        refused-3 h = rw (le-ltb 1 (s .rules) a, e, le-ltb 65536 image b, lt-ltb 1048576 library h) refl
+        refused-2 h = rw (le-ltb 1 (s .rules) a, e, le-ltb 4 (s .depth) f, lt-ltb 65536 image h) refl
 
-        module _ (c : library ≤ 1048576) where
-          pub refused-16 : 16 < s .withheld .count → Checked.Refused TooManyStretches ≡ checked (settingsRefusal image library s)
+        module _ (b : image ≤ 65536) where
+          pub refused-3 : 1048576 < library → Checked.Refused LibraryTooLong ≡ checked (settingsRefusal image library s)
           unfolding settingsRefusal leading
-          refused-16 h = rw (le-ltb 1 (s .rules) a, e, le-ltb 65536 image b, le-ltb 1048576 library c, lt-ltb 16 (s .withheld .count) h) refl
+          refused-3 h = rw (le-ltb 1 (s .rules) a, e, le-ltb 4 (s .depth) f, le-ltb 65536 image b, lt-ltb 1048576 library h) refl
 
-          module _ (d : s .withheld .count ≤ 16) where
-            pub refused-4 : passesEnd image (cover s) ≡ true → Checked.Refused StretchPastEnd ≡ checked (settingsRefusal image library s)
+          module _ (c : library ≤ 1048576) where
+            pub refused-16 : 16 < s .withheld .count → Checked.Refused TooManyStretches ≡ checked (settingsRefusal image library s)
             unfolding settingsRefusal leading
-            refused-4 h = rw (le-ltb 1 (s .rules) a, e, le-ltb 65536 image b, le-ltb 1048576 library c, le-ltb 16 (s .withheld .count) d, h) refl
+            refused-16 h = rw (le-ltb 1 (s .rules) a, e, le-ltb 4 (s .depth) f, le-ltb 65536 image b, le-ltb 1048576 library c, lt-ltb 16 (s .withheld .count) h) refl
 
-            pub is-accepted : passesEnd image (cover s) ≡ false → Checked.Accepted ≡ checked (settingsRefusal image library s)
-            unfolding settingsRefusal leading
-            is-accepted h = rw (le-ltb 1 (s .rules) a, e, le-ltb 65536 image b, le-ltb 1048576 library c, le-ltb 16 (s .withheld .count) d, h) refl
+            module _ (d : s .withheld .count ≤ 16) where
+              pub refused-4 : passesEnd image (cover s) ≡ true → Checked.Refused StretchPastEnd ≡ checked (settingsRefusal image library s)
+              unfolding settingsRefusal leading
+              refused-4 h = rw (le-ltb 1 (s .rules) a, e, le-ltb 4 (s .depth) f, le-ltb 65536 image b, le-ltb 1048576 library c, le-ltb 16 (s .withheld .count) d, h) refl
 
-none-of : (a e b c f d : Bool)
-    → leading (when a RuleSet ∷ when e OtherEdition ∷ when b ImageTooLong ∷ when c LibraryTooLong ∷ when f TooManyStretches ∷ when d StretchPastEnd ∷ []) ≡ none
-    → (a ≡ false) × (e ≡ false) × (b ≡ false) × (c ≡ false) × (f ≡ false) × (d ≡ false)
+              pub is-accepted : passesEnd image (cover s) ≡ false → Checked.Accepted ≡ checked (settingsRefusal image library s)
+              unfolding settingsRefusal leading
+              is-accepted h = rw (le-ltb 1 (s .rules) a, e, le-ltb 4 (s .depth) f, le-ltb 65536 image b, le-ltb 1048576 library c, le-ltb 16 (s .withheld .count) d, h) refl
+
+none-of : (a e g b c f d : Bool)
+    → leading (when a RuleSet ∷ when e OtherEdition ∷ when g TooDeep ∷ when b ImageTooLong ∷ when c LibraryTooLong ∷ when f TooManyStretches ∷ when d StretchPastEnd ∷ []) ≡ none
+    → (a ≡ false) × (e ≡ false) × (g ≡ false) × (b ≡ false) × (c ≡ false) × (f ≡ false) × (d ≡ false)
 unfolding leading
-none-of false false false false false false q = (refl, refl, refl, refl, refl, refl)
-none-of false false false false false true q = absurd (none≢some (sym q))
-none-of false false false false true d q = absurd (none≢some (sym q))
-none-of false false false true f d q = absurd (none≢some (sym q))
-none-of false false true c f d q = absurd (none≢some (sym q))
-none-of false true b c f d q = absurd (none≢some (sym q))
-none-of true e b c f d q = absurd (none≢some (sym q))
+none-of false false false false false false false q = (refl, refl, refl, refl, refl, refl, refl)
+none-of false false false false false false true q = absurd (none≢some (sym q))
+none-of false false false false false true d q = absurd (none≢some (sym q))
+none-of false false false false true f d q = absurd (none≢some (sym q))
+none-of false false false true c f d q = absurd (none≢some (sym q))
+none-of false false true b c f d q = absurd (none≢some (sym q))
+none-of false true g b c f d q = absurd (none≢some (sym q))
+none-of true e g b c f d q = absurd (none≢some (sym q))
 
 -- a number that passes the test is 1 or 2
 neither : (a b : Bool) → (a || b) ≡ false → (a ≡ false) × (b ≡ false)
@@ -116,14 +122,15 @@ module _ (image library : List ℕ) (s : Settings) where
   accepted : settings ≡ none → Accepted image library s
   unfolding settingsRefusal
   accepted e =
-      let n = none-of _ _ _ _ _ _ e in
+      let n = none-of _ _ _ _ _ _ _ e in
       record {
         rule-set = ltb-false 1 (s .rules) (n .0);
         edition = is-edition (s .edition) (n .1);
-        image-fits = ltb-false 65536 (length image) (n .2);
-        library-fits = ltb-false 1048576 (length library) (n .3);
-        few = ltb-false 16 (s .withheld .count) (n .4);
-        stretches-fit = all-fit (length image) (cover s) .0 (n .5);
+        shallow = ltb-false 4 (s .depth) (n .2);
+        image-fits = ltb-false 65536 (length image) (n .3);
+        library-fits = ltb-false 1048576 (length library) (n .4);
+        few = ltb-false 16 (s .withheld .count) (n .5);
+        stretches-fit = all-fit (length image) (cover s) .0 (n .6);
       }
 
   fine : (o : Option Refusal) → Checked.Accepted ≡ checked o → o ≡ none

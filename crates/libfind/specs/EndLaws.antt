@@ -10,7 +10,7 @@ use borrow.Author.Tests.{le-ltb, leb-true}
 use lib.Dec.{leb, ltb}
 use lib.ListN.{length}
 use Rattle.lent.specs.declared.refusal.Refusal.{Refusal}
-use Rattle.lent.specs.declared.refusal.Refusal.the-variants.{RuleSet, OtherEdition, ImageTooLong, LibraryTooLong, TooManyStretches, StretchPastEnd, TooFewRows}
+use Rattle.lent.specs.declared.refusal.Refusal.the-variants.{RuleSet, OtherEdition, TooDeep, ImageTooLong, LibraryTooLong, TooManyStretches, StretchPastEnd, TooFewRows}
 use Rattle.lent.specs.Choice.{when, orElse, leading}
 use Rattle.lent.specs.ChoiceLaws.{both, either}
 use Rattle.lent.specs.FirstOf.{none≢some}
@@ -40,7 +40,7 @@ use Rattle.search.specs.Outcome.{searchZeroed as zeroedSearch, searchFilled as 
 use Rattle.listing.specs.Outcome.{Yield as Findings, yields, refusalOf as refusalOfFinding, findOutcomeOf as findingOf, findOutcome}
 use Rattle.run.specs.declared.Settings.{Settings}
 use Rattle.run.specs.declared.Answer.the-variants.{Done, Refused}
-use Rattle.run.specs.Run.{Lent, lentLists, Yield, askedOf, libraryRead, otherEdition, stages, counted, collectOver, searchOver, listOver, refusals, zeroed, filledWith, outcomeOf, runSeen, run, cover}
+use Rattle.run.specs.Run.{Lent, lentLists, Yield, askedOf, libraryRead, otherEdition, tooDeep, stages, counted, collectOver, searchOver, listOver, refusals, zeroed, filledWith, outcomeOf, runSeen, run, cover}
 use Rattle.run.specs.StageLaws.{reading-stage}
 use Rattle.libfind.specs.Begin.{settingsRefusal, Begun}
 use Rattle.libfind.specs.BeginLaws.{known-edition}
@@ -106,7 +106,7 @@ module _ (image library : List ℕ) (s : Settings) (lent : Lent) where
   writes-nothing : {r : Refusal} → early ≡ some r → zeroes r ≡ false
   unfolding settingsRefusal leading
   writes-nothing {r} q =
-      go (ltb 1 (s .rules)) (otherEdition (s .edition)) (ltb 65536 (length image)) (ltb 1048576 (length library)) (tooManyStretches (s .withheld)) (passesEnd (length image) (cover s))
+      go (ltb 1 (s .rules)) (otherEdition (s .edition)) (tooDeep (s .depth)) (ltb 65536 (length image)) (ltb 1048576 (length library)) (tooManyStretches (s .withheld)) (passesEnd (length image) (cover s))
       (fileRefusal (libraryRead library s)) (λ x h. apart x (reading-stage (editionOf (s .edition)) library .told x h)) q
     where
       same : {x : Refusal} → zeroes x ≡ false → some x ≡ some r → zeroes r ≡ false
@@ -119,16 +119,17 @@ module _ (image library : List ℕ) (s : Settings) (lent : Lent) where
           between (inl l) = zeroes-not x (inl (omega (arith, leb-true (refusalNumber x) 8 (both (leb 5 (refusalNumber x)) (leb (refusalNumber x) 8) l .1))))
           between (inr l) = zeroes-not x (inr (omega (arith, leb-true 14 (refusalNumber x) (both (leb 14 (refusalNumber x)) (leb (refusalNumber x) 15) l .0))))
 
-      go : (a e b c f d : Bool) (o : Option Refusal) → ((x : Refusal) → o ≡ some x → zeroes x ≡ false)
-          → orElse (leading (when a RuleSet ∷ when e OtherEdition ∷ when b ImageTooLong ∷ when c LibraryTooLong ∷ when f TooManyStretches ∷ when d StretchPastEnd ∷ [])) o ≡ some r
+      go : (a e g b c f d : Bool) (o : Option Refusal) → ((x : Refusal) → o ≡ some x → zeroes x ≡ false)
+          → orElse (leading (when a RuleSet ∷ when e OtherEdition ∷ when g TooDeep ∷ when b ImageTooLong ∷ when c LibraryTooLong ∷ when f TooManyStretches ∷ when d StretchPastEnd ∷ [])) o ≡ some r
           → zeroes r ≡ false
-      go true e b c f d o h q = same refl q
-      go false true b c f d o h q = same refl q
-      go false false true c f d o h q = same refl q
-      go false false false true f d o h q = same refl q
-      go false false false false true d o h q = same refl q
-      go false false false false false true o h q = same refl q
-      go false false false false false false o h q = h r q
+      go true e g b c f d o h q = same refl q
+      go false true g b c f d o h q = same refl q
+      go false false true b c f d o h q = same refl q
+      go false false false true c f d o h q = same refl q
+      go false false false false true f d o h q = same refl q
+      go false false false false false true d o h q = same refl q
+      go false false false false false false true o h q = same refl q
+      go false false false false false false false o h q = h r q
 
   pub refused-early : {r : Refusal} → early ≡ some r → record { answer = Refused r; left = lent } ≡ run image library s lent
   refused-early {r} e =
@@ -143,6 +144,7 @@ module _ (image library : List ℕ) (s : Settings) (lent : Lent) where
         rw (
           le-ltb 1 (s .rules) (a .rule-set),
           known-edition (s .edition) (a .edition),
+          le-ltb 4 (s .depth) (a .shallow),
           le-ltb 65536 (length image) (a .image-fits),
           le-ltb 1048576 (length library) (a .library-fits),
           le-ltb 16 (s .withheld .count) (a .few),

@@ -13,7 +13,10 @@ use library::file::read;
 use omf51::by_edition::edition_of;
 use run::Settings;
 
-// Whether the settings and lengths are accepted, or the first of refusals 1, 30, 2, 3, 16 and 4 that applies.
+// The greatest depth to which references are checked.
+const DEEPEST: u64 = 4;
+
+// Whether the settings and lengths are accepted, or the first of refusals 1, 30, 17, 2, 3, 16 and 4 that applies.
 pub enum Checked {
     Accepted,
     Refused(Refusal),
@@ -44,6 +47,9 @@ fn check(image: usize, library: usize, settings: Settings) -> Checked
     }
     if is_other_edition(settings.edition) {
         return Checked::Refused(Refusal::OtherEdition);
+    }
+    if DEEPEST < settings.depth {
+        return Checked::Refused(Refusal::TooDeep);
     }
     if LONGEST_IMAGE < image {
         return Checked::Refused(Refusal::ImageTooLong);

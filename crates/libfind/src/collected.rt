@@ -194,7 +194,7 @@ fn asked_of(settings: Settings) -> Asked
 {
     Asked {
         rules: rules_of(settings.rules),
-        check: settings.check,
+        depth: settings.depth,
         minimum: settings.minimum,
     }
 }

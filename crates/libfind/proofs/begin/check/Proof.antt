@@ -1,4 +1,4 @@
--- `check`: 1, 30, 2, 3, 16 and 4, in their order. Assumes nothing.
+-- `check`: 1, 30, 17, 2, 3, 16 and 4, in their order. Assumes nothing.
 use Prim.Native.Nat.{_≤_}
 use mathlib.Core.Path.{_≡_, sym, ap, _∙_}
 use mathlib.Core.Bool.{false}
@@ -6,7 +6,7 @@ use native.Mathlib.Omega.{arith}
 use Rattle.image.specs.View.{stretchesIn}
 use Rattle.image.specs.Cover.{passesEnd}
 use Rattle.run.specs.Run.{otherEdition, cover}
-use Rattle.libfind.specs.BeginLaws.{refused-1, refused-30, refused-2, refused-3, refused-16, refused-4, is-accepted}
+use Rattle.libfind.specs.BeginLaws.{refused-1, refused-30, refused-17, refused-2, refused-3, refused-16, refused-4, is-accepted}
 use borrow.Author.Needs.{needs}
 use Rattle.libfind.proofs.begin.check.Statement.{statement}
 use Rattle.libfind.proofs.begin.check.Tie as tie
@@ -15,11 +15,11 @@ use Rattle.libfind.proofs.begin.check.Tie as tie
 abbrev at-entry : tie.After-is-other-edition → tie.Start
 at-entry c = c .before .before .before
 
-abbrev at-else5 : tie.After-passes-end → tie.Else5
-at-else5 c = c .before .before .before .before
+abbrev at-else6 : tie.After-passes-end → tie.Else6
+at-else6 c = c .before .before .before .before
 
-abbrev at-else4 : tie.After-passes-end → tie.Else4
-at-else4 c = at-else5 c .before .before .before
+abbrev at-else5 : tie.After-passes-end → tie.Else5
+at-else5 c = at-else6 c .before .before .before
 
 -- the rule set and the edition are fine
 rules-fine : (c : tie.After-is-other-edition) → at-entry c .args .settings .rules ≤ 1
@@ -36,48 +36,64 @@ returns-2 c =
     let a = at-entry (c .before) .args in
     refused-30 (a .image) (a .library) (a .settings) (rules-fine (c .before)) (sym (c .before .is-other-edition .ensures) ∙ c .if2 .taken)
 
+depth-fine : (c : tie.Else3) → at-entry (c .before .before) .args .settings .depth ≤ 4
+depth-fine c = omega (arith, c .if3 .left)
+
 returns-3 : tie.Need-returns-3
 returns-3 c =
     let edition = c .before in
     let a = at-entry (edition .before) .args in
-    refused-2 (a .image) (a .library) (a .settings) (rules-fine (edition .before)) (edition-fine edition) (omega (arith, c .if3 .taken))
+    refused-17 (a .image) (a .library) (a .settings) (rules-fine (edition .before)) (edition-fine edition) (omega (arith, c .if3 .taken))
 
 returns-4 : tie.Need-returns-4
 returns-4 c =
-    let edition = c .before .before in
+    let depth = c .before in
+    let edition = depth .before in
     let a = at-entry (edition .before) .args in
-    refused-3 (a .image) (a .library) (a .settings) (rules-fine (edition .before)) (edition-fine edition) (omega (arith, c .before .if3 .left)) (omega (arith, c .if4 .taken))
-
--- the lengths are fine
-fitting : (c : tie.Else4) → (at-entry (c .before .before .before) .args .image ≤ 65536) × (at-entry (c .before .before .before) .args .library ≤ 1048576)
-fitting c = (omega (arith, c .before .if3 .left), omega (arith, c .if4 .left))
+    refused-2 (a .image) (a .library) (a .settings) (rules-fine (edition .before)) (edition-fine edition) (depth-fine depth) (omega (arith, c .if4 .taken))
 
 returns-5 : tie.Need-returns-5
 returns-5 c =
-    let last = c .before .before .before in
-    let edition = last .before .before in
+    let depth = c .before .before in
+    let edition = depth .before in
     let a = at-entry (edition .before) .args in
-    refused-16 (a .image) (a .library) (a .settings) (rules-fine (edition .before)) (edition-fine edition) (fitting last .0) (fitting last .1) (omega (arith, c .if5 .taken))
+    refused-3 (a .image) (a .library) (a .settings) (rules-fine (edition .before)) (edition-fine edition) (depth-fine depth) (omega (arith, c .before .if4 .left)) (omega (arith, c .if5 .taken))
 
--- what is lent of the pairs is the cover
-passing : (c : tie.After-passes-end) → let a = at-entry (at-else4 c .before .before .before) .args in c .passes-end .result ≡ passesEnd (a .image) (cover (a .settings))
-passing c = let a = at-entry (at-else4 c .before .before .before) .args in c .passes-end .ensures ∙ ap (λ pairs. passesEnd (a .image) (stretchesIn pairs)) (c .before .first-pairs .ensures)
+-- the lengths are fine
+fitting : (c : tie.Else5) → (at-entry (c .before .before .before .before) .args .image ≤ 65536) × (at-entry (c .before .before .before .before) .args .library ≤ 1048576)
+fitting c = (omega (arith, c .before .if4 .left), omega (arith, c .if5 .left))
 
 returns-6 : tie.Need-returns-6
 returns-6 c =
-    let last = at-else4 (c .before) in
-    let edition = last .before .before in
+    let last = c .before .before .before in
+    let depth = last .before .before in
+    let edition = depth .before in
     let a = at-entry (edition .before) .args in
-    refused-4 (a .image) (a .library) (a .settings) (rules-fine (edition .before)) (edition-fine edition) (fitting last .0) (fitting last .1) (omega (arith, at-else5 (c .before) .if5 .left))
-    (sym (passing (c .before)) ∙ c .if6 .taken)
+    refused-16 (a .image) (a .library) (a .settings) (rules-fine (edition .before)) (edition-fine edition) (depth-fine depth) (fitting last .0) (fitting last .1) (omega (arith, c .if6 .taken))
+
+-- what is lent of the pairs is the cover
+passing : (c : tie.After-passes-end) → let a = at-entry (at-else5 c .before .before .before .before) .args in c .passes-end .result ≡ passesEnd (a .image) (cover (a .settings))
+passing c =
+    let a = at-entry (at-else5 c .before .before .before .before) .args in
+    c .passes-end .ensures ∙ ap (λ pairs. passesEnd (a .image) (stretchesIn pairs)) (c .before .first-pairs .ensures)
 
 returns-7 : tie.Need-returns-7
 returns-7 c =
-    let last = at-else4 (c .before) in
-    let edition = last .before .before in
+    let last = at-else5 (c .before) in
+    let depth = last .before .before in
+    let edition = depth .before in
     let a = at-entry (edition .before) .args in
-    is-accepted (a .image) (a .library) (a .settings) (rules-fine (edition .before)) (edition-fine edition) (fitting last .0) (fitting last .1) (omega (arith, at-else5 (c .before) .if5 .left))
-    (sym (passing (c .before)) ∙ c .if6 .left)
+    refused-4 (a .image) (a .library) (a .settings) (rules-fine (edition .before)) (edition-fine edition) (depth-fine depth) (fitting last .0) (fitting last .1)
+    (omega (arith, at-else6 (c .before) .if6 .left)) (sym (passing (c .before)) ∙ c .if7 .taken)
+
+returns-8 : tie.Need-returns-8
+returns-8 c =
+    let last = at-else5 (c .before) in
+    let depth = last .before .before in
+    let edition = depth .before in
+    let a = at-entry (edition .before) .args in
+    is-accepted (a .image) (a .library) (a .settings) (rules-fine (edition .before)) (edition-fine edition) (depth-fine depth) (fitting last .0) (fitting last .1)
+    (omega (arith, at-else6 (c .before) .if6 .left)) (sym (passing (c .before)) ∙ c .if7 .left)
 
 pub check-spec : {M : Type 1} → statement M
 check-spec =
@@ -89,8 +105,9 @@ check-spec =
     returns-3
     returns-4
     returns-5
+    returns-6
     (λ c. search needs)
     (λ c κs. search needs)
     (λ c κs. search needs)
-    returns-6
-    returns-7)
+    returns-7
+    returns-8)
