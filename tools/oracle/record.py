@@ -22,7 +22,7 @@ from confirm import differing, is_own
 from model.reader import FIRST
 from model.run import Outcome, Stages
 
-VERSION = 2
+VERSION = 3
 MODULUS = 4294967291
 # Of a library that was made at random, but for those that are long on purpose.
 LONGEST = 700
@@ -31,7 +31,7 @@ LONGEST = 700
 AROUND, SHORT = 45, 260
 EDITIONS_AROUND, EDITIONS_SHORT = 4, 60
 SEVERAL_AROUND, SEVERAL_SHORT = 4, 20
-CHECK, SKIP, SCENE, OWN = 1, 2, 4, 8
+CHECK, SKIP, SCENE, OWN, DEPTH = 1, 2, 4, 8, 16
 
 
 @dataclass
@@ -138,7 +138,12 @@ def as_settings(run):
         numbers.pop()
         while numbers and numbers[-1] == 0:
             numbers.pop()
-    return struct.pack(f"<B{len(numbers)}Q", len(numbers), *numbers)
+    return struct.pack(f"<B{len(numbers)}Q", len(numbers), *numbers) + as_depth(run)
+
+
+def as_depth(run):
+    """A flag tells 0 from 1; a greater one follows the settings."""
+    return struct.pack("<Q", run.depth) if run.depth > 1 else b""
 
 
 def as_scene(run):
@@ -149,7 +154,7 @@ def as_scene(run):
 
 def as_case(c, has_scene):
     run, result = c.run, c.outcome
-    flags = CHECK * run.check | SKIP * (run.skip is not None) | SCENE * has_scene | OWN * c.own
+    flags = CHECK * (run.depth > 0) | DEPTH * (run.depth > 1) | SKIP * (run.skip is not None) | SCENE * has_scene | OWN * c.own
     answer = (result.number, *result.counts, *map(digest, result.lists), len(result.text), digest(result.text))
     scene = as_scene(run) if has_scene else b""
     return bytes((flags,)) + as_settings(run) + struct.pack("<8I", *c.lent) + struct.pack("<18I", *answer) + scene
@@ -182,7 +187,7 @@ def report(cases):
         done = [c.stages.lines() for c in some if c.outcome.number == 0]
         grades = Counter(line[1] for lines in done for line in lines)
         print(f"lists with lines {sum(map(bool, done))} of {len(done)}, most lines {max(map(len, done))}, by grade {[grades[g] for g in range(4)]}; "
-              f"checking on {sum(c.run.check for c in some)}, rule set 1 {sum(c.run.rules == 1 for c in some)}, "
+              f"by depth {dict(sorted(Counter(c.run.depth for c in some).items()))}, rule set 1 {sum(c.run.rules == 1 for c in some)}, "
               f"edition 2 {sum(c.run.edition == 2 for c in some)}, a stretch {sum(c.run.stretch[1] > 0 for c in some)}, "
               f"several {sum(bool(c.run.more) for c in some)}, 2Ch libraries {sum(c.run.library[:1] == b',' for c in some)}")
         print("minimums", dict(sorted(Counter(c.run.minimum for c in some).items())), "skip amounts", dict(Counter(c.run.skip for c in some)))

@@ -61,7 +61,7 @@ def single_states(rng):
         for (placed, led), (symbols, notes) in kinds.items():
             stage.routine(symbols, notes, led if placed == "noter" else placed)
         stage.routine([(at(HELPER), b"HELP")], valid=rng.random() < 0.5)
-        scenes.append(stage.scene("states", 64, found((0, MINIMUM, MINIMUM + 1, LARGE)) + found(checks=(False,)), (None, rng.randrange(3))))
+        scenes.append(stage.scene("states", 64, found((0, MINIMUM, MINIMUM + 1, LARGE)) + found(depths=(0,)), (None, rng.randrange(3))))
     return scenes
 
 
