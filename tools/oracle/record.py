@@ -5,7 +5,8 @@ of the program crate `replay`. crates/replay/README.md describes it; the same se
 On document 01's domain of equality the answer is the Rust's own: its list and the very text that it prints, or the number of
 its error. The model computes the same from document 01, and must agree (confirm.py), on all that is recorded and on `--more`
 times as many random runs; outside the domain the answer is the model's. The status is 1, and nothing is written, if one
-differs, if what is withheld is seen, or if a run of edition 2 that is not refused with 14 or 15 differs from the same run of edition 1."""
+differs, if what is withheld is seen, if a run of edition 2 that is not refused with 14 or 15 differs from the same run of edition 1, or if the depths
+of a scene do not go together (steady.py)."""
 import argparse
 import random
 import struct
@@ -14,23 +15,26 @@ from collections import Counter
 from dataclasses import dataclass, replace
 from pathlib import Path
 
+from cases.depths import runs as depths
 from cases.editions import runs as editions
 from cases import stretches
 from cases.limits import limits
 from cases.whole import capacities, outside, runs, staged
 from confirm import differing, is_own
 from model.reader import FIRST
-from model.run import Outcome, Stages
+from model.run import GREATEST_DEPTH, Outcome, Stages
+from steady import unsteady
 
 VERSION = 3
 MODULUS = 4294967291
 # Of a library that was made at random, but for those that are long on purpose.
 LONGEST = 700
-# How many runs get every list one short, exact and one longer; and how many more are lent too little: of the first ones, of those for the editions, and of those
-# with several stretches.
+# How many runs get every list one short, exact and one longer; and how many more are lent too little: of the first ones, of those for the editions, of those
+# with several stretches, and of those at a depth.
 AROUND, SHORT = 45, 260
 EDITIONS_AROUND, EDITIONS_SHORT = 4, 60
 SEVERAL_AROUND, SEVERAL_SHORT = 4, 20
+DEPTHS_AROUND, DEPTHS_SHORT = 5, 80
 CHECK, SKIP, SCENE, OWN, DEPTH = 1, 2, 4, 8, 16
 
 
@@ -82,6 +86,8 @@ def amounts(rng, stages, around):
     """What is lent for a run, one amount or several."""
     if stages.run.kind == "capacities":
         return capacities.every(stages.needed)
+    if stages.run.kind == "depths, lent":
+        return [Stages(replace(stages.run, depth=GREATEST_DEPTH)).needed]
     if id(stages) in around:
         return capacities.around(stages.needed)
     found = [capacities.enough(rng, stages)]
@@ -211,11 +217,14 @@ def main():
     by_edition = [Stages(run) for run in different(editions.made(apart))]
     beside = random.Random(given.seed)
     several = [Stages(run) for run in different(stretches.made(beside))]
+    below = random.Random(given.seed)
+    deep = [Stages(run) for run in different(depths.made(below))]
     others = [Stages(run) for run in runs.made(random.Random(~given.seed), given.more)]
-    wrong, asked, shown = differing(given.rust, found + by_edition + several + others)
+    wrong, asked, shown = differing(given.rust, found + by_edition + several + deep + others)
     wrong += [stages for stages in found if not hides(rng, stages)]
     wrong += [stages for stages in by_edition if not (is_kept_to(stages) and hides(apart, stages))]
     wrong += [stages for stages in several if not (is_kept_to(stages) and hides(beside, stages))]
+    wrong += [stages for stages in deep if not (is_kept_to(stages) and hides(below, stages))] + unsteady(deep)
     for stages in wrong:
         print(f"computed {stages.final()} {stages.lines()}, and something else must come: {stages.run.shown()}")
     if wrong:
@@ -223,6 +232,7 @@ def main():
     cases = recorded(rng, [stages for stages in found if has_room(stages)])
     cases += recorded(apart, [stages for stages in by_edition if has_room(stages)], EDITIONS_AROUND, EDITIONS_SHORT)
     cases += recorded(beside, [stages for stages in several if has_room(stages)], SEVERAL_AROUND, SEVERAL_SHORT)
+    cases += recorded(below, [stages for stages in deep if has_room(stages)], DEPTHS_AROUND, DEPTHS_SHORT)
     data = as_bytes(cases)
     given.out.parent.mkdir(parents=True, exist_ok=True)
     given.out.write_bytes(data)
