@@ -21,6 +21,7 @@ pub enum Refusal {
     WrongSum,
     LeftOver,
     TooManyStretches,
+    TooDeep,
     OtherEdition,
 }
 
@@ -45,6 +46,7 @@ pub fn number(r: Refusal) -> u8
         Refusal::WrongSum => 14,
         Refusal::LeftOver => 15,
         Refusal::TooManyStretches => 16,
+        Refusal::TooDeep => 17,
         Refusal::OtherEdition => 30,
     }
 }

@@ -9,7 +9,7 @@ use mathlib.Core.Option.{Option, some}
 use lib.Dec.{ltb}
 use lib.ListN.{length}
 use Rattle.lent.specs.declared.refusal.Refusal.{Refusal}
-use Rattle.lent.specs.declared.refusal.Refusal.the-variants.{RuleSet, ImageTooLong, LibraryTooLong, StretchPastEnd, TooFewRows, WrongSum, LeftOver, TooManyStretches, OtherEdition}
+use Rattle.lent.specs.declared.refusal.Refusal.the-variants.{RuleSet, ImageTooLong, LibraryTooLong, StretchPastEnd, TooFewRows, WrongSum, LeftOver, TooManyStretches, TooDeep, OtherEdition}
 use Rattle.lent.specs.Choice.{when, leading}
 use Rattle.lent.specs.Refusals.{refusalNumber}
 use Rattle.image.specs.View.{view}
@@ -21,11 +21,11 @@ use Rattle.omf51.specs.File.{fileBy, file, fileRefusal, modulesIn}
 use Rattle.omf51.specs.EditionLaws.{Stricter, same, wrong, over, file-stricter}
 use Rattle.segments.specs.Refuse.{collectRefusal}
 use Rattle.run.specs.declared.Settings.{Settings}
-use Rattle.run.specs.Run.{Lent, Yield, Outcome, stages, counted, collectOver, searchOver, listOver, refusals, outcomeOf, runSeen, run, numberOf, cover}
+use Rattle.run.specs.Run.{Lent, Yield, Outcome, stages, counted, collectOver, searchOver, listOver, tooDeep, refusals, outcomeOf, runSeen, run, numberOf, cover}
 
 -- the same settings, but for the edition
 abbrev pub inEdition : ℕ → Settings → Settings
-inEdition n s = record { rules = s .rules; edition = n; check = s .check; minimum = s .minimum; skip = s .skip; withheld = s .withheld }
+inEdition n s = record { rules = s .rules; edition = n; depth = s .depth; minimum = s .minimum; skip = s .skip; withheld = s .withheld }
 
 module _ (image library : List ℕ) (s : Settings) (lent : Lent) where
   abbrev cells : List ℕ
@@ -34,7 +34,7 @@ module _ (image library : List ℕ) (s : Settings) (lent : Lent) where
   -- the refusals before reading, and then some others
   abbrev after : List (Option Refusal) → List (Option Refusal)
   after rest =
-      when (ltb 1 (s .rules)) RuleSet ∷ when false OtherEdition ∷ when (ltb 65536 (length cells)) ImageTooLong ∷ when (ltb 1048576 (length library)) LibraryTooLong
+      when (ltb 1 (s .rules)) RuleSet ∷ when false OtherEdition ∷ when (tooDeep (s .depth)) TooDeep ∷ when (ltb 65536 (length cells)) ImageTooLong ∷ when (ltb 1048576 (length library)) LibraryTooLong
       ∷ when (tooManyStretches (s .withheld)) TooManyStretches ∷ when (passesEnd (length cells) (cover s)) StretchPastEnd ∷ rest
 
   -- a refusal of reading is given, or an earlier one, whatever follows
@@ -46,17 +46,18 @@ module _ (image library : List ℕ) (s : Settings) (lent : Lent) where
   given-or-earlier : (w : Refusal) (rest others : List (Option Refusal)) → (leading (after (some w ∷ rest)) ≡ some w) ⊎ Earlier (some w ∷ rest) others
   unfolding leading
   given-or-earlier w rest others =
-      go (ltb 1 (s .rules)) (ltb 65536 (length cells)) (ltb 1048576 (length library)) (tooManyStretches (s .withheld)) (passesEnd (length cells) (cover s)) refl refl refl refl refl
+      go (ltb 1 (s .rules)) (tooDeep (s .depth)) (ltb 65536 (length cells)) (ltb 1048576 (length library)) (tooManyStretches (s .withheld)) (passesEnd (length cells) (cover s)) refl refl refl refl refl refl
     where
-      go : (a b c f d : Bool) → ltb 1 (s .rules) ≡ a → ltb 65536 (length cells) ≡ b → ltb 1048576 (length library) ≡ c
+      go : (a e b c f d : Bool) → ltb 1 (s .rules) ≡ a → tooDeep (s .depth) ≡ e → ltb 65536 (length cells) ≡ b → ltb 1048576 (length library) ≡ c
           → tooManyStretches (s .withheld) ≡ f → passesEnd (length cells) (cover s) ≡ d
           → (leading (after (some w ∷ rest)) ≡ some w) ⊎ Earlier (some w ∷ rest) others
-      go true b c f d p q r m t = inr (record { first = RuleSet; here = rw p refl; there = rw p refl })
-      go false true c f d p q r m t = inr (record { first = ImageTooLong; here = rw (p, q) refl; there = rw (p, q) refl })
-      go false false true f d p q r m t = inr (record { first = LibraryTooLong; here = rw (p, q, r) refl; there = rw (p, q, r) refl })
-      go false false false true d p q r m t = inr (record { first = TooManyStretches; here = rw (p, q, r, m) refl; there = rw (p, q, r, m) refl })
-      go false false false false true p q r m t = inr (record { first = StretchPastEnd; here = rw (p, q, r, m, t) refl; there = rw (p, q, r, m, t) refl })
-      go false false false false false p q r m t = inl (rw (p, q, r, m, t) refl)
+      go true e b c f d p k q r m t = inr (record { first = RuleSet; here = rw p refl; there = rw p refl })
+      go false true b c f d p k q r m t = inr (record { first = TooDeep; here = rw (p, k) refl; there = rw (p, k) refl })
+      go false false true c f d p k q r m t = inr (record { first = ImageTooLong; here = rw (p, k, q) refl; there = rw (p, k, q) refl })
+      go false false false true f d p k q r m t = inr (record { first = LibraryTooLong; here = rw (p, k, q, r) refl; there = rw (p, k, q, r) refl })
+      go false false false false true d p k q r m t = inr (record { first = TooManyStretches; here = rw (p, k, q, r, m) refl; there = rw (p, k, q, r, m) refl })
+      go false false false false false true p k q r m t = inr (record { first = StretchPastEnd; here = rw (p, k, q, r, m, t) refl; there = rw (p, k, q, r, m, t) refl })
+      go false false false false false false p k q r m t = inl (rw (p, k, q, r, m, t) refl)
 
   -- the run on a library that was read so, in the edition n
   abbrev yieldIn : ℕ → Yield

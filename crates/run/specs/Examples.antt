@@ -113,7 +113,7 @@ library =
     ∷ []
 
 abbrev settings : Settings
-settings = record { rules = 0; edition = 1; check = true; minimum = 3; skip = Never; withheld = noStretches }
+settings = record { rules = 0; edition = 1; depth = 1; minimum = 3; skip = Never; withheld = noStretches }
 
 -- lent for it: one number more than a row for each stage, so that what is left over can be seen to be zero
 abbrev lent : Lent
@@ -150,7 +150,7 @@ unfolding leading keep joined fold any all placeOf from numbered insert sorted t
     repeat frameAt expected recordSum expectedBy recordBy ending definitionOf definitionAt fixupAt definitionsBy fixupsBy sectionBy sectionsBy moduleBy libraryBy fileRead fileBy
     kept named fixupRefusal contentRefusal tests collectRefusal masksOf ored merged filled referencesOf symbolsOf keptSegment absoluteSegment
     moduleSegments collect segmentRowsFrom segmentNumbers referenceNumbers symbolNumbers patternBytes patternMasks positionsOf allMatches isValid
-    holds notes note noted symbolsAt place placed newestFrom nameBucket linkedFrom placedNumbers notedNumbers bestGrade best grade gradedAt linesAt leftovers
+    holdsTo notes note noted symbolsAt place placed newestFrom nameBucket linkedFrom placedNumbers notedNumbers bestGrade best grade gradedAt linesAt leftovers
     listing lineNumbers oneOf description describe digits moreDigits printedLine printed
     stages counted refusals filledWith runSeen run
 whole = (refl, refl)

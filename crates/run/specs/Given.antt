@@ -4,7 +4,7 @@ use mathlib.Core.Logic.{_⊎_}
 use mathlib.Core.List.{List}
 use lib.ListN.{length}
 use Rattle.lent.specs.declared.refusal.Refusal.{Refusal}
-use Rattle.lent.specs.declared.refusal.Refusal.the-variants.{RuleSet, ImageTooLong, LibraryTooLong, StretchPastEnd, NoModule, BodyPastEnd, LengthZero, NamesDiffer, TooFewRows, UnknownKind, UnknownBlock, ContentPastSegment, NoKeptSegment, WrongSum, LeftOver, TooManyStretches, OtherEdition}
+use Rattle.lent.specs.declared.refusal.Refusal.the-variants.{RuleSet, ImageTooLong, LibraryTooLong, StretchPastEnd, NoModule, BodyPastEnd, LengthZero, NamesDiffer, TooFewRows, UnknownKind, UnknownBlock, ContentPastSegment, NoKeptSegment, WrongSum, LeftOver, TooManyStretches, TooDeep, OtherEdition}
 use Rattle.lent.specs.FirstOf.{Quiet, First}
 use Rattle.image.specs.View.{view}
 use Rattle.image.specs.CoverLaws.{SomePasses, AllFit}
@@ -43,10 +43,11 @@ ListOver lent c = Over lineWidth (lent .lines) (c .lines)
 abbrev pub NoEdition : ℕ → Type 0
 NoEdition n = (n < 1) ⊎ (2 < n)
 
--- none of refusals 1, 30, 2, 3, 16 and 4 applies
+-- none of refusals 1, 30, 17, 2, 3, 16 and 4 applies
 pub record Accepted (image library : List ℕ) (s : Settings) : Type 0 where
   pub rule-set : s .rules ≤ 1
   pub edition : NoEdition (s .edition) → ⊥
+  pub shallow : s .depth ≤ 4
   pub image-fits : length image ≤ 65536
   pub library-fits : length library ≤ 1048576
   pub few : s .withheld .count ≤ 16
@@ -81,12 +82,14 @@ module _ (image library : List ℕ) (s : Settings) (lent : Lent) where
   abbrev pub Given : Refusal → Type 0
   Given RuleSet = 1 < s .rules
   Given OtherEdition = (s .rules ≤ 1) × NoEdition (s .edition)
-  Given ImageTooLong = (s .rules ≤ 1) × (NoEdition (s .edition) → ⊥) × (65536 < length image)
-  Given LibraryTooLong = (s .rules ≤ 1) × (NoEdition (s .edition) → ⊥) × (length image ≤ 65536) × (1048576 < length library)
+  Given TooDeep = (s .rules ≤ 1) × (NoEdition (s .edition) → ⊥) × (4 < s .depth)
+  Given ImageTooLong = (s .rules ≤ 1) × (NoEdition (s .edition) → ⊥) × (s .depth ≤ 4) × (65536 < length image)
+  Given LibraryTooLong = (s .rules ≤ 1) × (NoEdition (s .edition) → ⊥) × (s .depth ≤ 4) × (length image ≤ 65536) × (1048576 < length library)
   Given TooManyStretches =
-      (s .rules ≤ 1) × (NoEdition (s .edition) → ⊥) × (length image ≤ 65536) × (length library ≤ 1048576) × (16 < s .withheld .count)
+      (s .rules ≤ 1) × (NoEdition (s .edition) → ⊥) × (s .depth ≤ 4) × (length image ≤ 65536) × (length library ≤ 1048576) × (16 < s .withheld .count)
   Given StretchPastEnd =
-      (s .rules ≤ 1) × (NoEdition (s .edition) → ⊥) × (length image ≤ 65536) × (length library ≤ 1048576) × (s .withheld .count ≤ 16) × SomePasses (length image) (cover s)
+      (s .rules ≤ 1) × (NoEdition (s .edition) → ⊥) × (s .depth ≤ 4) × (length image ≤ 65536) × (length library ≤ 1048576) × (s .withheld .count ≤ 16)
+      × SomePasses (length image) (cover s)
   Given NoModule = Accepted image library s × NothingRead e library
   Given BodyPastEnd = Accepted image library s × BodyPasses e library
   Given LengthZero = Accepted image library s × LengthIsZero e library

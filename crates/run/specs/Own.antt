@@ -1,6 +1,6 @@
 -- What is promised of an address beside a name: of a line graded 1 to 3, under rule set 1, that it is the name's own; of a
 -- line of grade 0 that the name is referred to there. A pattern that matches in several places is listed at each.
-use Prim.Native.Nat.{ℕ, _-_, _≤_}
+use Prim.Native.Nat.{ℕ, suc, _-_, _≤_}
 use mathlib.Core.Path.{_≡_}
 use mathlib.Core.Logic.{_⊎_}
 use mathlib.Core.Bool.{true}
@@ -22,15 +22,17 @@ use Rattle.segments.specs.Ids.{kept, idOf}
 use Rattle.segments.specs.Collect.{Collected, dataOf, dataMasks, keptSegment, absoluteId, absoluteSegment, collect}
 use Rattle.segments.specs.CollectLaws.{Source, Defined, Within}
 use Rattle.search_rules.specs.declared.Asked.{Asked}
-use Rattle.search_rules.specs.Search.{isValid, targetOf}
+use Rattle.search_rules.specs.Search.{isValid, targetOf, holdsTo}
 use Rattle.search_rules.specs.SearchLaws.{Held}
 use Rattle.search_rules.specs.NotedLaws.{NotedBy, NotedAs}
 
--- why a match of a segment at a position counts for a name at an address: the segment is one of those collected; with
--- checking on each of its references holds; and the match is valid, or some match notes that name at that address
+-- why a match of a segment at a position counts for a name at an address: the segment is one of those collected; at a depth
+-- above 0 each of its references holds, those to segments by matches that hold to one depth less; and the match is valid, or
+-- some match notes that name at that address
 pub record Reason (library cells : List ℕ) (a : Asked) (segments : List Collected) (g : Collected) (position : ℕ) (name : Part) (address : ℕ) : Type 0 where
   pub collected : g among segments
-  pub checked : a .check ≡ true → (r : Reference) → r among g .references → Held cells segments (r .goal) (targetOf cells a position r)
+  pub checked : (d : ℕ) → a .depth ≡ suc d → (r : Reference) → r among g .references
+      → Held cells segments (λ h at. holdsTo cells (a .rules) segments d h at) (r .goal) (targetOf cells a position r)
   pub counts : (isValid a g ≡ true) ⊎ NotedAs library cells a segments name address
 
 -- a public definition of that very name, of a kept segment (d, at its place among the kept ones) whose pattern matches at address - offset

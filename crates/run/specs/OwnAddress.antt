@@ -3,7 +3,7 @@
 use Prim.Native.Nat.{ℕ, _+_, _-_, _≤_}
 use mathlib.Core.Path.{_≡_, sym, ap, _∙_}
 use mathlib.Core.Logic.{_⊎_, inl, inr}
-use mathlib.Core.Bool.{Bool, true, _||_}
+use mathlib.Core.Bool.{true, _||_}
 use mathlib.Core.List.{List}
 use native.Mathlib.Nat.{sub-zero}
 use native.Mathlib.Omega.{arith}
@@ -24,7 +24,7 @@ use Rattle.segments.specs.Ids.{kept, idOf}
 use Rattle.segments.specs.Collect.{Collected, dataOf, dataMasks, keptSegment, absoluteId, insideOf, symbolBase, absoluteSegment, collect}
 use Rattle.segments.specs.CollectLaws.{Source, keptOf, absoluteOf, source, symbol-named, within-content, own-offset}
 use Rattle.search_rules.specs.declared.Asked.{Asked}
-use Rattle.search_rules.specs.Search.{Placing, isValid, isNoted, placed, noted}
+use Rattle.search_rules.specs.Search.{Placing, isValid, holdsTo, isNoted, placed, noted}
 use Rattle.search_rules.specs.SearchLaws.{Seated, holds-each, PlacedBy, placed-by}
 use Rattle.search_rules.specs.NotedLaws.{NotedAs, noted-as}
 use Rattle.listing_rules.specs.declared.Line.{Line}
@@ -35,9 +35,9 @@ use Rattle.run.specs.declared.Settings.{Settings}
 use Rattle.run.specs.Run.{libraryRead, askedOf, stages, cover}
 use Rattle.run.specs.Own.{Reason, OfKept, OfAbsolute, Own}
 
-module _ (library cells : List ℕ) (check : Bool) (minimum : ℕ) (modules : List Module) (m : Module) (i : m among modules) (number : ℕ) where
+module _ (library cells : List ℕ) (depth minimum : ℕ) (modules : List Module) (m : Module) (i : m among modules) (number : ℕ) where
   abbrev documented : Asked
-  documented = record { rules = Documented; check = check; minimum = minimum }
+  documented = record { rules = Documented; depth = depth; minimum = minimum }
 
   abbrev Why : Collected → ℕ → Symbol → Type 0
   Why g base y = Reason library cells documented (collect Documented library modules) g base (y .name) (base + y .offset)
@@ -102,7 +102,8 @@ why : (library cells : List ℕ) (a : Asked) (segments : List Collected) (p : Pl
     → Reason library cells a segments (b .m .segment) (b .m .position) (b .symbol .name) (b .m .position + b .symbol .offset)
 why library cells a segments p b c = record {
   collected = b .matched-at .collected;
-  checked = λ e r i. holds-each cells a segments (b .m) (b .checked e) r i;
+  checked = λ d e r i.
+      holds-each cells (a .rules) segments d (b .m .segment) (b .m .position) (sym (ap (λ k. holdsTo cells (a .rules) segments k (b .m .segment) (b .m .position)) e) ∙ b .checked) r i;
   counts = go (either (p .valid) (isNoted library (noted library cells a segments) (p .position) (p .name)) c);
 }
   where
@@ -115,28 +116,28 @@ why library cells a segments p b c = record {
     go (inr n) = inr (moved (b .named) (b .standing) (noted-as library cells a segments (p .name) (p .position) n))
 
 -- the lines of a search under a rule set
-abbrev linesBy : Rules → Bool → ℕ → Skip → List ℕ → List ℕ → List Module → List Line
-linesBy rules check minimum skip library cells modules =
-    let a : Asked = record { rules = rules; check = check; minimum = minimum } in
+abbrev linesBy : Rules → ℕ → ℕ → Skip → List ℕ → List ℕ → List Module → List Line
+linesBy rules depth minimum skip library cells modules =
+    let a : Asked = record { rules = rules; depth = depth; minimum = minimum } in
     let segments = collect rules library modules in
     listing library cells a skip segments (placed library cells a segments) (noted library cells a segments)
 
-own-line : (check : Bool) (minimum : ℕ) (skip : Skip) (library cells : List ℕ) (modules : List Module) (rules : Rules) → rules ≡ Documented
-    → (l : Line) → l among linesBy rules check minimum skip library cells modules → 1 ≤ l .grade
-    → Own library cells (record { rules = rules; check = check; minimum = minimum }) modules (l .name) (l .address)
-own-line check minimum skip library cells modules rules e = rw e λ l i h.
-    let a : Asked = record { rules = Documented; check = check; minimum = minimum } in
+own-line : (depth minimum : ℕ) (skip : Skip) (library cells : List ℕ) (modules : List Module) (rules : Rules) → rules ≡ Documented
+    → (l : Line) → l among linesBy rules depth minimum skip library cells modules → 1 ≤ l .grade
+    → Own library cells (record { rules = rules; depth = depth; minimum = minimum }) modules (l .name) (l .address)
+own-line depth minimum skip library cells modules rules e = rw e λ l i h.
+    let a : Asked = record { rules = Documented; depth = depth; minimum = minimum } in
     let segments = collect Documented library modules in
     let o = graded-line library cells a skip segments (placed library cells a segments) (noted library cells a segments) l i h in
     let b = placed-by library cells a segments (o .p) (o .there) in
     let from = source Documented library modules (b .m .segment) (b .matched-at .collected) in
     let own =
-    own-matched library cells check minimum modules (from .0) (from .1) (from .2 .0) (b .m .segment) (from .2 .1) (b .symbol) (b .m .position)
+    own-matched library cells depth minimum modules (from .0) (from .1) (from .2 .0) (b .m .segment) (from .2 .1) (b .symbol) (b .m .position)
     (b .carried) (b .matched-at .matching) (b .matched-at .seated) (why library cells a segments (o .p) b (o .counts)) in
     moved (ap (λ k. k .name) (o .line-is) ∙ b .named) (ap (λ k. k .address) (o .line-is) ∙ b .standing) own
   where
-    moved : {n k : Part} {a b : ℕ} → n ≡ k → a ≡ b → Own library cells (record { rules = Documented; check = check; minimum = minimum }) modules k b
-        → Own library cells (record { rules = Documented; check = check; minimum = minimum }) modules n a
+    moved : {n k : Part} {a b : ℕ} → n ≡ k → a ≡ b → Own library cells (record { rules = Documented; depth = depth; minimum = minimum }) modules k b
+        → Own library cells (record { rules = Documented; depth = depth; minimum = minimum }) modules n a
     moved p q h = rw (p, q) h
 
 -- OWN ADDRESS: each line graded 1 to 3, under rule set 1
@@ -144,4 +145,4 @@ pub own-address : (image library : List ℕ) (s : Settings) → s .rules ≡ 1 �
     → Own library (view image (cover s)) (askedOf s) (modulesIn (libraryRead library s)) (l .name) (l .address)
 unfolding stages
 own-address image library s e =
-    own-line (s .check) (s .minimum) (s .skip) library (view image (cover s)) (modulesIn (libraryRead library s)) (rulesOf (s .rules)) (rw e)
+    own-line (s .depth) (s .minimum) (s .skip) library (view image (cover s)) (modulesIn (libraryRead library s)) (rulesOf (s .rules)) (rw e)

@@ -10,7 +10,7 @@ use borrow.Author.Tests.{ltb-true, lt-ltb}
 use lib.Dec.{ltb}
 use lib.ListN.{length}
 use Rattle.lent.specs.declared.refusal.Refusal.{Refusal}
-use Rattle.lent.specs.declared.refusal.Refusal.the-variants.{RuleSet, ImageTooLong, LibraryTooLong, StretchPastEnd, NoModule, BodyPastEnd, LengthZero, NamesDiffer, TooFewRows, UnknownKind, UnknownBlock, ContentPastSegment, NoKeptSegment, WrongSum, LeftOver, TooManyStretches, OtherEdition}
+use Rattle.lent.specs.declared.refusal.Refusal.the-variants.{RuleSet, ImageTooLong, LibraryTooLong, StretchPastEnd, NoModule, BodyPastEnd, LengthZero, NamesDiffer, TooFewRows, UnknownKind, UnknownBlock, ContentPastSegment, NoKeptSegment, WrongSum, LeftOver, TooManyStretches, TooDeep, OtherEdition}
 use Rattle.lent.specs.Choice.{when, leading}
 use Rattle.lent.specs.FirstOf.{Quiet, none≢some, leading-none, none-leading}
 use Rattle.lent.specs.Lists.{all}
@@ -28,7 +28,7 @@ use Rattle.segments.specs.Refuse.{Test, testRefusal, tests, collectRefusal}
 use Rattle.segments.specs.RefuseLaws.{KindAbove, BlockAbove, PastSegment, NowhereKept, gives-10, gives-11, gives-12, gives-13, collect-gives}
 use Rattle.listing_rules.specs.Listing.{lineWidth}
 use Rattle.run.specs.declared.Settings.{Settings}
-use Rattle.run.specs.Run.{Lent, Yield, libraryRead, stages, counted, collectOver, searchOver, listOver, otherEdition, refusals, outcomeOf, runSeen, run, numberOf, cover}
+use Rattle.run.specs.Run.{Lent, Yield, libraryRead, stages, counted, collectOver, searchOver, listOver, otherEdition, tooDeep, refusals, outcomeOf, runSeen, run, numberOf, cover}
 use Rattle.run.specs.Order.{Stage, firstOf, Silent, silent-both, Beyond, or-else, after-none, at-stage}
 use Rattle.run.specs.Given.{CollectionOver, SearchOver, ListOver, NoEdition, Accepted, e, Reached, FirstTest, TooLittle, Given, NothingRefused}
 use Rattle.run.specs.StageLaws.{when-some, when-none, when-stage, reading-stage, collecting-stage, over, or-true-iff, not-over, collection-over, search-over, less, not-less}
@@ -53,6 +53,9 @@ module _ (image library : List ℕ) (s : Settings) (lent : Lent) where
   abbrev edition-stage : Stage
   edition-stage = when-stage (otherEdition (s .edition)) OtherEdition
 
+  abbrev depth-stage : Stage
+  depth-stage = when-stage (tooDeep (s .depth)) TooDeep
+
   abbrev image-stage : Stage
   image-stage = when-stage (ltb 65536 (length cells)) ImageTooLong
 
@@ -66,7 +69,7 @@ module _ (image library : List ℕ) (s : Settings) (lent : Lent) where
   stretch-stage = when-stage (passesEnd (length cells) (cover s)) StretchPastEnd
 
   abbrev settings-stages : List Stage
-  settings-stages = rules-stage ∷ edition-stage ∷ image-stage ∷ library-stage ∷ count-stage ∷ stretch-stage ∷ []
+  settings-stages = rules-stage ∷ edition-stage ∷ depth-stage ∷ image-stage ∷ library-stage ∷ count-stage ∷ stretch-stage ∷ []
 
   abbrev room-stage : Stage
   room-stage = when-stage (collectOver lent (counted yield)) TooFewRows
@@ -113,6 +116,9 @@ module _ (image library : List ℕ) (s : Settings) (lent : Lent) where
   edition-fine : (edition-stage .out ≡ none) ↔ (NoEdition (s .edition) → ⊥)
   edition-fine = Iff·trans (when-none (otherEdition (s .edition)) OtherEdition) (not-over (otherEdition (s .edition)) edition-other)
 
+  depth-fine : (depth-stage .out ≡ none) ↔ (s .depth ≤ 4)
+  depth-fine = not-less 4 (s .depth) TooDeep
+
   image-fine : (image-stage .out ≡ none) ↔ (length image ≤ 65536)
   image-fine = rw (view-length image (cover s)) (not-less 65536 (length image) ImageTooLong)
 
@@ -149,14 +155,18 @@ module _ (image library : List ℕ) (s : Settings) (lent : Lent) where
     (λ q. record {
       rule-set = rules-fine .0 (q .0);
       edition = edition-fine .0 (q .1 .0);
-      image-fits = image-fine .0 (q .1 .1 .0);
-      library-fits = library-fine .0 (q .1 .1 .1 .0);
-      few = count-fine .0 (q .1 .1 .1 .1 .0);
-      stretches-fit = stretch-fine .0 (q .1 .1 .1 .1 .1 .0);
+      shallow = depth-fine .0 (q .1 .1 .0);
+      image-fits = image-fine .0 (q .1 .1 .1 .0);
+      library-fits = library-fine .0 (q .1 .1 .1 .1 .0);
+      few = count-fine .0 (q .1 .1 .1 .1 .1 .0);
+      stretches-fit = stretch-fine .0 (q .1 .1 .1 .1 .1 .1 .0);
     }),
     λ a. (
       rules-fine .1 (a .rule-set),
-      (edition-fine .1 (a .edition), (image-fine .1 (a .image-fits), (library-fine .1 (a .library-fits), (count-fine .1 (a .few), (stretch-fine .1 (a .stretches-fit), tt))))),
+      (
+        edition-fine .1 (a .edition),
+        (depth-fine .1 (a .shallow), (image-fine .1 (a .image-fits), (library-fine .1 (a .library-fits), (count-fine .1 (a .few), (stretch-fine .1 (a .stretches-fit), tt))))),
+      ),
     ),
   )
 
@@ -221,7 +231,7 @@ module _ (image library : List ℕ) (s : Settings) (lent : Lent) where
       back (inr (r, q, o)) =
           first .1 (all-read .1 (r .accepted, r .all-read), choice .1 (inr (room-fine .1 (r .room), later .1 ((tests-fine .1 q, tt), row-over .1 o))))
 
-  -- 1, 30, 2, 3 and 4; 5 to 8, 14 and 15; 10 to 13
+  -- 1, 30, 17, 2, 3, 16 and 4; 5 to 8, 14 and 15; 10 to 13
   by-settings : (r : Refusal) (before : List Stage) (g : Stage) (later : List Stage) → before ++ g ∷ later ≡ all-stages → Beyond r before → Beyond r later
       → (number ≡ refusalNumber r) ↔ (Silent before × (g .out ≡ some r))
   by-settings r before g later q e f = Iff·trans (number-is r) (rw q at (at-stage r before g later e f))
@@ -243,38 +253,52 @@ module _ (image library : List ℕ) (s : Settings) (lent : Lent) where
   unfolding all
   given-exactly RuleSet =
       let this = less 1 (s .rules) RuleSet in
-      Iff·trans (by-settings RuleSet [] rules-stage (edition-stage ∷ image-stage ∷ library-stage ∷ count-stage ∷ stretch-stage ∷ reading-stage edition library ∷ later-stages) refl refl refl)
+      Iff·trans (by-settings RuleSet [] rules-stage (edition-stage ∷ depth-stage ∷ image-stage ∷ library-stage ∷ count-stage ∷ stretch-stage ∷ reading-stage edition library ∷ later-stages) refl refl refl)
       ((λ h. this .0 (h .1)), λ h. (tt, this .1 h))
   given-exactly OtherEdition =
       let this = Iff·trans (when-some (otherEdition (s .edition)) OtherEdition) edition-other in
-      Iff·trans (by-settings OtherEdition (rules-stage ∷ []) edition-stage (image-stage ∷ library-stage ∷ count-stage ∷ stretch-stage ∷ reading-stage edition library ∷ later-stages) refl refl refl)
+      Iff·trans (by-settings OtherEdition (rules-stage ∷ []) edition-stage (depth-stage ∷ image-stage ∷ library-stage ∷ count-stage ∷ stretch-stage ∷ reading-stage edition library ∷ later-stages) refl refl refl)
       ((λ h. (rules-fine .0 (h .0 .0), this .0 (h .1))), λ h. ((rules-fine .1 (h .0), tt), this .1 (h .1)))
-  given-exactly ImageTooLong =
-      let this : (image-stage .out ≡ some ImageTooLong) ↔ (65536 < length image) =
-      rw (view-length image (cover s)) (less 65536 (length image) ImageTooLong) in
-      Iff·trans (by-settings ImageTooLong (rules-stage ∷ edition-stage ∷ []) image-stage (library-stage ∷ count-stage ∷ stretch-stage ∷ reading-stage edition library ∷ later-stages) refl refl refl) (
+  given-exactly TooDeep =
+      let this = less 4 (s .depth) TooDeep in
+      Iff·trans (by-settings TooDeep (rules-stage ∷ edition-stage ∷ []) depth-stage (image-stage ∷ library-stage ∷ count-stage ∷ stretch-stage ∷ reading-stage edition library ∷ later-stages) refl refl refl) (
         (λ h. (rules-fine .0 (h .0 .0), edition-fine .0 (h .0 .1 .0), this .0 (h .1))),
         λ h. ((rules-fine .1 (h .0), (edition-fine .1 (h .1), tt)), this .1 (h .2)),
       )
+  given-exactly ImageTooLong =
+      let this : (image-stage .out ≡ some ImageTooLong) ↔ (65536 < length image) =
+      rw (view-length image (cover s)) (less 65536 (length image) ImageTooLong) in
+      Iff·trans (by-settings ImageTooLong (rules-stage ∷ edition-stage ∷ depth-stage ∷ []) image-stage (library-stage ∷ count-stage ∷ stretch-stage ∷ reading-stage edition library ∷ later-stages) refl refl refl) (
+        (λ h. (rules-fine .0 (h .0 .0), edition-fine .0 (h .0 .1 .0), depth-fine .0 (h .0 .1 .1 .0), this .0 (h .1))),
+        λ h. ((rules-fine .1 (h .0), (edition-fine .1 (h .1), (depth-fine .1 (h .2), tt))), this .1 (h .3)),
+      )
   given-exactly LibraryTooLong =
       let this = less 1048576 (length library) LibraryTooLong in
-      Iff·trans (by-settings LibraryTooLong (rules-stage ∷ edition-stage ∷ image-stage ∷ []) library-stage (count-stage ∷ stretch-stage ∷ reading-stage edition library ∷ later-stages) refl refl refl) (
-        (λ h. (rules-fine .0 (h .0 .0), edition-fine .0 (h .0 .1 .0), image-fine .0 (h .0 .1 .1 .0), this .0 (h .1))),
-        λ h. ((rules-fine .1 (h .0), (edition-fine .1 (h .1), (image-fine .1 (h .2), tt))), this .1 (h .3)),
+      Iff·trans (by-settings LibraryTooLong (rules-stage ∷ edition-stage ∷ depth-stage ∷ image-stage ∷ []) library-stage (count-stage ∷ stretch-stage ∷ reading-stage edition library ∷ later-stages) refl refl refl) (
+        (λ h. (rules-fine .0 (h .0 .0), edition-fine .0 (h .0 .1 .0), depth-fine .0 (h .0 .1 .1 .0), image-fine .0 (h .0 .1 .1 .1 .0), this .0 (h .1))),
+        λ h. ((rules-fine .1 (h .0), (edition-fine .1 (h .1), (depth-fine .1 (h .2), (image-fine .1 (h .3), tt)))), this .1 (h .4)),
       )
   given-exactly TooManyStretches =
       let this = less 16 (s .withheld .count) TooManyStretches in
-      Iff·trans (by-settings TooManyStretches (rules-stage ∷ edition-stage ∷ image-stage ∷ library-stage ∷ []) count-stage (stretch-stage ∷ reading-stage edition library ∷ later-stages) refl refl refl) (
-        (λ h. (rules-fine .0 (h .0 .0), edition-fine .0 (h .0 .1 .0), image-fine .0 (h .0 .1 .1 .0), library-fine .0 (h .0 .1 .1 .1 .0), this .0 (h .1))),
-        λ h. ((rules-fine .1 (h .0), (edition-fine .1 (h .1), (image-fine .1 (h .2), (library-fine .1 (h .3), tt)))), this .1 (h .4)),
+      Iff·trans (by-settings TooManyStretches (rules-stage ∷ edition-stage ∷ depth-stage ∷ image-stage ∷ library-stage ∷ []) count-stage (stretch-stage ∷ reading-stage edition library ∷ later-stages) refl refl refl) (
+        (λ h. (rules-fine .0 (h .0 .0), edition-fine .0 (h .0 .1 .0), depth-fine .0 (h .0 .1 .1 .0), image-fine .0 (h .0 .1 .1 .1 .0), library-fine .0 (h .0 .1 .1 .1 .1 .0), this .0 (h .1))),
+        λ h. ((rules-fine .1 (h .0), (edition-fine .1 (h .1), (depth-fine .1 (h .2), (image-fine .1 (h .3), (library-fine .1 (h .4), tt))))), this .1 (h .5)),
       )
   given-exactly StretchPastEnd =
       let this : (stretch-stage .out ≡ some StretchPastEnd) ↔ SomePasses (length image) (cover s) =
       rw (view-length image (cover s))
       (Iff·trans (when-some (passesEnd (length image) (cover s)) StretchPastEnd) (some-passes (length image) (cover s))) in
-      Iff·trans (by-settings StretchPastEnd (rules-stage ∷ edition-stage ∷ image-stage ∷ library-stage ∷ count-stage ∷ []) stretch-stage (reading-stage edition library ∷ later-stages) refl refl refl) (
-        (λ h. (rules-fine .0 (h .0 .0), edition-fine .0 (h .0 .1 .0), image-fine .0 (h .0 .1 .1 .0), library-fine .0 (h .0 .1 .1 .1 .0), count-fine .0 (h .0 .1 .1 .1 .1 .0), this .0 (h .1))),
-        λ h. ((rules-fine .1 (h .0), (edition-fine .1 (h .1), (image-fine .1 (h .2), (library-fine .1 (h .3), (count-fine .1 (h .4), tt))))), this .1 (h .5)),
+      Iff·trans (by-settings StretchPastEnd (rules-stage ∷ edition-stage ∷ depth-stage ∷ image-stage ∷ library-stage ∷ count-stage ∷ []) stretch-stage (reading-stage edition library ∷ later-stages) refl refl refl) (
+        (λ h. (
+          rules-fine .0 (h .0 .0),
+          edition-fine .0 (h .0 .1 .0),
+          depth-fine .0 (h .0 .1 .1 .0),
+          image-fine .0 (h .0 .1 .1 .1 .0),
+          library-fine .0 (h .0 .1 .1 .1 .1 .0),
+          count-fine .0 (h .0 .1 .1 .1 .1 .1 .0),
+          this .0 (h .1),
+        )),
+        λ h. ((rules-fine .1 (h .0), (edition-fine .1 (h .1), (depth-fine .1 (h .2), (image-fine .1 (h .3), (library-fine .1 (h .4), (count-fine .1 (h .5), tt)))))), this .1 (h .6)),
       )
   given-exactly NoModule = by-reading NoModule refl refl
   given-exactly BodyPastEnd = by-reading BodyPastEnd refl refl

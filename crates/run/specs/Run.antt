@@ -6,7 +6,7 @@ use mathlib.Core.Option.{Option, none, some}
 use lib.Dec.{ltb}
 use lib.ListN.{length}
 use Rattle.lent.specs.declared.refusal.Refusal.{Refusal}
-use Rattle.lent.specs.declared.refusal.Refusal.the-variants.{RuleSet, ImageTooLong, LibraryTooLong, TooManyStretches, StretchPastEnd, TooFewRows, OtherEdition}
+use Rattle.lent.specs.declared.refusal.Refusal.the-variants.{RuleSet, ImageTooLong, LibraryTooLong, TooManyStretches, StretchPastEnd, TooFewRows, TooDeep, OtherEdition}
 use Rattle.lent.specs.Choice.{if_then_else_, when, leading}
 use Rattle.lent.specs.Lists.{total}
 use Rattle.lent.specs.Refusals.{refusalNumber, zeroes}
@@ -66,7 +66,7 @@ cover s = coverOf (s .withheld)
 
 -- what the settings ask of the search
 abbrev pub askedOf : Settings → Asked
-askedOf s = record { rules = rulesOf (s .rules); check = s .check; minimum = s .minimum }
+askedOf s = record { rules = rulesOf (s .rules); depth = s .depth; minimum = s .minimum }
 
 -- the library, read in the edition of the settings
 abbrev pub libraryRead : List ℕ → Settings → ReadOutcome (List Module)
@@ -112,11 +112,16 @@ listOver lent c = tooMany lineWidth (lent .lines) (c .lines)
 abbrev pub otherEdition : ℕ → Bool
 otherEdition n = ltb n 1 || ltb 2 n
 
+-- references can be checked to depth 4 at most
+abbrev pub tooDeep : ℕ → Bool
+tooDeep depth = ltb 4 depth
+
 -- the refusals of a run in their order, of which the first that applies counts; the view is as long as the image
 unfoldable pub refusals : List ℕ → List ℕ → Settings → Lent → Counts → List (Option Refusal)
 refusals cells library s lent c =
     when (ltb 1 (s .rules)) RuleSet
     ∷ when (otherEdition (s .edition)) OtherEdition
+    ∷ when (tooDeep (s .depth)) TooDeep
     ∷ when (ltb 65536 (length cells)) ImageTooLong
     ∷ when (ltb 1048576 (length library)) LibraryTooLong
     ∷ when (tooManyStretches (s .withheld)) TooManyStretches

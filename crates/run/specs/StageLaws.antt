@@ -10,7 +10,7 @@ use borrow.Author.Tests.{eq-eqb, le-leb, ltb-true, ltb-false, lt-ltb, le-ltb}
 use lib.Dec.{eqb, leb, ltb}
 use lib.ListN.{length}
 use Rattle.lent.specs.declared.refusal.Refusal.{Refusal}
-use Rattle.lent.specs.declared.refusal.Refusal.the-variants.{RuleSet, ImageTooLong, LibraryTooLong, StretchPastEnd, NoModule, BodyPastEnd, LengthZero, NamesDiffer, TooFewRows, UnknownKind, UnknownBlock, ContentPastSegment, NoKeptSegment, WrongSum, LeftOver, TooManyStretches, OtherEdition}
+use Rattle.lent.specs.declared.refusal.Refusal.the-variants.{RuleSet, ImageTooLong, LibraryTooLong, StretchPastEnd, NoModule, BodyPastEnd, LengthZero, NamesDiffer, TooFewRows, UnknownKind, UnknownBlock, ContentPastSegment, NoKeptSegment, WrongSum, LeftOver, TooManyStretches, TooDeep, OtherEdition}
 use Rattle.lent.specs.Choice.{when}
 use Rattle.lent.specs.ChoiceLaws.{either}
 use Rattle.lent.specs.FirstOf.{none≢some}
@@ -71,6 +71,7 @@ reading-stage e library = record { out = fileRefusal (fileBy e library); can = r
     go WrongSum h = refl
     go LeftOver h = refl
     go TooManyStretches h = absurd h
+    go TooDeep h = absurd h
     go OtherEdition h = absurd h
 
 abbrev pub collecting-stage : List Module → Stage

@@ -28,7 +28,7 @@ pub record Fit (image : List ℕ) (w : Stretches) : Type 0 where
 
 -- the same settings with other stretches
 abbrev pub withholding : Settings → Stretches → Settings
-withholding s w = record { rules = s .rules; edition = s .edition; check = s .check; minimum = s .minimum; skip = s .skip; withheld = w }
+withholding s w = record { rules = s .rules; edition = s .edition; depth = s .depth; minimum = s .minimum; skip = s .skip; withheld = w }
 
 -- two such lists of stretches that cover the same bytes give one outcome, whatever later refusal it may be
 module _ (image library : List ℕ) (s : Settings) (lent : Lent) (v w : Stretches) (f : Fit image v) (g : Fit image w) where

@@ -10,18 +10,18 @@ use lib.ListN.{length, getElem?}
 use Rattle.lent.specs.Choice.{if_then_else_}
 use Rattle.lent.specs.FirstOf.{none≢some}
 use Rattle.lent.specs.Lists.{isIn, all}
+use Rattle.image.specs.declared.fixup.Rules.{Rules}
 use Rattle.image.specs.declared.fixup.Target.{Target}
 use Rattle.image.specs.declared.fixup.Target.the-variants.{At, PastEnd, Withheld}
 use Rattle.segments.specs.declared.Goal.{Goal}
 use Rattle.segments.specs.declared.Goal.the-variants as Goal
 use Rattle.segments.specs.declared.Reference.{Reference}
 use Rattle.segments.specs.Collect.{Collected}
-use Rattle.search_rules.specs.declared.Asked.{Asked}
 use Rattle.search_rules.specs.declared.Why.{Why}
 use Rattle.search_rules.specs.declared.Why.the-variants as Why
 use Rattle.search_rules.specs.declared.Failed.{Failed}
 use Rattle.search_rules.specs.declared.Failed.the-variants as Failed
-use Rattle.search_rules.specs.Search.{Match, positionsOf, targetOf, holdsAt, holds, failure, failed, failedFrom, firstFailed}
+use Rattle.search_rules.specs.Search.{positionsOf, leads, segmentOf, holdsAt, holdsTo, failure, failed, failedFrom, failedTo}
 
 -- no reason is told
 abbrev isNone : Option Why → Bool
@@ -34,15 +34,16 @@ isNothing Failed.Nothing = true
 isNothing (Failed.Reference number why) = false
 
 -- a reference holds exactly if there is no reason why it fails
-module _ (cells : List ℕ) (segments : List Collected) where
-  holds-unless : (goal : Goal) (t : Target) → holdsAt cells segments goal t ≡ isNone (failure cells segments goal t)
+module _ (cells : List ℕ) (segments : List Collected) (below : Collected → ℕ → Bool) where
+  holds-unless : (goal : Goal) (t : Target) → holdsAt cells segments below goal t ≡ isNone (failure cells segments below goal t)
   holds-unless goal PastEnd = refl
   holds-unless goal Withheld = refl
-  holds-unless (Goal.Segment number) (At t) = go (isIn (positionsOf cells segments number) t)
+  holds-unless (Goal.Segment number) (At t) = go (isIn (positionsOf cells segments number) t) (below (segmentOf segments number) t)
     where
-      go : (b : Bool) → b ≡ isNone (if b then none else some Why.NoMatch)
-      go true = refl
-      go false = refl
+      go : (b c : Bool) → (b && c) ≡ isNone (if b then (if c then none else some Why.NotHeld) else some Why.NoMatch)
+      go true true = refl
+      go true false = refl
+      go false c = refl
   holds-unless (Goal.Name name) (At t) = refl
 
 -- of a list: all hold exactly if none is told
@@ -57,16 +58,14 @@ all-unless p why e k (r ∷ rest) = ap (λ t. t && all p rest) (e r) ∙ go (why
     go none h = h
     go (some w) h = refl
 
--- of references that lead somewhere, among some segments
-none-failed : (cells : List ℕ) (segments : List Collected) (leads : Reference → Target) (rs : List Reference)
-    → all (λ r. holdsAt cells segments (r .goal) (leads r)) rs ≡ isNothing (failedFrom (λ r. failure cells segments (r .goal) (leads r)) 0 rs)
-none-failed cells segments leads rs =
-    all-unless _ (λ r. failure cells segments (r .goal) (leads r)) (λ r. holds-unless cells segments (r .goal) (leads r)) 0 rs
-
--- A MATCH HOLDS exactly if no reference of it fails
-pub holds-exactly : (cells : List ℕ) (a : Asked) (segments : List Collected) (m : Match) → holds cells a segments m ≡ isNothing (firstFailed cells a segments m)
-unfolding holds firstFailed
-holds-exactly cells a segments m = none-failed cells segments (targetOf cells a (m .position)) (m .segment .references)
+-- A MATCH HOLDS to a depth exactly if no reference of it fails there
+pub holds-exactly : (cells : List ℕ) (rules : Rules) (segments : List Collected) (d : ℕ) (g : Collected) (position : ℕ)
+    → holdsTo cells rules segments d g position ≡ isNothing (failedTo cells rules segments d g position)
+unfolding holdsTo failedTo
+holds-exactly cells rules segments zero g position = refl
+holds-exactly cells rules segments (suc d) g position =
+    all-unless _ (λ r. failure cells segments (λ h at. holdsTo cells rules segments d h at) (r .goal) (leads cells rules position r))
+    (λ r. holds-unless cells segments (λ h at. holdsTo cells rules segments d h at) (r .goal) (leads cells rules position r)) 0 (g .references)
 
 -- number i of some references fails for this reason, and none before it does
 pub record FailsFirst (why : Reference → Option Why) (rs : List Reference) (i : ℕ) (w : Why) : Type 0 where
@@ -120,13 +119,13 @@ module _ (why : Reference → Option Why) where
               before zero x l g = ap why (sym (ap inside g)) ∙ q
               before (suc j) x l g = f .earlier j x (omega (arith, l)) g
 
--- THE FIRST THAT FAILS is the one that is told, with its reason
-pub first-fails : (cells : List ℕ) (a : Asked) (segments : List Collected) (m : Match) (number : ℕ) (w : Why)
-    → firstFailed cells a segments m ≡ Failed.Reference number w
-    → FailsFirst (λ r. failure cells segments (r .goal) (targetOf cells a (m .position) r)) (m .segment .references) number w
-unfolding firstFailed
-first-fails cells a segments m number w e =
-    let why : Reference → Option Why = λ r. failure cells segments (r .goal) (targetOf cells a (m .position) r) in
-    let f = first-at why 0 (m .segment .references) number w e in
+-- THE FIRST THAT FAILS is the one that is told, with its reason; at depth 0 none is told
+pub first-fails : (cells : List ℕ) (rules : Rules) (segments : List Collected) (d : ℕ) (g : Collected) (position number : ℕ) (w : Why)
+    → failedTo cells rules segments (suc d) g position ≡ Failed.Reference number w
+    → FailsFirst (λ r. failure cells segments (λ h at. holdsTo cells rules segments d h at) (r .goal) (leads cells rules position r)) (g .references) number w
+unfolding failedTo
+first-fails cells rules segments d g position number w e =
+    let why : Reference → Option Why = λ r. failure cells segments (λ h at. holdsTo cells rules segments d h at) (r .goal) (leads cells rules position r) in
+    let f = first-at why 0 (g .references) number w e in
     let same : number ≡ f .0 = omega (arith, f .1) in
     rw same (f .2)

@@ -2,6 +2,7 @@
 pub mod Search
 pub mod SearchLaws
 pub mod FailedLaws
+pub mod DepthLaws
 pub mod NotedLaws
 pub mod SearchRows
 pub mod SearchRowLaws

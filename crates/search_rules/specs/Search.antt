@@ -1,5 +1,5 @@
 -- The matches of all segments, the symbols that they place, and the names that their references note.
-use Prim.Native.Nat.{ℕ, _+_}
+use Prim.Native.Nat.{ℕ, zero, suc, _+_}
 use mathlib.Core.Bool.{Bool, true, false, not, _&&_, _||_}
 use mathlib.Core.List.{List, [], _∷_, _++_, map}
 use mathlib.Core.Option.{Option, none, some}
@@ -9,7 +9,9 @@ use Rattle.lent.specs.declared.part.Part.{Part}
 use Rattle.lent.specs.Choice.{if_then_else_}
 use Rattle.lent.specs.Lists.{one, keep, joined, fold, any, all, isIn, numbered}
 use Rattle.lent.specs.Parts.{sameName}
+use Rattle.image.specs.declared.Seat.the-variants.{Anywhere}
 use Rattle.image.specs.Match.{matches}
+use Rattle.image.specs.declared.fixup.Rules.{Rules}
 use Rattle.image.specs.declared.fixup.Target.{Target}
 use Rattle.image.specs.declared.fixup.Target.the-variants.{At, PastEnd, Withheld}
 use Rattle.image.specs.fixup.Target.{target}
@@ -65,30 +67,49 @@ allMatches cells segments = joined (matchesOf cells) (numbered 0 segments)
 unfoldable pub isValid : Asked → Collected → Bool
 isValid a g = leb (a .minimum) (length (keep (λ mask. not (eqb mask 0)) (g .masks)))
 
+-- where a reference of a match at a position leads
+abbrev pub leads : List ℕ → Rules → ℕ → Reference → Target
+leads cells rules position r = target cells rules (position + r .place) (r .kind) (r .offset)
+
 -- the target of a reference of a match at a position
 abbrev pub targetOf : List ℕ → Asked → ℕ → Reference → Target
-targetOf cells a position r = target cells (a .rules) (position + r .place) (r .kind) (r .offset)
+targetOf cells a position r = leads cells (a .rules) position r
 
--- a reference without a target does not hold; a reference to a segment holds if that segment matches at the target; a
--- reference to a name holds
-abbrev pub holdsAt : List ℕ → List Collected → Goal → Target → Bool
-holdsAt cells segments goal PastEnd = false
-holdsAt cells segments goal Withheld = false
-holdsAt cells segments (Goal.Segment number) (At t) = isIn (positionsOf cells segments number) t
-holdsAt cells segments (Goal.Name name) (At t) = true
+-- the segment of a number; without one there is nothing in it
+abbrev pub noSegment : Collected
+noSegment = record { seat = Anywhere; bytes = []; masks = []; references = []; symbols = [] }
 
--- all references of a match hold
-unfoldable pub holds : List ℕ → Asked → List Collected → Match → Bool
-holds cells a segments m =
-    all (λ r. holdsAt cells segments (r .goal) (targetOf cells a (m .position) r)) (m .segment .references)
+abbrev pub segmentOf : List Collected → SegmentNumber → Collected
+segmentOf segments number = getD segments (number .0) noSegment
 
--- why a reference fails: its bytes pass the image's end, or one of them is withheld, or its segment does not match at the
--- target; a reference to a name that has a target does not fail
-abbrev pub failure : List ℕ → List Collected → Goal → Target → Option Why
-failure cells segments goal PastEnd = some Why.PastEnd
-failure cells segments goal Withheld = some Why.Withheld
-failure cells segments (Goal.Segment number) (At t) = if isIn (positionsOf cells segments number) t then none else some Why.NoMatch
-failure cells segments (Goal.Name name) (At t) = none
+-- a reference without a target does not hold; a reference to a segment holds if that segment matches at the target, and
+-- this match holds by the test `below`; a reference to a name holds
+abbrev pub holdsAt : List ℕ → List Collected → (Collected → ℕ → Bool) → Goal → Target → Bool
+holdsAt cells segments below goal PastEnd = false
+holdsAt cells segments below goal Withheld = false
+holdsAt cells segments below (Goal.Segment number) (At t) = isIn (positionsOf cells segments number) t && below (segmentOf segments number) t
+holdsAt cells segments below (Goal.Name name) (At t) = true
+
+-- a match, of a segment at a position, holds to a depth: at depth 0 every match does; at depth d + 1 it does if all of its
+-- references hold, those to segments by matches that hold to depth d
+unfoldable pub holdsTo : List ℕ → Rules → List Collected → ℕ → Collected → ℕ → Bool
+holdsTo cells rules segments zero g position = true
+holdsTo cells rules segments (suc d) g position =
+    all (λ r. holdsAt cells segments (λ h at. holdsTo cells rules segments d h at) (r .goal) (leads cells rules position r)) (g .references)
+
+-- a match holds to the depth that is asked
+abbrev pub holds : List ℕ → Asked → List Collected → Match → Bool
+holds cells a segments m = holdsTo cells (a .rules) segments (a .depth) (m .segment) (m .position)
+
+-- why a reference fails, with the test `below` for the matches to which it leads: its bytes pass the image's end, or one of
+-- them is withheld, or its segment does not match at the target, or this match does not hold; a reference to a name that has
+-- a target does not fail
+abbrev pub failure : List ℕ → List Collected → (Collected → ℕ → Bool) → Goal → Target → Option Why
+failure cells segments below goal PastEnd = some Why.PastEnd
+failure cells segments below goal Withheld = some Why.Withheld
+failure cells segments below (Goal.Segment number) (At t) =
+    if isIn (positionsOf cells segments number) t then (if below (segmentOf segments number) t then none else some Why.NotHeld) else some Why.NoMatch
+failure cells segments below (Goal.Name name) (At t) = none
 
 -- the first of some references that fails, in their order, which are numbered from k on
 abbrev pub failed : ℕ → Option Why → Failed → Failed
@@ -99,10 +120,15 @@ unfoldable pub failedFrom : (Reference → Option Why) → ℕ → List Referenc
 failedFrom why k [] = Failed.Nothing
 failedFrom why k (r ∷ rest) = failed k (why r) (failedFrom why (k + 1) rest)
 
--- the first reference of a match, in file order, that fails, and why
-unfoldable pub firstFailed : List ℕ → Asked → List Collected → Match → Failed
-firstFailed cells a segments m =
-    failedFrom (λ r. failure cells segments (r .goal) (targetOf cells a (m .position) r)) 0 (m .segment .references)
+-- the first reference of a match, in file order, that fails at a depth, and why; at depth 0 none does
+unfoldable pub failedTo : List ℕ → Rules → List Collected → ℕ → Collected → ℕ → Failed
+failedTo cells rules segments zero g position = Failed.Nothing
+failedTo cells rules segments (suc d) g position =
+    failedFrom (λ r. failure cells segments (λ h at. holdsTo cells rules segments d h at) (r .goal) (leads cells rules position r)) 0 (g .references)
+
+-- the first that fails at the depth that is asked
+abbrev pub firstFailed : List ℕ → Asked → List Collected → Match → Failed
+firstFailed cells a segments m = failedTo cells (a .rules) segments (a .depth) (m .segment) (m .position)
 
 -- what a reference notes: nothing without a target, or if its goal is a segment; else the name at the target
 abbrev pub noteAt : Bool → Goal → Target → List Noting
@@ -148,10 +174,9 @@ symbolAt a m y = record {
   base = m .position;
 }
 
--- the symbols that a match places: with checking on, none if one of its references does not hold
+-- the symbols that a match places: none if it does not hold to the depth that is asked
 unfoldable pub symbolsAt : List ℕ → Asked → List Collected → Match → List Placing
-symbolsAt cells a segments m =
-    if a .check && not (holds cells a segments m) then [] else map (symbolAt a m) (m .segment .symbols)
+symbolsAt cells a segments m = if holds cells a segments m then map (symbolAt a m) (m .segment .symbols) else []
 
 -- some row places this name at this position
 abbrev pub isPlaced : List ℕ → List Placing → ℕ → Part → Bool

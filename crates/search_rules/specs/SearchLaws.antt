@@ -1,5 +1,5 @@
--- Where placed symbols come from, which stay, and that a failed check takes no noting away. Assumes nothing.
-use Prim.Native.Nat.{ℕ, _+_, _≤_, _<_}
+-- Where placed symbols come from, and which stay. Assumes nothing.
+use Prim.Native.Nat.{ℕ, suc, _+_, _≤_, _<_}
 use mathlib.Core.Path.{_≡_, refl, sym, ap, _∙_}
 use mathlib.Core.Logic.{_⊎_, inl, inr}
 use mathlib.Core.Bool.{Bool, true, false, not, _&&_, _||_, or-true, false≢true}
@@ -8,6 +8,7 @@ use borrow.Author.Tests.{leb-false, le-leb, lt-leb}
 use lib.Dec.{leb}
 use lib.ListN.{length}
 use Rattle.lent.specs.Choice.{if_then_else_}
+use Rattle.lent.specs.ChoiceLaws.{both}
 use Rattle.lent.specs.Lists.{one, joined, isIn, numbered}
 use Rattle.lent.specs.Members.{_among_, of-all, of-keep, of-joined, of-fold, of-numbered, to-joined}
 use Rattle.image.specs.declared.Seat.{Seat}
@@ -22,7 +23,7 @@ use Rattle.segments.specs.declared.Reference.{Reference}
 use Rattle.segments.specs.declared.Symbol.{Symbol}
 use Rattle.segments.specs.Collect.{Collected}
 use Rattle.search_rules.specs.declared.Asked.{Asked}
-use Rattle.search_rules.specs.Search.{Match, Placing, positions, matchesOf, positionsOf, allMatches, isValid, targetOf, holdsAt, holds, notes, noted, symbolAt, symbolsAt, isPlaced, place, placed}
+use Rattle.search_rules.specs.Search.{Match, Placing, positions, matchesOf, positionsOf, allMatches, isValid, leads, segmentOf, holdsAt, holdsTo, holds, symbolAt, symbolsAt, isPlaced, place, placed}
 
 -- an absolute segment is found at its address
 abbrev pub Seated : Seat → ℕ → Type 0
@@ -69,30 +70,33 @@ unfolding allMatches
 all-searched cells segments number g at i j =
     to-joined (matchesOf cells) (numbered 0 segments) i (Memᴰ·map (λ k. record { number = number; segment = g; position = k }) j)
 
--- a reference that holds has a target, and a segment reference leads to a match of that segment
-abbrev pub Held : List ℕ → List Collected → Goal → Target → Type 0
-Held cells segments goal PastEnd = ⊥
-Held cells segments goal Withheld = ⊥
-Held cells segments (Goal.Segment number) (At t) = isIn (positionsOf cells segments number) t ≡ true
-Held cells segments (Goal.Name name) (At t) = Unit
+-- a reference that holds has a target, and a segment reference leads to a match of that segment that holds by the test `below`
+abbrev pub Held : List ℕ → List Collected → (Collected → ℕ → Bool) → Goal → Target → Type 0
+Held cells segments below goal PastEnd = ⊥
+Held cells segments below goal Withheld = ⊥
+Held cells segments below (Goal.Segment number) (At t) = (isIn (positionsOf cells segments number) t ≡ true) × (below (segmentOf segments number) t ≡ true)
+Held cells segments below (Goal.Name name) (At t) = Unit
 
-pub holds-each : (cells : List ℕ) (a : Asked) (segments : List Collected) (m : Match) → holds cells a segments m ≡ true
-    → (r : Reference) → r among m .segment .references → Held cells segments (r .goal) (targetOf cells a (m .position) r)
-unfolding holds
-holds-each cells a segments m e r i = held (r .goal) (targetOf cells a (m .position) r) (of-all _ (m .segment .references) e i)
+pub holds-each : (cells : List ℕ) (rules : Rules) (segments : List Collected) (d : ℕ) (g : Collected) (position : ℕ) → holdsTo cells rules segments (suc d) g position ≡ true
+    → (r : Reference) → r among g .references → Held cells segments (λ h at. holdsTo cells rules segments d h at) (r .goal) (leads cells rules position r)
+unfolding holdsTo
+holds-each cells rules segments d g position e r i = held (r .goal) (leads cells rules position r) (of-all _ (g .references) e i)
   where
-    held : (goal : Goal) (t : Target) → holdsAt cells segments goal t ≡ true → Held cells segments goal t
+    below : Collected → ℕ → Bool
+    below h at = holdsTo cells rules segments d h at
+
+    held : (goal : Goal) (t : Target) → holdsAt cells segments below goal t ≡ true → Held cells segments below goal t
     held goal PastEnd h = false≢true h
     held goal Withheld h = false≢true h
-    held (Goal.Segment number) (At t) h = h
+    held (Goal.Segment number) (At t) h = both (isIn (positionsOf cells segments number) t) (below (segmentOf segments number) t) h
     held (Goal.Name name) (At t) h = tt
 
--- a placed symbol is a symbol of a match, which holds where checking is on, at match position + offset, before the image's
--- end; it is valid if the match is
+-- a placed symbol is a symbol of a match, which holds to the depth that is asked, at match position + offset, before the
+-- image's end; it is valid if the match is
 pub record PlacedBy (cells : List ℕ) (a : Asked) (segments : List Collected) (p : Placing) : Type 0 where
   pub m : Match
   pub matched-at : Matched cells segments m
-  pub checked : a .check ≡ true → holds cells a segments m ≡ true
+  pub checked : holds cells a segments m ≡ true
   pub symbol : Symbol
   pub carried : symbol among m .segment .symbols
   pub named : p .name ≡ symbol .name
@@ -137,20 +141,15 @@ placed-by library cells a segments p i =
     start (of-fold (place library (length cells)) (λ new q. (q ≡ new) × (new .position < length cells)) (λ rows new. of-place library (length cells) rows new)
     (joined (symbolsAt cells a segments) (allMatches cells segments)) [] i)
   where
-    passed : (check held : Bool) → (check && not held) ≡ false → check ≡ true → held ≡ true
-    passed true true e h = refl
-    passed true false e h = absurd (false≢true (sym e))
-    passed false held e h = absurd (false≢true h)
-
     symbol : (m : Match) → m among allMatches cells segments → (new : Placing) → p ≡ new → new .position < length cells
-        → (t : Bool) → (a .check && not (holds cells a segments m)) ≡ t → new among (if t then [] else map (symbolAt a m) (m .segment .symbols)) → PlacedBy cells a segments p
-    symbol m j new e l true f k = absurd (List·Memᴰ·not-nil k)
-    symbol m j new e l false f k =
+        → (t : Bool) → holds cells a segments m ≡ t → new among (if t then map (symbolAt a m) (m .segment .symbols) else []) → PlacedBy cells a segments p
+    symbol m j new e l false f k = absurd (List·Memᴰ·not-nil k)
+    symbol m j new e l true f k =
         let y = Memᴰ·of-map (symbolAt a m) (m .segment .symbols) k in
         record {
           m = m;
           matched-at = matched cells segments m j;
-          checked = passed (a .check) (holds cells a segments m) f;
+          checked = f;
           symbol = y .0;
           carried = y .1;
           named = ap (λ q. q .name) (e ∙ sym (y .2));
@@ -164,11 +163,4 @@ placed-by library cells a segments p i =
     start (inl j) = absurd (List·Memᴰ·not-nil j)
     start (inr q) =
         let from = of-joined (symbolsAt cells a segments) (allMatches cells segments) (q .1) in
-        symbol (from .0) (from .1) (q .0) (q .2 .0) (q .2 .1) (a .check && not (holds cells a segments (from .0))) refl (from .2)
-
--- the notings are the same with checking on and off: a match that fails its check keeps its own
-pub noted-unchecked : (library cells : List ℕ) (rules : Rules) (minimum : ℕ) (segments : List Collected)
-    → noted library cells (record { rules = rules; check = true; minimum = minimum }) segments
-    ≡ noted library cells (record { rules = rules; check = false; minimum = minimum }) segments
-unfolding noted notes isValid
-noted-unchecked library cells rules minimum segments = refl
+        symbol (from .0) (from .1) (q .0) (q .2 .0) (q .2 .1) (holds cells a segments (from .0)) refl (from .2)

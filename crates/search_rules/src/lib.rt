@@ -3,19 +3,21 @@ use image::fixup::Rules;
 use lent::part::Part;
 use segments::SegmentNumber;
 
-// What is asked of a search: the rule set, whether references are checked, and how many masks other than 0 make a match valid.
+// What is asked of a search: the rule set, the depth to which references are checked (0: they are not), and how many masks
+// other than 0 make a match valid.
 pub struct Asked {
     pub rules: Rules,
-    pub check: bool,
+    pub depth: u64,
     pub minimum: usize,
 }
 
-// Why a reference of a match fails: its bytes pass the image's end; one of them is withheld; the segment to which it refers
-// does not match at its target.
+// Why a reference of a match fails at a depth: its bytes pass the image's end; one of them is withheld; the segment to which
+// it refers does not match at its target; or it does, and that match does not hold at one depth less.
 pub enum Why {
     PastEnd,
     Withheld,
     NoMatch,
+    NotHeld,
 }
 
 // The first reference of a match that fails, by its number among the references of the match, from 0 on; or none does.
