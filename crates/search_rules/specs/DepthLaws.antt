@@ -5,7 +5,6 @@ use mathlib.Core.Path.{_≡_, refl, sym, ap, _∙_}
 use mathlib.Core.Bool.{Bool, true, false, not, _&&_, and-true, false≢true}
 use mathlib.Core.List.{List, [], _∷_, map}
 use native.Mathlib.Omega.{arith}
-use native.Mathlib.Numerals.{unary-clauses}
 use Rattle.lent.specs.Choice.{if_then_else_}
 use Rattle.lent.specs.Lists.{all, isIn}
 use Rattle.image.specs.declared.fixup.Rules.{Rules}
@@ -82,12 +81,15 @@ module _ (cells : List ℕ) (rules : Rules) (segments : List Collected) where
       all-less (λ r. at-less {p = λ h at. holdsTo cells rules segments (suc d) h at} {q = λ h at. holdsTo cells rules segments d h at} (λ h at. holds-less d h at) (r .goal) (leads cells rules position r))
       (g .references) e
 
+  at-depth : {d e : ℕ} → d ≡ e → (g : Collected) (position : ℕ) → holdsTo cells rules segments d g position ≡ true → holdsTo cells rules segments e g position ≡ true
+  at-depth same g position h = sym (ap (λ k. holdsTo cells rules segments k g position) same) ∙ h
+
   steps-less : (k e : ℕ) (g : Collected) (position : ℕ) → holdsTo cells rules segments (k + e) g position ≡ true → holdsTo cells rules segments e g position ≡ true
-  steps-less zero e g position h = simp unary-clauses at h
-  steps-less (suc k) e g position h = steps-less k e g position (holds-less (k + e) g position (simp unary-clauses at h))
+  steps-less zero e g position h = at-depth (omega arith) g position h
+  steps-less (suc k) e g position h = steps-less k e g position (holds-less (k + e) g position (at-depth (omega arith) g position h))
 
   pub holds-every-less : (d e : ℕ) → e ≤ d → (g : Collected) (position : ℕ) → holdsTo cells rules segments d g position ≡ true → holdsTo cells rules segments e g position ≡ true
-  holds-every-less d e l g position h = let same : d ≡ (d - e) + e = omega (arith, l) in steps-less (d - e) e g position (sym (ap (λ k. holdsTo cells rules segments k g position) same) ∙ h)
+  holds-every-less d e l g position h = steps-less (d - e) e g position (at-depth (omega (arith, l)) g position h)
 
 -- so the symbols that a match places are those of checking off at depth 0, and those of checking on at depth 1
 module _ (cells : List ℕ) (a : Asked) (segments : List Collected) (m : Match) where
