@@ -31,7 +31,7 @@ use Rattle.segments.specs.Collect.{referencesOf, symbolsOf, keptSegment, absolu
 use Rattle.segments.specs.SegmentRows.{segmentRowsFrom, segmentNumbers, referenceNumbers, symbolNumbers, patternBytes, patternMasks}
 use Rattle.tables.specs.by_name.Newest.{newestFrom}
 use Rattle.tables.specs.by_name.Sheet.{nameBucket, linkedFrom}
-use Rattle.search_rules.specs.Search.{positionsOf, allMatches, isValid, holds, notes, note, noted, symbolsAt, place, placed}
+use Rattle.search_rules.specs.Search.{positionsOf, allMatches, isValid, holdsTo, notes, note, noted, symbolsAt, place, placed}
 use Rattle.search_rules.specs.SearchRows.{placedNumbers, notedNumbers}
 use Rattle.listing_rules.specs.declared.Skip.the-variants.{Never}
 use Rattle.listing_rules.specs.Listing.{bestGrade, best, grade, gradedAt, linesAt, leftovers, listing, lineNumbers}
