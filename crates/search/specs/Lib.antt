@@ -5,9 +5,11 @@ pub mod Outcome
 pub mod EndLaws
 pub mod OneOutcome
 pub mod byte_index
+pub mod depth
 pub mod failed
 pub mod matches
 pub mod note
 pub mod place
 pub mod targets
+pub mod told
 pub mod visit

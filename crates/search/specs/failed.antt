@@ -1,5 +1,4 @@
 -- Which reference of a match fails first.
 pub mod Failures
 pub mod FailureLaws
-pub mod FailedMatchLaws
 pub mod OneOutcome

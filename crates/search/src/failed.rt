@@ -1,20 +1,14 @@
-// Which reference of a match fails first, and why. Nothing is noted here, and nothing written.
+// Whether a reference of a match fails at depth 1, and why: one step is looked at. Nothing is noted here, and nothing written.
 ghost use mathlib.Core.Path.{_≡_};
 ghost use mathlib.Core.Bool.{not};
 ghost use Rattle.image.specs.View.{stretchesIn, view};
 ghost use Rattle.search_rules.specs.FailedLaws.{isNothing};
-ghost use Rattle.search.specs.failed.Failures.{FailsBy, FirstToFail};
+ghost use Rattle.search.specs.failed.Failures.{FailsBy};
 use crate::targets::is_match;
-use crate::targets::target_of;
-use image::fixup::Rules;
 use image::fixup::Target;
-use lent::part::Part;
 use search_rules::Failed;
 use search_rules::Why;
 use segments::Goal;
-use segments::recalled::lies_within;
-use segments::rows::REFERENCE_WIDTH;
-use segments::rows::reference_at;
 
 // Whether a reference failed.
 pub fn is_failed(f: Failed) -> bool
@@ -27,8 +21,8 @@ pub fn is_failed(f: Failed) -> bool
 }
 
 // Whether the reference number k of a match fails, by its goal and target, and why: it has no target, since its bytes pass
-// the image's end or are withheld, or its segment does not match at the target. The other parameters are those of
-// `first_failed`.
+// the image's end or are withheld, or its segment does not match at the target. The image with its stretches `s` and the
+// first n segments, with `bytes` and `masks`, tell what matches there.
 pub fn failed_by(
     image: &[u8],
     s: &[u64],
@@ -64,39 +58,4 @@ pub fn failed_by(
             }
         }
     }
-}
-
-// The first reference in a part of the rows that fails, for a match at `position`, and why. The image with its stretches `s`
-// gives the targets; the first n segments, with `bytes` and `masks`, tell what matches there.
-pub fn first_failed(
-    image: &[u8],
-    s: &[u64],
-    rules: Rules,
-    position: usize,
-    segments: &[u64],
-    n: usize,
-    references: &[u64],
-    part: Part,
-    bytes: &[u8],
-    masks: &[u8],
-) -> Failed
-    ensures { λ q. ⌜ FirstToFail (view (now (image .entry)) (stretchesIn (now (s .entry)))) rules position (now (segments .entry)) n (now (references .entry)) part (now (bytes .entry)) (now (masks .entry)) q ⌝ }
-{
-    let at = part.at;
-    let len = part.len;
-    if !lies_within(part, references.len() / REFERENCE_WIDTH) {
-        return Failed::Nothing;
-    }
-    let mut k = 0;
-    while k < len {
-        let r = reference_at(references, at + k);
-        let goal = r.goal;
-        let target = target_of(image, s, rules, position, r);
-        let f = failed_by(image, s, segments, n, bytes, masks, k, goal, target);
-        if is_failed(f) {
-            return f;
-        }
-        k += 1;
-    }
-    Failed::Nothing
 }

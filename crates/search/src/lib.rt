@@ -1,5 +1,6 @@
 // The search of an image for segments that are stored in lent memory.
 pub mod byte_index;
+pub mod depth;
 pub mod entry;
 pub mod failed;
 pub mod fill;
@@ -8,6 +9,7 @@ pub mod note;
 pub mod place;
 pub mod rows;
 pub mod targets;
+pub mod told;
 pub mod visit;
 
 use lent::refusal::Refusal;

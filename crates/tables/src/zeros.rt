@@ -80,6 +80,20 @@ pub fn few_links() -> [u32; 4096]
     [0u32; 4096]
 }
 
+// Answers that the check of references remembers, 1,024 rows of four numbers.
+pub fn many_answers() -> [u64; 4096]
+    ensures { λ r. ⌜ r ≡ zeroList 4096 ⌝ }
+{
+    [0u64; 4096]
+}
+
+// The same for an image of at most 4 KiB: 64 rows.
+pub fn few_answers() -> [u64; 256]
+    ensures { λ r. ⌜ r ≡ zeroList 256 ⌝ }
+{
+    [0u64; 256]
+}
+
 // The heads of the buckets by which rows of placed symbols or noted names are found: 65,536 buckets
 // of keys, then as many of key and name.
 pub fn bucket_heads() -> [u32; 131072]

@@ -19,10 +19,10 @@ use Rattle.search_rules.specs.declared.Why.{Why}
 use Rattle.search_rules.specs.declared.Why.the-variants as Why
 use Rattle.search_rules.specs.declared.Failed.{Failed}
 use Rattle.search_rules.specs.declared.Failed.the-variants as Failed
-use Rattle.search_rules.specs.Search.{failure, failed, failedFrom}
+use Rattle.search_rules.specs.Search.{leads, failure, failed, failedFrom}
 use Rattle.search_rules.specs.FailedLaws.{isNothing}
-use Rattle.search.specs.targets.Seats.{leads, IsMatch}
-use Rattle.search.specs.failed.Failures.{whyOf, FailsBy}
+use Rattle.search.specs.targets.Seats.{IsMatch}
+use Rattle.search.specs.failed.Failures.{atOnce, whyOf, FailsBy}
 
 module _ (cells segments : List ℕ) (n : ℕ) (bytes masks : List ℕ) (k : ℕ) (goal : Goal) (target : Target) where
   abbrev Fails : Failed → Type 0
@@ -30,14 +30,14 @@ module _ (cells segments : List ℕ) (n : ℕ) (bytes masks : List ℕ) (k : ℕ
 
   -- without a target, whatever the goal
   pub fails-past : target ≡ PastEnd → Fails (Failed.Reference k Why.PastEnd)
-  fails-past e stored symbols = sym (ap (λ t. failed k (failure cells (recalled segments stored symbols bytes masks n) goal t) Failed.Nothing) e)
+  fails-past e stored symbols = sym (ap (λ t. failed k (failure cells (recalled segments stored symbols bytes masks n) atOnce goal t) Failed.Nothing) e)
 
   pub fails-withheld : target ≡ Withheld → Fails (Failed.Reference k Why.Withheld)
-  fails-withheld e stored symbols = sym (ap (λ t. failed k (failure cells (recalled segments stored symbols bytes masks n) goal t) Failed.Nothing) e)
+  fails-withheld e stored symbols = sym (ap (λ t. failed k (failure cells (recalled segments stored symbols bytes masks n) atOnce goal t) Failed.Nothing) e)
 
   -- with one, by the goal
   module _ (t : ℕ) (e : target ≡ At t) where
-    by-goal : (g : Goal) → goal ≡ g → (q : Failed) → ((stored symbols : List ℕ) → q ≡ failed k (failure cells (recalled segments stored symbols bytes masks n) g (At t)) Failed.Nothing)
+    by-goal : (g : Goal) → goal ≡ g → (q : Failed) → ((stored symbols : List ℕ) → q ≡ failed k (failure cells (recalled segments stored symbols bytes masks n) atOnce g (At t)) Failed.Nothing)
         → Fails q
     by-goal g is q h stored symbols = rw (e, is) (h stored symbols)
 
@@ -59,7 +59,7 @@ pub fails-led : (cells : List ℕ) (rules : Rules) (position : ℕ) (segments : 
     → (q : Failed) → FailsBy cells segments n bytes masks k (r .goal) t q
     → (stored symbols : List ℕ) → q ≡ failed k (whyOf cells rules position (recalled segments stored symbols bytes masks n) r) Failed.Nothing
 fails-led cells rules position segments n bytes masks k r t led q h stored symbols =
-    h stored symbols ∙ ap (λ x. failed k (failure cells (recalled segments stored symbols bytes masks n) (r .goal) x) Failed.Nothing) led
+    h stored symbols ∙ ap (λ x. failed k (failure cells (recalled segments stored symbols bytes masks n) atOnce (r .goal) x) Failed.Nothing) led
 
 -- a step from one reference to the next, by the code's answer on it
 module _ (why : Reference → Option Why) (k : ℕ) (r : Reference) (rest : List Reference) (f : Failed) (is : f ≡ failed k (why r) Failed.Nothing) (out : Bool) (o : out ≡ not (isNothing f)) where

@@ -13,9 +13,8 @@ use Rattle.segments.specs.SegmentLayouts.{referenceLayout}
 use Rattle.tables.specs.by_name.Tables.{table, Takes}
 use Rattle.segments.specs.recalled.Recall.{rowsOf}
 use Rattle.search_rules.specs.declared.Noted.{Noted}
-use Rattle.search_rules.specs.Search.{Noting, noteAt, note}
+use Rattle.search_rules.specs.Search.{Noting, leads, noteAt, note}
 use Rattle.search_rules.specs.SearchRows.{notedSheet}
-use Rattle.search.specs.targets.Seats.{leads}
 use Rattle.search.specs.failed.Failures.{FirstAmong}
 use Rattle.search.specs.declared.note.Referred.{Referred}
 

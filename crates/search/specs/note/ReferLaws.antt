@@ -22,10 +22,9 @@ use Rattle.segments.specs.recalled.Recall.{recalled}
 use Rattle.search_rules.specs.declared.Why.{Why}
 use Rattle.search_rules.specs.declared.Failed.{Failed}
 use Rattle.search_rules.specs.declared.Failed.the-variants as Failed
-use Rattle.search_rules.specs.Search.{failed, failedFrom, noteAt, note}
+use Rattle.search_rules.specs.Search.{leads, failed, failedFrom, noteAt, note}
 use Rattle.search_rules.specs.SearchRows.{notedSheet}
 use Rattle.search_rules.specs.FailedLaws.{isNothing}
-use Rattle.search.specs.targets.Seats.{leads}
 use Rattle.search.specs.failed.Failures.{whyOf, FailsBy}
 use Rattle.search.specs.failed.FailureLaws.{fails-led, orElse, goes-on, all-asked}
 use Rattle.search.specs.note.NotedNames.{NotesOne, NotesAt, notesOf, Refers}

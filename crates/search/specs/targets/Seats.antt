@@ -1,5 +1,5 @@
--- Where a reference leads, where a pattern may stand, and whether a place is a match of the segment of a number.
-use Prim.Native.Nat.{ℕ, _+_}
+-- Where a pattern may stand, and whether a place is a match of the segment of a number.
+use Prim.Native.Nat.{ℕ}
 use mathlib.Core.Path.{_≡_}
 use mathlib.Core.Bool.{Bool, true}
 use mathlib.Core.List.{List}
@@ -7,17 +7,9 @@ use lib.Dec.{eqb}
 use Rattle.lent.specs.Lists.{isIn}
 use Rattle.image.specs.declared.Seat.{Seat}
 use Rattle.image.specs.declared.Seat.the-variants.{Anywhere, Only}
-use Rattle.image.specs.declared.fixup.Rules.{Rules}
-use Rattle.image.specs.declared.fixup.Target.{Target}
-use Rattle.image.specs.fixup.Target.{target}
 use Rattle.segments.specs.declared.SegmentNumber.{SegmentNumber}
-use Rattle.segments.specs.declared.Reference.{Reference}
 use Rattle.segments.specs.recalled.Recall.{recalled}
 use Rattle.search_rules.specs.Search.{positionsOf}
-
--- where a reference of a match at a position leads
-abbrev pub leads : List ℕ → Rules → ℕ → Reference → Target
-leads cells rules position r = target cells rules (position + r .place) (r .kind) (r .offset)
 
 abbrev pub mayStand : Seat → ℕ → Bool
 mayStand Anywhere at = true

@@ -1,7 +1,7 @@
 -- What a match leaves, by its references and symbols; and the matches of all segments, one after another. Assumes nothing.
 use Prim.Native.Nat.{ℕ, zero, suc, _+_, _-_, _/_, _<_, _≤_}
 use mathlib.Core.Path.{_≡_, refl, sym, ap, _∙_}
-use mathlib.Core.Bool.{Bool, true, false, not, _&&_}
+use mathlib.Core.Bool.{Bool, true, false, not}
 use mathlib.Core.List.{List, [], _∷_, _++_, map, append-nil}
 use native.Mathlib.Omega.{arith}
 use native.Mathlib.Nat.{sub-zero}
@@ -18,12 +18,9 @@ use Rattle.segments.specs.Collect.{Collected}
 use Rattle.segments.specs.SegmentLayouts.{referenceLayout, symbolLayout, segmentRowAt}
 use Rattle.segments.specs.recalled.Recall.{rowsOf, recalledBy, recalled}
 use Rattle.search_rules.specs.declared.Asked.{Asked}
-use Rattle.search_rules.specs.declared.Failed.{Failed}
 use Rattle.search_rules.specs.Search.{Match, Placing, positions, matchesOf, allMatches, isValid, holds, notes, symbolAt, symbolsAt}
-use Rattle.search_rules.specs.FailedLaws.{isNothing, holds-exactly}
 use Rattle.search.specs.place.PlacedSymbols.{placingOf}
-use Rattle.search.specs.failed.Failures.{FirstToFail}
-use Rattle.search.specs.failed.FailedMatchLaws.{match-failed}
+use Rattle.search.specs.depth.Depths.{KeepsOut}
 use Rattle.search.specs.note.NotedNames.{notesOf}
 use Rattle.search.specs.visit.Visits.{Stored, segmentsIn, segmentAt, placings, notings, segmentBy, matchOf}
 
@@ -59,14 +56,14 @@ module _ (cells : List ℕ) (a : Asked) (library : List ℕ) (t : Stored) (n : �
   abbrev unless : Bool → List Placing
   unless fails = if fails then [] else map (symbolAt a m) (m .segment .symbols)
 
-  module _ (q : Failed) (e : FirstToFail cells (a .rules) at (t .segments) n (t .references) (row .references) (t .bytes) (t .masks) q)
-      (failed : Bool) (f : failed ≡ not (isNothing q)) (out : Bool) (o : out ≡ (a .check && failed)) where
-    holds-told : holds cells a gs m ≡ isNothing q
-    holds-told = holds-exactly cells a gs m ∙ ap isNothing (sym (match-failed cells a library t n number row at q e))
-
+  module _ (out : Bool) (o : KeepsOut cells (a .rules) (t .segments) n (t .references) (t .bytes) (t .masks) (a .depth) at (row .references) out) where
     placed-unless : placings cells a gs (one m) ≡ unless out
-    unfolding symbolsAt
-    placed-unless = one-placed ∙ ap (λ h. unless (a .check && not h)) holds-told ∙ ap unless (ap (λ x. a .check && x) (sym f) ∙ sym o)
+    unfolding symbolsAt recalledBy
+    placed-unless = one-placed ∙ turned (holds cells a gs m) ∙ ap unless (sym (o (t .symbols) (segmentBy cells a library t n row) refl))
+      where
+        turned : (b : Bool) → (if b then map (symbolAt a m) (m .segment .symbols) else []) ≡ unless (not b)
+        turned true = refl
+        turned false = refl
 
     pub match-fails : out ≡ true → [] ≡ placings cells a gs (one m)
     match-fails is = sym (placed-unless ∙ ap unless is)
@@ -97,8 +94,8 @@ module _ (cells : List ℕ) (a : Asked) (t : Stored) (n i : ℕ) (row : SegmentR
   nothing-placed : (at : ℕ) → symbolsAt cells a (segmentsIn t n) (matchAt at) ≡ []
   unfolding symbolsAt
   nothing-placed at =
-      let fails = a .check && not (holds cells a (segmentsIn t n) (matchAt at)) in
-      ap (λ ys. if fails then [] else map (symbolAt a (matchAt at)) ys) no-symbols ∙ same fails []
+      let passes = holds cells a (segmentsIn t n) (matchAt at) in
+      ap (λ ys. if passes then map (symbolAt a (matchAt at)) ys else []) no-symbols ∙ same passes []
 
   nothing-noted : (at : ℕ) → notes cells a g at ≡ []
   unfolding notes joined

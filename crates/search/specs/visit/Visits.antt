@@ -13,6 +13,7 @@ use Rattle.search_rules.specs.declared.Asked.{Asked}
 use Rattle.search_rules.specs.Search.{Match, Placing, Noting, matchesOf, allMatches, isValid, notes, symbolsAt}
 use Rattle.search.specs.place.PlacedSymbols.{Places}
 use Rattle.search.specs.note.NotedNames.{Notes}
+use Rattle.search.specs.depth.Depths.{Told}
 use Rattle.search.specs.declared.visit.Fills.{Fills}
 
 -- the lists in which the segments are stored, and the segments of the first n rows
@@ -46,6 +47,10 @@ pub record Visits (cells : List ℕ) (a : Asked) (library : List ℕ) (gs : List
     (placed positions noted goals : List ℕ) (f : Fills) (placed′ positions′ noted′ goals′ : List ℕ) (f′ : Fills) : Type 0 where
   pub places : Places library (length cells) (placings cells a gs ms) placed positions (f .placed) placed′ positions′ (f′ .placed)
   pub notes : Notes library (notings cells a gs ms) noted goals (f .noted) noted′ goals′ (f′ .noted)
+
+-- a table tells the truth about the segments that are stored
+abbrev pub ToldOf : List ℕ → Asked → Stored → ℕ → List ℕ → Type 0
+ToldOf cells a t n m = Told cells (a .rules) (t .segments) n (t .references) (t .bytes) (t .masks) m
 
 -- a match of the segment of a row, if its validity is known; all matches of segment i; those of the first n
 module _ (cells : List ℕ) (a : Asked) (library : List ℕ) (t : Stored) (n : ℕ) where

@@ -1,13 +1,13 @@
 // All segments, by their numbers.
 ghost use Rattle.image.specs.View.{stretchesIn, view};
 ghost use Rattle.search.specs.byte_index.Index.{Indexed};
-ghost use Rattle.search.specs.visit.Visits.{stored, VisitsAll};
+ghost use Rattle.search.specs.visit.Visits.{stored, ToldOf, VisitsAll};
 use crate::visit::Fills;
 use crate::visit::segment::search_segment;
 use search_rules::Asked;
 
 // Searches the image, with its stretches `s`, for each of the first n segments in the five lists of the collection.
-// `first` and `next` are the byte index of the image. The two lists of the search, `placed` and `noted`, are filled
+// `first` and `next` are the byte index of the image, and `told` is what the check of references remembers. The two lists of the search, `placed` and `noted`, are filled
 // from `before` on; their rows are found by the heads in `positions` and `goals`. Names are parts of `library`.
 pub fn search_all(
     image: &[u8],
@@ -22,13 +22,14 @@ pub fn search_all(
     masks: &[u8],
     first: &[u32],
     next: &[u32],
+    told: &mut [u64],
     placed: &mut [u64],
     positions: &mut [u32],
     noted: &mut [u64],
     goals: &mut [u32],
     before: Fills,
 ) -> Fills
-    requires { ⌜ Indexed (now image) (now first) (now next) ⌝ }
+    requires { ⌜ Indexed (now image) (now first) (now next) × ToldOf (view (now image) (stretchesIn (now s))) asked (stored (now segments) (now references) (now symbols) (now bytes) (now masks)) n (now told) ⌝ }
     ensures { λ r. ⌜ VisitsAll (view (now (image .entry)) (stretchesIn (now (s .entry)))) asked (now (library .entry)) (stored (now (segments .entry)) (now (references .entry)) (now (symbols .entry)) (now (bytes .entry)) (now (masks .entry))) n
         (now (placed .entry)) (now (positions .entry)) (now (noted .entry)) (now (goals .entry)) before (now (placed .exit)) (now (positions .exit)) (now (noted .exit)) (now (goals .exit)) r ⌝ }
 {
@@ -49,6 +50,7 @@ pub fn search_all(
             first,
             next,
             i,
+            told,
             placed,
             positions,
             noted,

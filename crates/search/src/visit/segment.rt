@@ -1,7 +1,7 @@
 // All matches of one segment, ascending.
 ghost use Rattle.image.specs.View.{stretchesIn, view};
 ghost use Rattle.search.specs.byte_index.Index.{Indexed};
-ghost use Rattle.search.specs.visit.Visits.{stored, VisitsSegment};
+ghost use Rattle.search.specs.visit.Visits.{stored, ToldOf, VisitsSegment};
 use crate::matches::Next;
 use crate::matches::next_place;
 use crate::matches::start;
@@ -29,15 +29,17 @@ pub fn search_segment(
     first: &[u32],
     next: &[u32],
     i: usize,
+    told: &mut [u64],
     placed: &mut [u64],
     positions: &mut [u32],
     noted: &mut [u64],
     goals: &mut [u32],
     before: Fills,
 ) -> Fills
-    requires { ⌜ Indexed (now image) (now first) (now next) ⌝ }
+    requires { ⌜ Indexed (now image) (now first) (now next) × ToldOf (view (now image) (stretchesIn (now s))) asked (stored (now segments) (now references) (now symbols) (now bytes) (now masks)) n (now told) ⌝ }
     ensures { λ r. ⌜ VisitsSegment (view (now (image .entry)) (stretchesIn (now (s .entry)))) asked (now (library .entry)) (stored (now (segments .entry)) (now (references .entry)) (now (symbols .entry)) (now (bytes .entry)) (now (masks .entry))) n i
-        (now (placed .entry)) (now (positions .entry)) (now (noted .entry)) (now (goals .entry)) before (now (placed .exit)) (now (positions .exit)) (now (noted .exit)) (now (goals .exit)) r ⌝ }
+        (now (placed .entry)) (now (positions .entry)) (now (noted .entry)) (now (goals .entry)) before (now (placed .exit)) (now (positions .exit)) (now (noted .exit)) (now (goals .exit)) r
+        × ToldOf (view (now (image .entry)) (stretchesIn (now (s .entry)))) asked (stored (now (segments .entry)) (now (references .entry)) (now (symbols .entry)) (now (bytes .entry)) (now (masks .entry))) n (now (told .exit)) ⌝ }
 {
     let row = segment_at(segments, i);
     let seat = row.seat;
@@ -70,6 +72,7 @@ pub fn search_segment(
             row,
             valid,
             at,
+            told,
             placed,
             positions,
             noted,

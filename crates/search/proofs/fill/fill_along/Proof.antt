@@ -8,22 +8,22 @@ use Rattle.search.proofs.fill.fill_along.Statement.{statement}
 use Rattle.search.proofs.fill.fill_along.Tie as tie
 
 -- The ladder: places of the code that the answers cite, each as it is seen from a later place.
-abbrev at-entry : tie.After-clear → tie.Start
-at-entry c = c .before .before .before .before .before .before .before .before .before .before .before .before .before .before .before
+abbrev at-entry : tie.After-slice-known3 → tie.Start
+at-entry c = c .before .before .before .before .before .before .before .before .before .before .before
 
-abbrev after-byte-heads : tie.After-first3 → tie.After-byte-heads
-after-byte-heads c = c .before .before .before .before .before .before .before
+abbrev after-noted : tie.After-search-all-arg5 → tie.After-noted
+after-noted c = c .before .before .before .before .before .before .before .before .before .before .before .before .before .before
 
-abbrev after-placed2 : tie.After-slice-known12 → tie.After-placed2
+abbrev after-placed2 : tie.After-slice-known14 → tie.After-placed2
 after-placed2 c = c .before .before .before .before .before .before .before
 
-abbrev after-placed : tie.After-slice-known12 → tie.After-placed
-after-placed c = after-byte-heads (after-placed2 c .before .before .before .before .before .before .before) .before .before .before .before .before .before
+abbrev after-placed : tie.After-slice-known14 → tie.After-placed
+after-placed c = after-noted (after-placed2 c .before .before .before .before .before) .before .before .before .before
 
 index-requires : tie.Need-index-requires
 index-requires c κs =
     let byte-heads = c .before .before in
-    let entry = at-entry (byte-heads .before .before .before .before .before .before .before) in
+    let entry = at-entry (byte-heads .before .before .before .before .before .before .before .before .before .before .before .before) in
     zeros-ready (entry .args .image .now) (byte-heads .byte-heads .result) (entry .args .next .now) (entry .pre .0) (entry .pre .1) (byte-heads .byte-heads .ensures)
 
 same-length-2 : tie.Need-same-length-2
@@ -31,16 +31,15 @@ same-length-2 c = after-placed2 c .placed2 .given ∙ after-placed c .placed .gi
 
 same-length-4 : tie.Need-same-length-4
 same-length-4 c =
-    let byte-heads = after-byte-heads (after-placed2 c .before .before .before .before .before .before .before) in
-    c .before .before .before .noted2 .given ∙ byte-heads .before .before .noted .given
+    c .before .before .before .noted2 .given ∙ after-noted (after-placed2 c .before .before .before .before .before) .noted .given
 
 returns : tie.Need-returns
 returns c =
     let placed2 = after-placed2 c in
-    let clear2 = after-byte-heads (placed2 .before .before .before .before .before .before .before) .before .before .before in
+    let clear2 = after-noted (placed2 .before .before .before .before .before) .before in
     let clear = after-placed c .before in
-    let a = at-entry clear .args in
-    let v = placed2 .before .search-all in
+    let a = at-entry (clear .before .before .before .before .before) .args in
+    let v = placed2 .before .before .before .search-all in
     rows-filled (view (a .image .now) (stretchesIn (a .s .now))) (a .asked) (a .library .now)
     (stored (a .segments .now) (a .references .now) (a .symbols .now) (a .bytes .now) (a .masks .now)) (a .n)
     (a .placed .now) (a .positions .now) (a .noted .now) (a .goals .now) (clear .clear .last .0) (clear2 .clear2 .last .0)

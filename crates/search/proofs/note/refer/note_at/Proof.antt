@@ -1,25 +1,9 @@
 -- `note_at`, case by case. Assumes nothing.
-use Prim.Native.Nat.{ℕ}
-use mathlib.Core.Path.{_≡_}
-use mathlib.Core.Logic.{inl, inr}
-use mathlib.Core.List.{[], _∷_}
-use native.Mathlib.Omega.{arith}
-use denote.Enum.Declared.{tagOf}
-use types.Run.{OneOf}
-use Rattle.image.specs.declared.fixup.Target.{Target}
-use Rattle.image.specs.declared.fixup.Target.the-variants.{At, PastEnd, Withheld}
-use Rattle.image.proofs.fixup.Target.{the-type}
+use Rattle.search.specs.targets.NowhereLaws.{nowhere}
 use Rattle.search.specs.note.ReferLaws.{notes-nowhere, notes-segment, notes-name}
 use borrow.Author.Needs.{needs}
 use Rattle.search.proofs.note.refer.note_at.Statement.{statement}
 use Rattle.search.proofs.note.refer.note_at.Tie as tie
-
--- a target that is past the end or withheld is no address
-nowhere : (t : Target) → OneOf (1 ∷ 2 ∷ []) (tagOf the-type t) → (at : ℕ) → t ≡ At at → ⊥
-nowhere (At x) (inl z) at e = absurd (omega arith)
-nowhere (At x) (inr z) at e = absurd (omega arith)
-nowhere PastEnd h at e = let z : _≡_ {A = ℕ} 0 1 = cc in absurd (omega arith)
-nowhere Withheld h at e = let z : _≡_ {A = ℕ} 0 1 = cc in absurd (omega arith)
 
 -- The ladder: places of the code that the answers cite, each as it is seen from a later place.
 abbrev at-entry : tie.After-slice-known2 → tie.Start

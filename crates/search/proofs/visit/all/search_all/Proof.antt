@@ -33,14 +33,14 @@ abbrev μ-loop : tie.MeasureT-loop
 μ-loop image s asked library segments n references symbols bytes masks first next placed₀ positions₀ noted₀ goals₀ f₀ i₀ placed positions noted goals f i = n - i
 
 -- The ladder: places of the code that the answers cite, each as it is seen from a later place.
-abbrev at-entry : tie.After-slice-known4 Inv-loop μ-loop → tie.Start Inv-loop μ-loop
-at-entry c = c .before .before .before .before .before .before .before .before .before .before .before .before .before .before
+abbrev at-entry : tie.After-slice-known Inv-loop μ-loop → tie.Start Inv-loop μ-loop
+at-entry c = c .before .before .before .before .before .before .before .before .before .before .before
 
-abbrev at-in-loop : tie.After-placed Inv-loop μ-loop → tie.In-loop Inv-loop μ-loop
-at-in-loop c = c .before .before .before .before .before .before
-
-abbrev after-placed : tie.After-slice-known8 Inv-loop μ-loop → tie.After-placed Inv-loop μ-loop
+abbrev after-placed : tie.After-slice-known10 Inv-loop μ-loop → tie.After-placed Inv-loop μ-loop
 after-placed c = c .before .before .before .before .before .before .before
+
+abbrev at-in-loop : tie.After-slice-known10 Inv-loop μ-loop → tie.In-loop Inv-loop μ-loop
+at-in-loop c = after-placed c .before .before .before .before .before .before .before .before .before
 
 abbrev rows : tie.Start Inv-loop μ-loop → Stored
 rows c = stored (c .args .segments .now) (c .args .references .now) (c .args .symbols .now) (c .args .bytes .now) (c .args .masks .now)
@@ -50,7 +50,7 @@ seen c = view (c .args .image .now) (stretchesIn (c .args .s .now))
 
 loop-holds : tie.Need-loop-holds Inv-loop μ-loop
 loop-holds c =
-    let entry = at-entry c in
+    let entry = at-entry (c .before .before .before .before) in
     let a = entry .args in
     record {
       within = omega arith;
@@ -63,28 +63,26 @@ loop-holds c =
     }
 
 search-segment-requires : tie.Need-search-segment-requires Inv-loop μ-loop
-search-segment-requires c κs = at-entry (c .before .before .before .before .before .before) .pre
+search-segment-requires c κs = at-entry (c .before .before .before .before .before .before .before .before .before .before .before) .pre
 
 add-i : tie.Need-add-i Inv-loop μ-loop
 add-i c =
-    let in-loop = at-in-loop (after-placed c) in
-    omega (arith, in-loop .loop-test .taken, at-entry (in-loop .before .before) .fits)
+    omega (arith, at-in-loop c .loop-test .taken, at-entry (at-in-loop c .before .before .before .before .before .before) .fits)
 
 loop-less : tie.Need-loop-less Inv-loop μ-loop
-loop-less c = omega (arith, at-in-loop (after-placed c) .loop-test .taken)
+loop-less c = omega (arith, at-in-loop c .loop-test .taken)
 
 loop-again : tie.Need-loop-again Inv-loop μ-loop
 loop-again c =
-    let placed = after-placed c in
-    let in-loop = at-in-loop placed in
-    let entry = at-entry (in-loop .before .before) in
+    let in-loop = at-in-loop c in
+    let entry = at-entry (in-loop .before .before .before .before .before .before) in
     let a = entry .args in
     let l = in-loop .before .loop in
-    let v = placed .before .search-segment in
+    let v = after-placed c .before .before .before .search-segment in
     let more = joined (matchesBy (seen entry) (rows entry)) in
     record {
       within = omega (arith, in-loop .loop-test .taken);
-      placed-long = placed .placed .given ∙ l .inv .placed-long;
+      placed-long = after-placed c .placed .given ∙ l .inv .placed-long;
       positions-long = c .before .before .before .before .before .positions .given ∙ l .inv .positions-long;
       noted-long = c .before .before .before .noted .given ∙ l .inv .noted-long;
       goals-long = c .before .goals .given ∙ l .inv .goals-long;
@@ -112,7 +110,7 @@ same-length-4 c = c .before .loop .inv .goals-long
 
 returns : tie.Need-returns Inv-loop μ-loop
 returns c =
-    let entry = at-entry (c .before .before) in
+    let entry = at-entry (c .before .before .before .before .before .before) in
     let a = entry .args in
     let l = c .before .loop in
     subst (λ ms. Visits (seen entry) (a .asked) (a .library .now) (segmentsIn (rows entry) (a .n)) ms (a .placed .now) (a .positions .now)

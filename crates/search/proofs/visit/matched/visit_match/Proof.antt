@@ -22,16 +22,16 @@ use Rattle.search.proofs.visit.matched.visit_match.Tie as tie
 
 -- The ladder: places of the code that the answers cite, each as it is seen from a later place.
 abbrev after-refer-all : tie.After-keeps-out → tie.After-refer-all
-after-refer-all c = c .before .before .before .before .before .before .before
+after-refer-all c = c .before .before .before .before .before .before .before .before
 
 abbrev after-slice-known3 : tie.After-keeps-out → tie.After-slice-known3
-after-slice-known3 c = after-refer-all c .before .before .before .before .before .before
+after-slice-known3 c = after-refer-all c .before .before .before .before .before .before .before
 
 abbrev at-entry : tie.After-keeps-out → tie.Start
 at-entry c = after-slice-known3 c .before .before .before .before .before .before .before .before .before .before .before
 
 abbrev after-keeps-out : tie.After-fills2 → tie.After-keeps-out
-after-keeps-out c = c .before .before .before .before .before .before .before .before .before
+after-keeps-out c = c .before .before .before .before .before .before .before .before .before .before .before
 
 -- where the segments are stored, and what is seen
 abbrev rows : tie.Start → Stored
@@ -49,42 +49,39 @@ Left c placed positions noted goals f =
 
 returns : tie.Need-returns
 returns c =
-    let keeps-out = c .before .before in
-    let is-failed = keeps-out .before in
+    let keeps-out = c .before .before .before .before in
     let entry = at-entry keeps-out in
     let a = entry .args in
     let q = after-refer-all keeps-out .refer-all in
-    λ known. subst (Left entry (a .placed .now) (a .positions .now) (q .last .1 .1 .1 .1 .1 .1 .1 .1 .1 .1 .1 .1 .0)
+    ((λ known. subst (Left entry (a .placed .now) (a .positions .now) (q .last .1 .1 .1 .1 .1 .1 .1 .1 .1 .1 .1 .1 .0)
     (q .last .1 .1 .1 .1 .1 .1 .1 .1 .1 .1 .1 .1 .1 .0)) (sym (c .fills .ensures)) record {
       places =
           subst (λ xs. Takes placedSheet (a .library .now) (place (a .library .now) (length (seen entry))) xs
           (table (a .placed .now) (a .positions .now) (a .f .placed)) (table (a .placed .now) (a .positions .now) (a .f .placed)))
-          (match-fails (seen entry) (a .asked) (a .library .now) (rows entry) (a .n) (a .number) (a .row) (a .valid) (a .at) known (q .result .failed) (q .ensures .fails)
-          (is-failed .is-failed .result) (is-failed .is-failed .ensures) (keeps-out .keeps-out .result) (keeps-out .keeps-out .ensures) (c .before .if1 .taken))
+          (match-fails (seen entry) (a .asked) (a .library .now) (rows entry) (a .n) (a .number) (a .row) (a .valid) (a .at) known
+          (keeps-out .keeps-out .result) (keeps-out .keeps-out .ensures .0 (q .ensures .fails)) (c .before .if1 .taken))
           (takes-none placedSheet (a .library .now) (place (a .library .now) (length (seen entry))) (table (a .placed .now) (a .positions .now) (a .f .placed)));
       notes =
           subst (λ xs. Takes notedSheet (a .library .now) (note (a .library .now)) xs (table (a .noted .now) (a .goals .now) (a .f .noted))
           (table (q .last .1 .1 .1 .1 .1 .1 .1 .1 .1 .1 .1 .1 .0) (q .last .1 .1 .1 .1 .1 .1 .1 .1 .1 .1 .1 .1 .1 .0) (q .result .fill)))
           (match-notes (seen entry) (a .asked) (a .library .now) (rows entry) (a .n) (a .number) (a .row) (a .valid) (a .at) known)
           (q .ensures .notes);
-    }
+    }), keeps-out .keeps-out .ensures .1)
 
 returns-2 : tie.Need-returns-2
 returns-2 c =
     let keeps-out = after-keeps-out c in
-    let is-failed = keeps-out .before in
     let entry = at-entry keeps-out in
     let a = entry .args in
     let q = after-refer-all keeps-out .refer-all in
     let p = c .before .before .before .before .before .place-symbols in
-    λ known. subst (Left entry (p .last .1 .1 .1 .1 .1 .1 .1 .0) (p .last .1 .1 .1 .1 .1 .1 .1 .1 .0)
+    ((λ known. subst (Left entry (p .last .1 .1 .1 .1 .1 .1 .1 .0) (p .last .1 .1 .1 .1 .1 .1 .1 .1 .0)
     (q .last .1 .1 .1 .1 .1 .1 .1 .1 .1 .1 .1 .1 .0) (q .last .1 .1 .1 .1 .1 .1 .1 .1 .1 .1 .1 .1 .1 .0)) (sym (c .fills2 .ensures)) record {
       places =
           subst (λ xs. Takes placedSheet (a .library .now) (place (a .library .now) (length (seen entry))) xs
           (table (a .placed .now) (a .positions .now) (a .f .placed)) (table (p .last .1 .1 .1 .1 .1 .1 .1 .0) (p .last .1 .1 .1 .1 .1 .1 .1 .1 .0) (p .result)))
           (match-passes (seen entry) (a .asked) (a .library .now) (rows entry) (a .n) (a .number) (a .row) (a .valid) (a .at) known
-          (q .result .failed) (q .ensures .fails) (is-failed .is-failed .result) (is-failed .is-failed .ensures)
-          (keeps-out .keeps-out .result) (keeps-out .keeps-out .ensures) (c .before .before .before .before .before .before .before .before .if1 .left))
+          (keeps-out .keeps-out .result) (keeps-out .keeps-out .ensures .0 (q .ensures .fails)) (c .before .before .before .before .before .before .before .before .if1 .left))
           (subst (λ end. Takes placedSheet (a .library .now) (place (a .library .now) end)
           (map (placingOf (a .number) (a .at) (a .valid)) (rowsOf symbolLayout (a .symbols .now) (a .row .symbols)))
           (table (a .placed .now) (a .positions .now) (a .f .placed))
@@ -94,21 +91,25 @@ returns-2 c =
           (table (q .last .1 .1 .1 .1 .1 .1 .1 .1 .1 .1 .1 .1 .0) (q .last .1 .1 .1 .1 .1 .1 .1 .1 .1 .1 .1 .1 .1 .0) (q .result .fill)))
           (match-notes (seen entry) (a .asked) (a .library .now) (rows entry) (a .n) (a .number) (a .row) (a .valid) (a .at) known)
           (q .ensures .notes);
-    }
+    }), keeps-out .keeps-out .ensures .1)
+
+keeps-out-requires : tie.Need-keeps-out-requires
+keeps-out-requires c κs = c .before .before .before .before .before .before .before .before .before .before .before .before .before .before .before .before .before .before .before .before .before .before .before .before .before .pre
 
 pub visit-match-spec : {M : Type 1} → statement M
 visit-match-spec =
     tie.close
     (tie.spec
     (λ c κs. search needs)
+    keeps-out-requires
     (λ c κs. search needs)
-    (λ c κs. search needs)
-    (λ c κs. search needs)
+    (λ c. search needs)
     (λ c. search needs)
     (λ c. search needs)
     returns
     (λ c κs. search needs)
     (λ c κs. search needs)
+    (λ c. search needs)
     (λ c. search needs)
     (λ c. search needs)
     (λ c. search needs)

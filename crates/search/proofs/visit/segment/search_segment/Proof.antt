@@ -42,25 +42,25 @@ abbrev μ-loop : tie.MeasureT-loop
 
 -- The ladder: places of the code that the answers cite, each as it is seen from a later place.
 abbrev at-entry : tie.After-segment-at Inv-loop μ-loop → tie.Start Inv-loop μ-loop
-at-entry c = c .before .before .before .before .before .before .before .before .before .before .before .before .before .before .before
+at-entry c = c .before .before .before .before .before .before .before .before .before .before .before .before .before .before .before .before
 
-abbrev after-segment-at : tie.After-reaches Inv-loop μ-loop → tie.After-segment-at Inv-loop μ-loop
-after-segment-at c = c .before .before .before .before .before
+abbrev after-segment-at : tie.After-start Inv-loop μ-loop → tie.After-segment-at Inv-loop μ-loop
+after-segment-at c = c .before .before .before .before .before .before
 
 abbrev at-loop : tie.After-enum-told Inv-loop μ-loop → tie.At-loop Inv-loop μ-loop
 at-loop c = c .before .before .before
 
-abbrev after-next-place : tie.After-known-told Inv-loop μ-loop → tie.After-next-place Inv-loop μ-loop
-after-next-place c = c .before .before .before
+abbrev after-start : tie.After-known-told Inv-loop μ-loop → tie.After-start Inv-loop μ-loop
+after-start c = c .before .before .before .before .before
 
-abbrev after-reaches : tie.After-known-told Inv-loop μ-loop → tie.After-reaches Inv-loop μ-loop
-after-reaches c = after-next-place c .before .before .before
+abbrev after-name2 : tie.After-known-told Inv-loop μ-loop → tie.After-name2 Inv-loop μ-loop
+after-name2 c = after-start c .before .before
 
-abbrev after-placed : tie.After-slice-known8 Inv-loop μ-loop → tie.After-placed Inv-loop μ-loop
-after-placed c = c .before .before .before .before .before .before .before
+abbrev after-known-told : tie.After-positions Inv-loop μ-loop → tie.After-known-told Inv-loop μ-loop
+after-known-told c = c .before .before .before .before .before .before .before .before .before .before .before
 
-abbrev after-known-told : tie.After-slice-known8 Inv-loop μ-loop → tie.After-known-told Inv-loop μ-loop
-after-known-told c = after-placed c .before .before .before .before .before .before
+abbrev after-positions : tie.After-slice-known10 Inv-loop μ-loop → tie.After-positions Inv-loop μ-loop
+after-positions c = c .before .before .before .before .before
 
 abbrev rows : tie.Start Inv-loop μ-loop → Stored
 rows c = stored (c .args .segments .now) (c .args .references .now) (c .args .symbols .now) (c .args .bytes .now) (c .args .masks .now)
@@ -69,14 +69,13 @@ abbrev seen : tie.Start Inv-loop μ-loop → List ℕ
 seen c = view (c .args .image .now) (stretchesIn (c .args .s .now))
 
 -- the match that is reached, once it is known
-reached : (c : tie.After-known-told Inv-loop μ-loop) → Reached (at-entry (after-segment-at (after-reaches c)) .args .image .now)
-    (stretchesIn (at-entry (after-segment-at (after-reaches c)) .args .s .now)) (after-reaches c .before .before .name .result .now)
-    (after-reaches c .before .name2 .result .now) (after-next-place c .before .loop .c) (c .before .at .given .0 .0) (c .before .at .given .0 .1 .0)
+reached : (c : tie.After-known-told Inv-loop μ-loop) → Reached (at-entry (after-segment-at (after-start c)) .args .image .now)
+    (stretchesIn (at-entry (after-segment-at (after-start c)) .args .s .now)) (after-name2 c .before .name .result .now)
+    (after-name2 c .name2 .result .now) (c .before .before .before .before .loop .c) (c .before .at .given .0 .0) (c .before .at .given .0 .1 .0)
 reached c =
-    let reaches = after-reaches c in
-    let entry = at-entry (after-segment-at reaches) in
-    stepped-at (entry .args .image .now) (stretchesIn (entry .args .s .now)) (reaches .before .before .name .result .now) (reaches .before .name2 .result .now)
-    (after-next-place c .before .loop .c) (c .before .at .given .1) (after-next-place c .next-place .ensures)
+    let entry = at-entry (after-segment-at (after-start c)) in
+    stepped-at (entry .args .image .now) (stretchesIn (entry .args .s .now)) (after-name2 c .before .name .result .now) (after-name2 c .name2 .result .now)
+    (c .before .before .before .before .loop .c) (c .before .at .given .1) (c .before .before .before .next-place .ensures)
 
 returns : tie.Need-returns Inv-loop μ-loop
 returns c =
@@ -87,12 +86,11 @@ returns c =
     (segment-at .segment-at .ensures) (c .before .before .if1 .taken) (c .if2 .taken) (a .placed .now) (a .positions .now) (a .noted .now) (a .goals .now) (a .before)
 
 start-requires : tie.Need-start-requires Inv-loop μ-loop
-start-requires c κs = at-entry (after-segment-at c) .pre .heads
+start-requires c κs = at-entry (c .before .before .before .before .before) .pre .heads
 
 loop-holds : tie.Need-loop-holds Inv-loop μ-loop
 loop-holds c =
-    let segment-at = after-segment-at (c .before) in
-    let entry = at-entry segment-at in
+    let entry = at-entry (after-segment-at c) in
     let a = entry .args in
     record {
       placed-long = refl;
@@ -101,13 +99,13 @@ loop-holds c =
       goals-long = refl;
       sound = c .start .ensures .sound;
       leads = leading-starts (seen entry) (a .asked) (a .library .now) (segmentsIn (rows entry) (a .n))
-          (map (matchAt (seen entry) (a .asked) (a .library .now) (rows entry) (a .n) (a .i) (segment-at .segment-at .result))
+          (map (matchAt (seen entry) (a .asked) (a .library .now) (rows entry) (a .n) (a .i) (after-segment-at c .segment-at .result))
           (placesLeft (seen entry) (c .before .before .before .name .result .now) (c .before .before .name2 .result .now) (c .start .result)))
           (a .placed .now) (a .positions .now) (a .noted .now) (a .goals .now) (a .before);
     }
 
 next-place-requires : tie.Need-next-place-requires Inv-loop μ-loop
-next-place-requires c κs = record { nexts = at-entry (after-segment-at (c .before .before)) .pre .nexts; sound = c .loop .inv .sound }
+next-place-requires c κs = record { nexts = at-entry (after-segment-at (c .before)) .pre .nexts; sound = c .loop .inv .sound }
 
 same-length : tie.Need-same-length Inv-loop μ-loop
 same-length c = at-loop c .loop .inv .placed-long
@@ -125,7 +123,7 @@ returns-2 : tie.Need-returns-2 Inv-loop μ-loop
 returns-2 c =
     let loop = at-loop c in
     let start = loop .before in
-    let segment-at = after-segment-at (start .before) in
+    let segment-at = after-segment-at start in
     let entry = at-entry segment-at in
     let a = entry .args in
     let l = loop .loop in
@@ -145,32 +143,34 @@ returns-2 c =
 
 loop-less : tie.Need-loop-less Inv-loop μ-loop
 loop-less c =
-    let known-told = after-known-told c in
-    let reaches = after-reaches known-told in
-    let entry = at-entry (after-segment-at reaches) in
-    reached-less (entry .args .image .now) (stretchesIn (entry .args .s .now)) (reaches .before .before .name .result .now) (reaches .before .name2 .result .now)
-    (after-next-place known-told .before .loop .c) (reached known-told)
+    let known-told = after-known-told (after-positions c) in
+    let name2 = after-name2 known-told in
+    let entry = at-entry (after-segment-at (after-start known-told)) in
+    reached-less (entry .args .image .now) (stretchesIn (entry .args .s .now)) (name2 .before .name .result .now) (name2 .name2 .result .now)
+    (known-told .before .before .before .before .loop .c) (reached known-told)
 
 loop-again : tie.Need-loop-again Inv-loop μ-loop
 loop-again c =
-    let known-told = after-known-told c in
+    let positions = after-positions c in
+    let known-told = after-known-told positions in
     let at = known-told .before in
-    let next-place = after-next-place known-told in
-    let reaches = after-reaches known-told in
-    let segment-at = after-segment-at reaches in
+    let start = after-start known-told in
+    let reaches = start .before in
+    let name2 = reaches .before in
+    let segment-at = after-segment-at start in
     let entry = at-entry segment-at in
     let a = entry .args in
-    let l = next-place .before .loop in
-    let v = after-placed c .before .visit-match in
+    let l = at .before .before .before .loop in
+    let v = positions .before .before .before .before .before .visit-match in
     let row = segment-at .segment-at .result in
-    let b = reaches .before .before .name in
-    let m = reaches .before .name2 in
+    let b = name2 .before .name in
+    let m = name2 .name2 in
     let t = rows entry in
     let mk = matchAt (seen entry) (a .asked) (a .library .now) t (a .n) (a .i) row in
-    let every = map mk (placesLeft (seen entry) (b .result .now) (m .result .now) (next-place .before .before .start .result)) in
+    let every = map mk (placesLeft (seen entry) (b .result .now) (m .result .now) (start .start .result)) in
     record {
-      placed-long = after-placed c .placed .given ∙ l .inv .placed-long;
-      positions-long = c .before .before .before .before .before .positions .given ∙ l .inv .positions-long;
+      placed-long = positions .before .before .placed .given ∙ l .inv .placed-long;
+      positions-long = positions .positions .given ∙ l .inv .positions-long;
       noted-long = c .before .before .before .noted .given ∙ l .inv .noted-long;
       goals-long = c .before .goals .given ∙ l .inv .goals-long;
       sound = reached known-told .sound;

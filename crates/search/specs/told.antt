@@ -1,0 +1,3 @@
+-- What the check remembers.
+pub mod Answers
+pub mod AnswerLaws
