@@ -26,11 +26,14 @@ index-requires c κs =
     let entry = at-entry (byte-heads .before .before .before .before .before .before .before .before .before .before .before .before) in
     zeros-ready (entry .args .image .now) (byte-heads .byte-heads .result) (entry .args .next .now) (entry .pre .0) (entry .pre .1) (byte-heads .byte-heads .ensures)
 
-same-length-2 : tie.Need-same-length-2
-same-length-2 c = after-placed2 c .placed2 .given ∙ after-placed c .placed .given
+search-all-requires : tie.Need-search-all-requires
+search-all-requires c κs = (c .before .before .before .before .before .before .before .before .before .before .index .ensures, c .before .before .before .before .before .before .before .before .before .before .before .before .before .before .before .before .before .before .before .before .before .before .before .before .before .before .before .before .before .before .before .before .before .before .before .before .pre .2)
 
-same-length-4 : tie.Need-same-length-4
-same-length-4 c =
+same-length-3 : tie.Need-same-length-3
+same-length-3 c = after-placed2 c .placed2 .given ∙ after-placed c .placed .given
+
+same-length-5 : tie.Need-same-length-5
+same-length-5 c =
     c .before .before .before .noted2 .given ∙ after-noted (after-placed2 c .before .before .before .before .before) .noted .given
 
 returns : tie.Need-returns
@@ -43,8 +46,8 @@ returns c =
     rows-filled (view (a .image .now) (stretchesIn (a .s .now))) (a .asked) (a .library .now)
     (stored (a .segments .now) (a .references .now) (a .symbols .now) (a .bytes .now) (a .masks .now)) (a .n)
     (a .placed .now) (a .positions .now) (a .noted .now) (a .goals .now) (clear .clear .last .0) (clear2 .clear2 .last .0)
-    (v .last .1 .1 .1 .1 .1 .1 .1 .1 .1 .1 .1 .1 .0) (v .last .1 .1 .1 .1 .1 .1 .1 .1 .1 .1 .1 .1 .1 .0)
-    (v .last .1 .1 .1 .1 .1 .1 .1 .1 .1 .1 .1 .1 .1 .1 .0) (v .last .1 .1 .1 .1 .1 .1 .1 .1 .1 .1 .1 .1 .1 .1 .1 .0) (v .result)
+    (v .last .1 .1 .1 .1 .1 .1 .1 .1 .1 .1 .1 .1 .1 .0) (v .last .1 .1 .1 .1 .1 .1 .1 .1 .1 .1 .1 .1 .1 .1 .0)
+    (v .last .1 .1 .1 .1 .1 .1 .1 .1 .1 .1 .1 .1 .1 .1 .1 .0) (v .last .1 .1 .1 .1 .1 .1 .1 .1 .1 .1 .1 .1 .1 .1 .1 .1 .0) (v .result)
     (clear .clear .ensures) (clear2 .clear2 .ensures) (placed2 .placed2 .given) (c .before .before .before .noted2 .given) (v .ensures)
 
 pub fill-along-spec : {M : Type 1} → statement M
@@ -57,10 +60,11 @@ fill-along-spec =
     (λ c. search needs)
     index-requires
     (λ c. search needs)
-    (λ c κs. search needs)
+    search-all-requires
     (λ c. search needs)
-    same-length-2
     (λ c. search needs)
-    same-length-4
+    same-length-3
+    (λ c. search needs)
+    same-length-5
     (λ c. search needs)
     returns)

@@ -8,16 +8,18 @@ use Rattle.lent.specs.Lists.{joined, from}
 use Rattle.image.specs.View.{stretchesIn, view}
 use Rattle.search_rules.specs.declared.Asked.{Asked}
 use Rattle.search.specs.declared.visit.Fills.{Fills}
-use Rattle.search.specs.visit.Visits.{Stored, stored, segmentsIn, Visits}
+use Rattle.search.specs.visit.Visits.{Stored, stored, segmentsIn, Visits, ToldOf}
 use Rattle.search.specs.visit.VisitLaws.{matchesBy, all-by-number, next-number, no-number}
 use Rattle.search.specs.visit.VisitsLeft.{Leading}
 use Rattle.search.specs.visit.VisitsLeftLaws.{leading-starts, leading-on, leading-ends}
 use Rattle.search.proofs.visit.all.search_all.Statement.{statement}
 use Rattle.search.proofs.visit.all.search_all.Tie as tie
 
-record Inv (cells : List ℕ) (asked : Asked) (library : List ℕ) (t : Stored) (n : ℕ) (placed₀ positions₀ noted₀ goals₀ : List ℕ) (f₀ : Fills)
-    (placed positions noted goals : List ℕ) (f : Fills) (i : ℕ) : Type 0 where
+record Inv (cells : List ℕ) (asked : Asked) (library : List ℕ) (t : Stored) (n : ℕ) (told₀ placed₀ positions₀ noted₀ goals₀ : List ℕ) (f₀ : Fills)
+    (told placed positions noted goals : List ℕ) (f : Fills) (i : ℕ) : Type 0 where
   within : i ≤ n
+  told-long : length told ≡ length told₀
+  truth : ToldOf cells asked t n told
   placed-long : length placed ≡ length placed₀
   positions-long : length positions ≡ length positions₀
   noted-long : length noted ≡ length noted₀
@@ -26,11 +28,11 @@ record Inv (cells : List ℕ) (asked : Asked) (library : List ℕ) (t : Stored) 
       (joined (matchesBy cells t) (from i (n - i))) placed positions noted goals f
 
 abbrev Inv-loop : tie.InvT-loop
-Inv-loop image s asked library segments n references symbols bytes masks first next placed₀ positions₀ noted₀ goals₀ f₀ i₀ placed positions noted
-    goals f i = Inv (view image (stretchesIn s)) asked library (stored segments references symbols bytes masks) n placed₀ positions₀ noted₀ goals₀ f₀ placed positions noted goals f i
+Inv-loop image s asked library segments n references symbols bytes masks first next told₀ placed₀ positions₀ noted₀ goals₀ f₀ i₀ told placed positions noted
+    goals f i = Inv (view image (stretchesIn s)) asked library (stored segments references symbols bytes masks) n told₀ placed₀ positions₀ noted₀ goals₀ f₀ told placed positions noted goals f i
 
 abbrev μ-loop : tie.MeasureT-loop
-μ-loop image s asked library segments n references symbols bytes masks first next placed₀ positions₀ noted₀ goals₀ f₀ i₀ placed positions noted goals f i = n - i
+μ-loop image s asked library segments n references symbols bytes masks first next told₀ placed₀ positions₀ noted₀ goals₀ f₀ i₀ told placed positions noted goals f i = n - i
 
 -- The ladder: places of the code that the answers cite, each as it is seen from a later place.
 abbrev at-entry : tie.After-slice-known Inv-loop μ-loop → tie.Start Inv-loop μ-loop
@@ -54,6 +56,8 @@ loop-holds c =
     let a = entry .args in
     record {
       within = omega arith;
+      told-long = refl;
+      truth = entry .pre .1;
       placed-long = refl;
       positions-long = refl;
       noted-long = refl;
@@ -63,7 +67,9 @@ loop-holds c =
     }
 
 search-segment-requires : tie.Need-search-segment-requires Inv-loop μ-loop
-search-segment-requires c κs = at-entry (c .before .before .before .before .before .before .before .before .before .before .before) .pre
+search-segment-requires c κs =
+    let loop = c .before .before .before .before .before .before in
+    (at-entry (loop .before .before .before .before .before) .pre .0, loop .loop .inv .truth)
 
 add-i : tie.Need-add-i Inv-loop μ-loop
 add-i c =
@@ -82,6 +88,8 @@ loop-again c =
     let more = joined (matchesBy (seen entry) (rows entry)) in
     record {
       within = omega (arith, in-loop .loop-test .taken);
+      told-long = after-placed c .before .before .told .given ∙ l .inv .told-long;
+      truth = v .ensures .1;
       placed-long = after-placed c .placed .given ∙ l .inv .placed-long;
       positions-long = c .before .before .before .before .before .positions .given ∙ l .inv .positions-long;
       noted-long = c .before .before .before .noted .given ∙ l .inv .noted-long;
@@ -90,23 +98,26 @@ loop-again c =
           leading-on (seen entry) (a .asked) (a .library .now) (segmentsIn (rows entry) (a .n)) (more (from 0 (a .n - 0))) (a .placed .now)
           (a .positions .now) (a .noted .now) (a .goals .now) (a .before) {left = more (from (l .i) (a .n - l .i))} (l .placed) (l .positions) (l .noted) (l .goals) (l .f) (l .inv .leads)
           (matchesBy (seen entry) (rows entry) (l .i)) (more (from (l .i + 1) (a .n - (l .i + 1))))
-          (v .last .1 .1 .1 .1 .1 .1 .1 .1 .1 .1 .1 .1 .1 .0) (v .last .1 .1 .1 .1 .1 .1 .1 .1 .1 .1 .1 .1 .1 .1 .0)
-          (v .last .1 .1 .1 .1 .1 .1 .1 .1 .1 .1 .1 .1 .1 .1 .1 .0) (v .last .1 .1 .1 .1 .1 .1 .1 .1 .1 .1 .1 .1 .1 .1 .1 .1 .0) (v .result)
+          (v .last .1 .1 .1 .1 .1 .1 .1 .1 .1 .1 .1 .1 .1 .1 .0) (v .last .1 .1 .1 .1 .1 .1 .1 .1 .1 .1 .1 .1 .1 .1 .1 .0)
+          (v .last .1 .1 .1 .1 .1 .1 .1 .1 .1 .1 .1 .1 .1 .1 .1 .1 .0) (v .last .1 .1 .1 .1 .1 .1 .1 .1 .1 .1 .1 .1 .1 .1 .1 .1 .1 .0) (v .result)
           (next-number (seen entry) (rows entry) (l .i) (a .n) (omega (arith, in-loop .loop-test .taken)))
-          (v .ensures);
+          (v .ensures .0);
     }
 
 same-length : tie.Need-same-length Inv-loop μ-loop
-same-length c = c .before .loop .inv .placed-long
+same-length c = c .before .loop .inv .told-long
 
 same-length-2 : tie.Need-same-length-2 Inv-loop μ-loop
-same-length-2 c = c .before .loop .inv .positions-long
+same-length-2 c = c .before .loop .inv .placed-long
 
 same-length-3 : tie.Need-same-length-3 Inv-loop μ-loop
-same-length-3 c = c .before .loop .inv .noted-long
+same-length-3 c = c .before .loop .inv .positions-long
 
 same-length-4 : tie.Need-same-length-4 Inv-loop μ-loop
-same-length-4 c = c .before .loop .inv .goals-long
+same-length-4 c = c .before .loop .inv .noted-long
+
+same-length-5 : tie.Need-same-length-5 Inv-loop μ-loop
+same-length-5 c = c .before .loop .inv .goals-long
 
 returns : tie.Need-returns Inv-loop μ-loop
 returns c =
@@ -136,4 +147,5 @@ search-all-spec =
     same-length-2
     same-length-3
     same-length-4
+    same-length-5
     returns)

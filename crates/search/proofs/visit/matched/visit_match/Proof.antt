@@ -52,21 +52,23 @@ returns c =
     let keeps-out = c .before .before .before .before in
     let entry = at-entry keeps-out in
     let a = entry .args in
-    let q = after-refer-all keeps-out .refer-all in
-    ((λ known. subst (Left entry (a .placed .now) (a .positions .now) (q .last .1 .1 .1 .1 .1 .1 .1 .1 .1 .1 .1 .1 .0)
-    (q .last .1 .1 .1 .1 .1 .1 .1 .1 .1 .1 .1 .1 .1 .0)) (sym (c .fills .ensures)) record {
-      places =
-          subst (λ xs. Takes placedSheet (a .library .now) (place (a .library .now) (length (seen entry))) xs
-          (table (a .placed .now) (a .positions .now) (a .f .placed)) (table (a .placed .now) (a .positions .now) (a .f .placed)))
-          (match-fails (seen entry) (a .asked) (a .library .now) (rows entry) (a .n) (a .number) (a .row) (a .valid) (a .at) known
-          (keeps-out .keeps-out .result) (keeps-out .keeps-out .ensures .0 (q .ensures .fails)) (c .before .if1 .taken))
-          (takes-none placedSheet (a .library .now) (place (a .library .now) (length (seen entry))) (table (a .placed .now) (a .positions .now) (a .f .placed)));
-      notes =
-          subst (λ xs. Takes notedSheet (a .library .now) (note (a .library .now)) xs (table (a .noted .now) (a .goals .now) (a .f .noted))
-          (table (q .last .1 .1 .1 .1 .1 .1 .1 .1 .1 .1 .1 .1 .0) (q .last .1 .1 .1 .1 .1 .1 .1 .1 .1 .1 .1 .1 .1 .0) (q .result .fill)))
-          (match-notes (seen entry) (a .asked) (a .library .now) (rows entry) (a .n) (a .number) (a .row) (a .valid) (a .at) known)
-          (q .ensures .notes);
-    }), keeps-out .keeps-out .ensures .1)
+    let q = after-refer-all keeps-out .refer-all in (
+      (λ known. subst (Left entry (a .placed .now) (a .positions .now) (q .last .1 .1 .1 .1 .1 .1 .1 .1 .1 .1 .1 .1 .0)
+          (q .last .1 .1 .1 .1 .1 .1 .1 .1 .1 .1 .1 .1 .1 .0)) (sym (c .fills .ensures)) record {
+            places =
+                subst (λ xs. Takes placedSheet (a .library .now) (place (a .library .now) (length (seen entry))) xs
+                (table (a .placed .now) (a .positions .now) (a .f .placed)) (table (a .placed .now) (a .positions .now) (a .f .placed)))
+                (match-fails (seen entry) (a .asked) (a .library .now) (rows entry) (a .n) (a .number) (a .row) (a .valid) (a .at) known
+                (keeps-out .keeps-out .result) (keeps-out .keeps-out .ensures .0 (q .ensures .fails)) (c .before .if1 .taken))
+                (takes-none placedSheet (a .library .now) (place (a .library .now) (length (seen entry))) (table (a .placed .now) (a .positions .now) (a .f .placed)));
+            notes =
+                subst (λ xs. Takes notedSheet (a .library .now) (note (a .library .now)) xs (table (a .noted .now) (a .goals .now) (a .f .noted))
+                (table (q .last .1 .1 .1 .1 .1 .1 .1 .1 .1 .1 .1 .1 .0) (q .last .1 .1 .1 .1 .1 .1 .1 .1 .1 .1 .1 .1 .1 .0) (q .result .fill)))
+                (match-notes (seen entry) (a .asked) (a .library .now) (rows entry) (a .n) (a .number) (a .row) (a .valid) (a .at) known)
+                (q .ensures .notes);
+          }),
+      keeps-out .keeps-out .ensures .1,
+    )
 
 returns-2 : tie.Need-returns-2
 returns-2 c =
@@ -74,24 +76,26 @@ returns-2 c =
     let entry = at-entry keeps-out in
     let a = entry .args in
     let q = after-refer-all keeps-out .refer-all in
-    let p = c .before .before .before .before .before .place-symbols in
-    ((λ known. subst (Left entry (p .last .1 .1 .1 .1 .1 .1 .1 .0) (p .last .1 .1 .1 .1 .1 .1 .1 .1 .0)
-    (q .last .1 .1 .1 .1 .1 .1 .1 .1 .1 .1 .1 .1 .0) (q .last .1 .1 .1 .1 .1 .1 .1 .1 .1 .1 .1 .1 .1 .0)) (sym (c .fills2 .ensures)) record {
-      places =
-          subst (λ xs. Takes placedSheet (a .library .now) (place (a .library .now) (length (seen entry))) xs
-          (table (a .placed .now) (a .positions .now) (a .f .placed)) (table (p .last .1 .1 .1 .1 .1 .1 .1 .0) (p .last .1 .1 .1 .1 .1 .1 .1 .1 .0) (p .result)))
-          (match-passes (seen entry) (a .asked) (a .library .now) (rows entry) (a .n) (a .number) (a .row) (a .valid) (a .at) known
-          (keeps-out .keeps-out .result) (keeps-out .keeps-out .ensures .0 (q .ensures .fails)) (c .before .before .before .before .before .before .before .before .if1 .left))
-          (subst (λ end. Takes placedSheet (a .library .now) (place (a .library .now) end)
-          (map (placingOf (a .number) (a .at) (a .valid)) (rowsOf symbolLayout (a .symbols .now) (a .row .symbols)))
-          (table (a .placed .now) (a .positions .now) (a .f .placed))
-          (table (p .last .1 .1 .1 .1 .1 .1 .1 .0) (p .last .1 .1 .1 .1 .1 .1 .1 .1 .0) (p .result))) (sym (view-length (a .image .now) (stretchesIn (a .s .now)))) (p .ensures));
-      notes =
-          subst (λ xs. Takes notedSheet (a .library .now) (note (a .library .now)) xs (table (a .noted .now) (a .goals .now) (a .f .noted))
-          (table (q .last .1 .1 .1 .1 .1 .1 .1 .1 .1 .1 .1 .1 .0) (q .last .1 .1 .1 .1 .1 .1 .1 .1 .1 .1 .1 .1 .1 .0) (q .result .fill)))
-          (match-notes (seen entry) (a .asked) (a .library .now) (rows entry) (a .n) (a .number) (a .row) (a .valid) (a .at) known)
-          (q .ensures .notes);
-    }), keeps-out .keeps-out .ensures .1)
+    let p = c .before .before .before .before .before .place-symbols in (
+      (λ known. subst (Left entry (p .last .1 .1 .1 .1 .1 .1 .1 .0) (p .last .1 .1 .1 .1 .1 .1 .1 .1 .0)
+          (q .last .1 .1 .1 .1 .1 .1 .1 .1 .1 .1 .1 .1 .0) (q .last .1 .1 .1 .1 .1 .1 .1 .1 .1 .1 .1 .1 .1 .0)) (sym (c .fills2 .ensures)) record {
+            places =
+                subst (λ xs. Takes placedSheet (a .library .now) (place (a .library .now) (length (seen entry))) xs
+                (table (a .placed .now) (a .positions .now) (a .f .placed)) (table (p .last .1 .1 .1 .1 .1 .1 .1 .0) (p .last .1 .1 .1 .1 .1 .1 .1 .1 .0) (p .result)))
+                (match-passes (seen entry) (a .asked) (a .library .now) (rows entry) (a .n) (a .number) (a .row) (a .valid) (a .at) known
+                (keeps-out .keeps-out .result) (keeps-out .keeps-out .ensures .0 (q .ensures .fails)) (c .before .before .before .before .before .before .before .before .if1 .left))
+                (subst (λ end. Takes placedSheet (a .library .now) (place (a .library .now) end)
+                (map (placingOf (a .number) (a .at) (a .valid)) (rowsOf symbolLayout (a .symbols .now) (a .row .symbols)))
+                (table (a .placed .now) (a .positions .now) (a .f .placed))
+                (table (p .last .1 .1 .1 .1 .1 .1 .1 .0) (p .last .1 .1 .1 .1 .1 .1 .1 .1 .0) (p .result))) (sym (view-length (a .image .now) (stretchesIn (a .s .now)))) (p .ensures));
+            notes =
+                subst (λ xs. Takes notedSheet (a .library .now) (note (a .library .now)) xs (table (a .noted .now) (a .goals .now) (a .f .noted))
+                (table (q .last .1 .1 .1 .1 .1 .1 .1 .1 .1 .1 .1 .1 .0) (q .last .1 .1 .1 .1 .1 .1 .1 .1 .1 .1 .1 .1 .1 .0) (q .result .fill)))
+                (match-notes (seen entry) (a .asked) (a .library .now) (rows entry) (a .n) (a .number) (a .row) (a .valid) (a .at) known)
+                (q .ensures .notes);
+          }),
+      keeps-out .keeps-out .ensures .1,
+    )
 
 keeps-out-requires : tie.Need-keeps-out-requires
 keeps-out-requires c κs = c .before .before .before .before .before .before .before .before .before .before .before .before .before .before .before .before .before .before .before .before .before .before .before .before .before .pre

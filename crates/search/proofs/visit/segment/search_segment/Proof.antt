@@ -12,7 +12,7 @@ use Rattle.search.specs.matches.Cursor.{placesLeft, Sound, Reached}
 use Rattle.search.specs.matches.StepLaws.{stepped-at, stepped-done, reached-less}
 use Rattle.search_rules.specs.declared.Asked.{Asked}
 use Rattle.search.specs.declared.visit.Fills.{Fills}
-use Rattle.search.specs.visit.Visits.{Stored, stored, segmentsIn, Visits}
+use Rattle.search.specs.visit.Visits.{Stored, stored, segmentsIn, Visits, ToldOf}
 use Rattle.search.specs.visit.SegmentLaws.{matchAt, segment-matches, known-valid, visits-nothing}
 use Rattle.search.specs.visit.VisitsLeft.{Leading}
 use Rattle.search.specs.visit.VisitsLeftLaws.{leading-starts, leading-on, leading-ends}
@@ -20,9 +20,11 @@ use borrow.Author.Needs.{needs}
 use Rattle.search.proofs.visit.segment.search_segment.Statement.{statement}
 use Rattle.search.proofs.visit.segment.search_segment.Tie as tie
 
-record Inv (image : List ℕ) (s : List Stretch) (asked : Asked) (library : List ℕ) (t : Stored) (n i : ℕ) (placed₀ positions₀ noted₀ goals₀ : List ℕ)
+record Inv (image : List ℕ) (s : List Stretch) (asked : Asked) (library : List ℕ) (t : Stored) (n i : ℕ) (told₀ placed₀ positions₀ noted₀ goals₀ : List ℕ)
     (row : SegmentRow) (f₀ : Fills) (pattern masked : List ℕ) (c₀ : MatchCursor)
-    (placed positions noted goals : List ℕ) (f : Fills) (c : MatchCursor) : Type 0 where
+    (told placed positions noted goals : List ℕ) (f : Fills) (c : MatchCursor) : Type 0 where
+  told-long : length told ≡ length told₀
+  truth : ToldOf (view image s) asked t n told
   placed-long : length placed ≡ length placed₀
   positions-long : length positions ≡ length positions₀
   noted-long : length noted ≡ length noted₀
@@ -32,13 +34,13 @@ record Inv (image : List ℕ) (s : List Stretch) (asked : Asked) (library : List
       (map (matchAt (view image s) asked library t n i row) (placesLeft (view image s) pattern masked c)) placed positions noted goals f
 
 abbrev Inv-loop : tie.InvT-loop
-Inv-loop image s asked library segments n references symbols bytes masks first next i placed₀ positions₀ noted₀ goals₀ row f₀ pattern masked valid c₀
-    placed positions noted goals f c = Inv image (stretchesIn s) asked library (stored segments references symbols bytes masks) n i placed₀ positions₀ noted₀
-    goals₀ row f₀ pattern masked c₀ placed positions noted goals f c
+Inv-loop image s asked library segments n references symbols bytes masks first next i told₀ placed₀ positions₀ noted₀ goals₀ row f₀ pattern masked valid c₀
+    told placed positions noted goals f c = Inv image (stretchesIn s) asked library (stored segments references symbols bytes masks) n i told₀ placed₀ positions₀ noted₀
+    goals₀ row f₀ pattern masked c₀ told placed positions noted goals f c
 
 abbrev μ-loop : tie.MeasureT-loop
-μ-loop image s asked library segments n references symbols bytes masks first next i placed₀ positions₀ noted₀ goals₀ row f₀ pattern masked valid c₀
-    placed positions noted goals f c = length (placesLeft (view image (stretchesIn s)) pattern masked c)
+μ-loop image s asked library segments n references symbols bytes masks first next i told₀ placed₀ positions₀ noted₀ goals₀ row f₀ pattern masked valid c₀
+    told placed positions noted goals f c = length (placesLeft (view image (stretchesIn s)) pattern masked c)
 
 -- The ladder: places of the code that the answers cite, each as it is seen from a later place.
 abbrev at-entry : tie.After-segment-at Inv-loop μ-loop → tie.Start Inv-loop μ-loop
@@ -81,18 +83,22 @@ returns : tie.Need-returns Inv-loop μ-loop
 returns c =
     let segment-at = c .before .before .before .before in
     let entry = at-entry segment-at in
-    let a = entry .args in
-    visits-nothing (seen entry) (a .asked) (a .library .now) (rows entry) (a .n) (a .i) (segment-at .segment-at .result)
-    (segment-at .segment-at .ensures) (c .before .before .if1 .taken) (c .if2 .taken) (a .placed .now) (a .positions .now) (a .noted .now) (a .goals .now) (a .before)
+    let a = entry .args in (
+      visits-nothing (seen entry) (a .asked) (a .library .now) (rows entry) (a .n) (a .i) (segment-at .segment-at .result)
+          (segment-at .segment-at .ensures) (c .before .before .if1 .taken) (c .if2 .taken) (a .placed .now) (a .positions .now) (a .noted .now) (a .goals .now) (a .before),
+      entry .pre .1,
+    )
 
 start-requires : tie.Need-start-requires Inv-loop μ-loop
-start-requires c κs = at-entry (c .before .before .before .before .before) .pre .heads
+start-requires c κs = at-entry (c .before .before .before .before .before) .pre .0 .heads
 
 loop-holds : tie.Need-loop-holds Inv-loop μ-loop
 loop-holds c =
     let entry = at-entry (after-segment-at c) in
     let a = entry .args in
     record {
+      told-long = refl;
+      truth = entry .pre .1;
       placed-long = refl;
       positions-long = refl;
       noted-long = refl;
@@ -105,19 +111,25 @@ loop-holds c =
     }
 
 next-place-requires : tie.Need-next-place-requires Inv-loop μ-loop
-next-place-requires c κs = record { nexts = at-entry (after-segment-at (c .before)) .pre .nexts; sound = c .loop .inv .sound }
+next-place-requires c κs = record { nexts = at-entry (after-segment-at (c .before)) .pre .0 .nexts; sound = c .loop .inv .sound }
 
 same-length : tie.Need-same-length Inv-loop μ-loop
-same-length c = at-loop c .loop .inv .placed-long
+same-length c = at-loop c .loop .inv .told-long
 
 same-length-2 : tie.Need-same-length-2 Inv-loop μ-loop
-same-length-2 c = at-loop c .loop .inv .positions-long
+same-length-2 c = at-loop c .loop .inv .placed-long
 
 same-length-3 : tie.Need-same-length-3 Inv-loop μ-loop
-same-length-3 c = at-loop c .loop .inv .noted-long
+same-length-3 c = at-loop c .loop .inv .positions-long
 
 same-length-4 : tie.Need-same-length-4 Inv-loop μ-loop
-same-length-4 c = at-loop c .loop .inv .goals-long
+same-length-4 c = at-loop c .loop .inv .noted-long
+
+same-length-5 : tie.Need-same-length-5 Inv-loop μ-loop
+same-length-5 c = at-loop c .loop .inv .goals-long
+
+visit-match-requires : tie.Need-visit-match-requires Inv-loop μ-loop
+visit-match-requires c κs = c .before .before .before .before .before .before .before .before .before .loop .inv .truth
 
 returns-2 : tie.Need-returns-2 Inv-loop μ-loop
 returns-2 c =
@@ -131,15 +143,17 @@ returns-2 c =
     let b = start .before .before .before .name in
     let m = start .before .before .name2 in
     let mk = matchAt (seen entry) (a .asked) (a .library .now) (rows entry) (a .n) (a .i) (row .result) in
-    let every = map mk (placesLeft (seen entry) (b .result .now) (m .result .now) (start .start .result)) in
-    subst (λ ms. Visits (seen entry) (a .asked) (a .library .now) (segmentsIn (rows entry) (a .n)) ms (a .placed .now) (a .positions .now)
-    (a .noted .now) (a .goals .now) (a .before) (l .placed) (l .positions) (l .noted) (l .goals) (l .f))
-    (segment-matches (seen entry) (a .asked) (a .library .now) (rows entry) (a .n) (a .i) (row .result) (b .result .now) (m .result .now)
-    (b .ensures) (m .ensures) (row .ensures) {left = placesLeft (seen entry) (b .result .now) (m .result .now) (start .start .result)} (start .start .ensures .all (stretchesIn (a .s .now))))
-    (leading-ends (seen entry) (a .asked) (a .library .now) (segmentsIn (rows entry) (a .n)) every (a .placed .now) (a .positions .now)
-    (a .noted .now) (a .goals .now) (a .before) {left = map mk (placesLeft (seen entry) (b .result .now) (m .result .now) (l .c))} (l .placed)
-    (l .positions) (l .noted) (l .goals) (l .f) (l .inv .leads)
-    (ap (map mk) (stepped-done (a .image .now) (stretchesIn (a .s .now)) (b .result .now) (m .result .now) (l .c) (c .enum-told .given .1) (c .before .before .next-place .ensures))))
+    let every = map mk (placesLeft (seen entry) (b .result .now) (m .result .now) (start .start .result)) in (
+      subst (λ ms. Visits (seen entry) (a .asked) (a .library .now) (segmentsIn (rows entry) (a .n)) ms (a .placed .now) (a .positions .now)
+          (a .noted .now) (a .goals .now) (a .before) (l .placed) (l .positions) (l .noted) (l .goals) (l .f))
+          (segment-matches (seen entry) (a .asked) (a .library .now) (rows entry) (a .n) (a .i) (row .result) (b .result .now) (m .result .now)
+          (b .ensures) (m .ensures) (row .ensures) {left = placesLeft (seen entry) (b .result .now) (m .result .now) (start .start .result)} (start .start .ensures .all (stretchesIn (a .s .now))))
+          (leading-ends (seen entry) (a .asked) (a .library .now) (segmentsIn (rows entry) (a .n)) every (a .placed .now) (a .positions .now)
+          (a .noted .now) (a .goals .now) (a .before) {left = map mk (placesLeft (seen entry) (b .result .now) (m .result .now) (l .c))} (l .placed)
+          (l .positions) (l .noted) (l .goals) (l .f) (l .inv .leads)
+          (ap (map mk) (stepped-done (a .image .now) (stretchesIn (a .s .now)) (b .result .now) (m .result .now) (l .c) (c .enum-told .given .1) (c .before .before .next-place .ensures)))),
+      l .inv .truth,
+    )
 
 loop-less : tie.Need-loop-less Inv-loop μ-loop
 loop-less c =
@@ -169,6 +183,8 @@ loop-again c =
     let mk = matchAt (seen entry) (a .asked) (a .library .now) t (a .n) (a .i) row in
     let every = map mk (placesLeft (seen entry) (b .result .now) (m .result .now) (start .start .result)) in
     record {
+      told-long = positions .before .before .before .before .told .given ∙ l .inv .told-long;
+      truth = v .ensures .1;
       placed-long = positions .before .before .placed .given ∙ l .inv .placed-long;
       positions-long = positions .positions .given ∙ l .inv .positions-long;
       noted-long = c .before .before .before .noted .given ∙ l .inv .noted-long;
@@ -178,10 +194,10 @@ loop-again c =
           leading-on (seen entry) (a .asked) (a .library .now) (segmentsIn t (a .n)) every (a .placed .now) (a .positions .now) (a .noted .now)
           (a .goals .now) (a .before) {left = map mk (placesLeft (seen entry) (b .result .now) (m .result .now) (l .c))} (l .placed) (l .positions) (l .noted) (l .goals) (l .f) (l .inv .leads)
           (one (mk (at .at .given .0 .0))) (map mk (placesLeft (seen entry) (b .result .now) (m .result .now) (at .at .given .0 .1 .0)))
-          (v .last .1 .1 .1 .1 .1 .1 .1 .1 .1 .1 .1 .1 .1 .1 .0) (v .last .1 .1 .1 .1 .1 .1 .1 .1 .1 .1 .1 .1 .1 .1 .1 .0)
-          (v .last .1 .1 .1 .1 .1 .1 .1 .1 .1 .1 .1 .1 .1 .1 .1 .1 .0) (v .last .1 .1 .1 .1 .1 .1 .1 .1 .1 .1 .1 .1 .1 .1 .1 .1 .1 .0) (v .result)
+          (v .last .1 .1 .1 .1 .1 .1 .1 .1 .1 .1 .1 .1 .1 .1 .1 .0) (v .last .1 .1 .1 .1 .1 .1 .1 .1 .1 .1 .1 .1 .1 .1 .1 .1 .0)
+          (v .last .1 .1 .1 .1 .1 .1 .1 .1 .1 .1 .1 .1 .1 .1 .1 .1 .1 .0) (v .last .1 .1 .1 .1 .1 .1 .1 .1 .1 .1 .1 .1 .1 .1 .1 .1 .1 .1 .0) (v .result)
           (ap (map mk) (reached known-told .places))
-          (v .ensures (known-valid (seen entry) (a .asked) (a .library .now) t (a .n) (a .i) row (b .result .now) (m .result .now) (b .ensures)
+          (v .ensures .0 (known-valid (seen entry) (a .asked) (a .library .now) t (a .n) (a .i) row (b .result .now) (m .result .now) (b .ensures)
           (m .ensures) (reaches .reaches .result) (reaches .reaches .ensures)));
     }
 
@@ -205,7 +221,8 @@ search-segment-spec =
     same-length-2
     same-length-3
     same-length-4
+    same-length-5
     returns-2
-    (λ c κs. search needs)
+    visit-match-requires
     loop-less
     loop-again)
