@@ -1,5 +1,6 @@
-"""What must be so of one scene at all depths, whatever the model computes: at depth 0 every match holds; one that holds at a depth holds at every smaller one; and what
-is noted is the same at all. Which matches hold is told once more, from below: those of depth 0, and then of each depth those whose references lead to the ones before."""
+"""What must be so of one scene at all depths, whatever the model computes: at depth 0 every match holds; one that holds at a depth holds at every smaller
+one; and what is noted is the same at all. Which matches hold is told once more, from below: those of depth 0, and then of each depth those whose references
+lead to the ones before."""
 from dataclasses import replace
 
 from model.run import GREATEST_DEPTH, LISTS, Stages
