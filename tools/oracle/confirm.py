@@ -19,8 +19,8 @@ def is_utf8(name):
 
 
 def is_askable(run):
-    """The Rust has rule set 0 and edition 1, withholds nothing, and knows no lengths that are too long."""
-    return (run.rules, run.edition) == (0, reader.FIRST) and not any(length for _, length in (run.stretch, *run.more)) and at_once(run) == 0
+    """The Rust has rule set 0, edition 1 and depths 0 and 1, withholds nothing, and knows no lengths that are too long."""
+    return (run.rules, run.edition) == (0, reader.FIRST) and run.depth <= 1 and not any(length for _, length in (run.stretch, *run.more)) and at_once(run) == 0
 
 
 def is_own(stages):

@@ -5,7 +5,8 @@ of the program crate `replay`. crates/replay/README.md describes it; the same se
 On document 01's domain of equality the answer is the Rust's own: its list and the very text that it prints, or the number of
 its error. The model computes the same from document 01, and must agree (confirm.py), on all that is recorded and on `--more`
 times as many random runs; outside the domain the answer is the model's. The status is 1, and nothing is written, if one
-differs, if what is withheld is seen, or if a run of edition 2 that is not refused with 14 or 15 differs from the same run of edition 1."""
+differs, if what is withheld is seen, if a run of edition 2 that is not refused with 14 or 15 differs from the same run of edition 1, or if the depths
+of a scene do not go together (steady.py)."""
 import argparse
 import random
 import struct
@@ -14,24 +15,27 @@ from collections import Counter
 from dataclasses import dataclass, replace
 from pathlib import Path
 
+from cases.depths import runs as depths
 from cases.editions import runs as editions
 from cases import stretches
 from cases.limits import limits
 from cases.whole import capacities, outside, runs, staged
 from confirm import differing, is_own
 from model.reader import FIRST
-from model.run import Outcome, Stages
+from model.run import GREATEST_DEPTH, Outcome, Stages
+from steady import unsteady
 
-VERSION = 2
+VERSION = 3
 MODULUS = 4294967291
 # Of a library that was made at random, but for those that are long on purpose.
 LONGEST = 700
-# How many runs get every list one short, exact and one longer; and how many more are lent too little: of the first ones, of those for the editions, and of those
-# with several stretches.
+# How many runs get every list one short, exact and one longer; and how many more are lent too little: of the first ones, of those for the editions, of those
+# with several stretches, and of those at a depth.
 AROUND, SHORT = 45, 260
 EDITIONS_AROUND, EDITIONS_SHORT = 4, 60
 SEVERAL_AROUND, SEVERAL_SHORT = 4, 20
-CHECK, SKIP, SCENE, OWN = 1, 2, 4, 8
+DEPTHS_AROUND, DEPTHS_SHORT = 5, 80
+CHECK, SKIP, SCENE, OWN, DEPTH = 1, 2, 4, 8, 16
 
 
 @dataclass
@@ -82,6 +86,8 @@ def amounts(rng, stages, around):
     """What is lent for a run, one amount or several."""
     if stages.run.kind == "capacities":
         return capacities.every(stages.needed)
+    if stages.run.kind == "depths, lent":
+        return [Stages(replace(stages.run, depth=GREATEST_DEPTH)).needed]
     if id(stages) in around:
         return capacities.around(stages.needed)
     found = [capacities.enough(rng, stages)]
@@ -138,7 +144,12 @@ def as_settings(run):
         numbers.pop()
         while numbers and numbers[-1] == 0:
             numbers.pop()
-    return struct.pack(f"<B{len(numbers)}Q", len(numbers), *numbers)
+    return struct.pack(f"<B{len(numbers)}Q", len(numbers), *numbers) + as_depth(run)
+
+
+def as_depth(run):
+    """A flag tells 0 from 1; a greater one follows the settings."""
+    return struct.pack("<Q", run.depth) if run.depth > 1 else b""
 
 
 def as_scene(run):
@@ -149,7 +160,7 @@ def as_scene(run):
 
 def as_case(c, has_scene):
     run, result = c.run, c.outcome
-    flags = CHECK * run.check | SKIP * (run.skip is not None) | SCENE * has_scene | OWN * c.own
+    flags = CHECK * (run.depth > 0) | DEPTH * (run.depth > 1) | SKIP * (run.skip is not None) | SCENE * has_scene | OWN * c.own
     answer = (result.number, *result.counts, *map(digest, result.lists), len(result.text), digest(result.text))
     scene = as_scene(run) if has_scene else b""
     return bytes((flags,)) + as_settings(run) + struct.pack("<8I", *c.lent) + struct.pack("<18I", *answer) + scene
@@ -182,7 +193,7 @@ def report(cases):
         done = [c.stages.lines() for c in some if c.outcome.number == 0]
         grades = Counter(line[1] for lines in done for line in lines)
         print(f"lists with lines {sum(map(bool, done))} of {len(done)}, most lines {max(map(len, done))}, by grade {[grades[g] for g in range(4)]}; "
-              f"checking on {sum(c.run.check for c in some)}, rule set 1 {sum(c.run.rules == 1 for c in some)}, "
+              f"by depth {dict(sorted(Counter(c.run.depth for c in some).items()))}, rule set 1 {sum(c.run.rules == 1 for c in some)}, "
               f"edition 2 {sum(c.run.edition == 2 for c in some)}, a stretch {sum(c.run.stretch[1] > 0 for c in some)}, "
               f"several {sum(bool(c.run.more) for c in some)}, 2Ch libraries {sum(c.run.library[:1] == b',' for c in some)}")
         print("minimums", dict(sorted(Counter(c.run.minimum for c in some).items())), "skip amounts", dict(Counter(c.run.skip for c in some)))
@@ -206,11 +217,14 @@ def main():
     by_edition = [Stages(run) for run in different(editions.made(apart))]
     beside = random.Random(given.seed)
     several = [Stages(run) for run in different(stretches.made(beside))]
+    below = random.Random(given.seed)
+    deep = [Stages(run) for run in different(depths.made(below))]
     others = [Stages(run) for run in runs.made(random.Random(~given.seed), given.more)]
-    wrong, asked, shown = differing(given.rust, found + by_edition + several + others)
+    wrong, asked, shown = differing(given.rust, found + by_edition + several + deep + others)
     wrong += [stages for stages in found if not hides(rng, stages)]
     wrong += [stages for stages in by_edition if not (is_kept_to(stages) and hides(apart, stages))]
     wrong += [stages for stages in several if not (is_kept_to(stages) and hides(beside, stages))]
+    wrong += [stages for stages in deep if not (is_kept_to(stages) and hides(below, stages))] + unsteady(deep)
     for stages in wrong:
         print(f"computed {stages.final()} {stages.lines()}, and something else must come: {stages.run.shown()}")
     if wrong:
@@ -218,6 +232,7 @@ def main():
     cases = recorded(rng, [stages for stages in found if has_room(stages)])
     cases += recorded(apart, [stages for stages in by_edition if has_room(stages)], EDITIONS_AROUND, EDITIONS_SHORT)
     cases += recorded(beside, [stages for stages in several if has_room(stages)], SEVERAL_AROUND, SEVERAL_SHORT)
+    cases += recorded(below, [stages for stages in deep if has_room(stages)], DEPTHS_AROUND, DEPTHS_SHORT)
     data = as_bytes(cases)
     given.out.parent.mkdir(parents=True, exist_ok=True)
     given.out.write_bytes(data)

@@ -26,7 +26,7 @@ class Expected:
 
 def asking(flags, run, library):
     """A case as the driver reads it."""
-    flags |= run.check | (run.skip is not None) << 1
+    flags |= run.depth | (run.skip is not None) << 1
     sized = [struct.pack("<I", len(b)) + b for b in (run.image, library)]
     return struct.pack("<BQQ", flags, run.minimum, run.skip or 0) + b"".join(sized)
 

@@ -1,9 +1,11 @@
 // The cases of a file, one after another: a header, and then image and library, unless these are those of the case before. Zeros at the end of either are
 // not stored.
+use crate::header::DEPTH_AT;
 use crate::header::LENT_AT;
 use crate::header::SETTINGS;
 use crate::header::SETTINGS_AT;
 use crate::header::SIZE;
+use crate::header::has_depth;
 use crate::header::has_scene;
 use crate::header::told_settings;
 use crate::numbers::eight_at;
@@ -22,11 +24,11 @@ pub enum Next {
     CutShort,
 }
 
-// Whether a file starts with the word "runs" and the number of this version, 2.
+// Whether a file starts with the word "runs" and the number of this version, 3.
 pub fn is_known(fd: i32) -> bool {
     let mut start = [0u8; 8];
     let n = io::read_full(fd, &mut start);
-    n == 8 && eight_at(&start, 0) == 0x2_736e_7572
+    n == 8 && eight_at(&start, 0) == 0x3_736e_7572
 }
 
 // Whether so many bytes are there; then they stand in the room from a place on.
@@ -71,6 +73,14 @@ fn next_scene(fd: i32, image: &mut [u8], library: &mut [u8]) -> Next {
     Next::Case(scene)
 }
 
+// Whether a depth is there that is told.
+fn fill_depth(fd: i32, header: &mut [u8]) -> bool {
+    if has_depth(header) {
+        return fill(fd, header, DEPTH_AT, LENT_AT - DEPTH_AT);
+    }
+    true
+}
+
 // Whether the rest of a header is there: the settings that are told, and what stands behind all of them.
 fn fill_header(fd: i32, header: &mut [u8]) -> bool {
     let told = told_settings(header);
@@ -78,6 +88,9 @@ fn fill_header(fd: i32, header: &mut [u8]) -> bool {
         return false;
     }
     if !fill(fd, header, SETTINGS_AT, told * 8) {
+        return false;
+    }
+    if !fill_depth(fd, header) {
         return false;
     }
     fill(fd, header, LENT_AT, SIZE - LENT_AT)

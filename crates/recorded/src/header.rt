@@ -1,4 +1,5 @@
-// The header of a case: flags, how many settings are told, room for the settings, the lengths of the eight lent lists, and the recorded answer of 18 numbers.
+// The header of a case: flags, how many settings are told, room for the settings and for a depth, the lengths of the eight lent lists, and the recorded answer
+// of 18 numbers.
 use crate::numbers::eight_at;
 use crate::numbers::four_at;
 use image::cover::Stretches;
@@ -15,6 +16,8 @@ const SCENE: u8 = 4;
 
 const OWN: u8 = 8;
 
+const DEPTH: u8 = 16;
+
 // The rule set, the minimum, the skip amount, the start and the length of a stretch, the edition, and up to 16 further stretches: what is not told is 0, and
 // the edition 1; a stretch whose start is not told is none.
 pub const SETTINGS: usize = 38;
@@ -28,17 +31,19 @@ const FURTHER: usize = 6;
 
 pub const SETTINGS_AT: usize = 2;
 
-// Behind the room for the settings: 8 lengths and the answer.
-pub const LENT_AT: usize = 306;
+// Behind the room for the settings: a depth, 8 lengths and the answer.
+pub const DEPTH_AT: usize = 306;
 
-const ANSWER_AT: usize = 338;
+pub const LENT_AT: usize = 314;
 
-pub const SIZE: usize = 410;
+const ANSWER_AT: usize = 346;
+
+pub const SIZE: usize = 418;
 
 const ANSWER: usize = 18;
 
-pub fn no_header() -> [u8; 410] {
-    [0u8; 410]
+pub fn no_header() -> [u8; 418] {
+    [0u8; 418]
 }
 
 fn byte_at(header: &[u8], i: usize) -> u8 {
@@ -60,6 +65,11 @@ pub fn has_scene(header: &[u8]) -> bool {
 // Whether what is recorded is the Rust's own answer.
 pub fn is_own(header: &[u8]) -> bool {
     has(header, OWN)
+}
+
+// Whether a depth follows the settings; else the flag for checking tells it.
+pub fn has_depth(header: &[u8]) -> bool {
+    has(header, DEPTH)
 }
 
 pub fn told_settings(header: &[u8]) -> usize {
@@ -87,6 +97,17 @@ fn edition_of(header: &[u8]) -> u64 {
     setting(header, EDITION)
 }
 
+// Checking off is depth 0, and on is 1.
+fn depth_of(header: &[u8]) -> u64 {
+    if has_depth(header) {
+        return eight_at(header, DEPTH_AT);
+    }
+    if has(header, CHECK) {
+        return 1;
+    }
+    0
+}
+
 fn withheld_by(header: &[u8]) -> Stretches {
     let told = told_settings(header);
     let mut w = no_stretches();
@@ -107,7 +128,7 @@ pub fn settings_of(header: &[u8]) -> Settings {
     Settings {
         rules: setting(header, 0),
         edition: edition_of(header),
-        check: has(header, CHECK),
+        depth: depth_of(header),
         minimum: setting(header, 1) as usize,
         skip: skip_of(header),
         withheld: withheld_by(header),

@@ -101,8 +101,8 @@ def targets():
         case(b"a\xe1\1", referring(INBLOCK, b"a\1\0", location=1, name=b"A")),
         case(b"a\xe1\1", referring(INBLOCK, b"a\1\0", 2, location=1)),
         case(b"ab", referring(WORD, b"ab", location=1)),
-        case(b"ab", referring(WORD, b"ab", location=1), check=False),
-        case(b"ab\0", referring(WORD, b"ab", location=1), check=False),
+        case(b"ab", referring(WORD, b"ab", location=1), depth=0),
+        case(b"ab\0", referring(WORD, b"ab", location=1), depth=0),
         case(b"ab\0\0", referring(WORD, b"ab", location=2)),
         case(b"ab", referring(RELATIVE, b"ab", location=2)),
     ]
@@ -164,15 +164,15 @@ def referring_absolute(start, kind):
 def omissions():
     """A symbol at the image's end or one past it is omitted, and bears no reference out. The Rust is asked
     about a library that places the same symbols but for that one."""
-    def case_at(past, check):
+    def case_at(past, depth):
         segment, there, named = Segment(1, 3), Public(1, 3 + past, b"X"), External(1, b"X")
         contents = [Content(1, 0, b"a\0\0", [Fixup(1, WORD, TO_NAME, 1)])]
         without = one([segment, A, named], contents)
-        return case(b"a\0" + bytes((3 + past,)), one([segment, A, there, named], contents), asked=without, check=check)
+        return case(b"a\0" + bytes((3 + past,)), one([segment, A, there, named], contents), asked=without, depth=depth)
 
     empty, single = one([Segment(1, 5, info=0x80), A], []), one([Segment(1, 1), A], [])
     short, longer = (one([Segment(1, size), Public(1, 2, b"A")], []) for size in (2, 3))
-    return [case_at(past, check) for past in (0, 1) for check in (True, False)] + [
+    return [case_at(past, depth) for past in (0, 1) for depth in (1, 0)] + [
         case(b"ab", empty, asked=single, minimum=0),
         case(b"abc", short, asked=longer, minimum=0),
     ]

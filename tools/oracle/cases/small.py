@@ -12,7 +12,7 @@ LONGEST_LIBRARY = 250
 
 
 def some_settings(rng):
-    return {"check": rng.random() < 0.6, "minimum": rng.choice((0, 0, 1, 1, 2, 3)),
+    return {"depth": int(rng.random() < 0.6), "minimum": rng.choice((0, 0, 1, 1, 2, 3)),
             "skip": rng.choice((None, None, None, None, 0, 1, 1, 2))}
 
 

@@ -83,9 +83,9 @@ caseLent = record {
   lines = replicate ROWS 7;
 }
 
-abbrev caseSettings : ℕ → ℕ → Bool → ℕ → Skip → List ℕ → Settings
-caseSettings rules edition check minimum skip numbers =
-    record { rules = rules; edition = edition; check = check; minimum = minimum; skip = skip; withheld = caseGathered noStretches numbers }
+abbrev caseSettings : ℕ → ℕ → ℕ → ℕ → Skip → List ℕ → Settings
+caseSettings rules edition depth minimum skip numbers =
+    record { rules = rules; edition = edition; depth = depth; minimum = minimum; skip = skip; withheld = caseGathered noStretches numbers }
 
 abbrev caseListedIn : List ℕ → Outcome → CaseListed
 caseListedIn library o = record { number = numberOf (o .answer); lines = map (caseLineOf library) (caseLines o) }
@@ -112,9 +112,10 @@ caseLeft image library s l = caseLeftIn (run image library s l)
 
 abbrev caseWhy : Failed → ℕ
 caseWhy Failed.Nothing = 0
-caseWhy (Failed.Reference number Why.PastEnd) = 3 * number + 1
-caseWhy (Failed.Reference number Why.Withheld) = 3 * number + 2
-caseWhy (Failed.Reference number Why.NoMatch) = 3 * number + 3
+caseWhy (Failed.Reference number Why.PastEnd) = 4 * number + 1
+caseWhy (Failed.Reference number Why.Withheld) = 4 * number + 2
+caseWhy (Failed.Reference number Why.NoMatch) = 4 * number + 3
+caseWhy (Failed.Reference number Why.NotHeld) = 4 * number + 4
 
 abbrev caseFailed : List ℕ → List ℕ → Settings → List ℕ
 caseFailed image library s =
@@ -153,7 +154,7 @@ def listing(numbers):
 
 def asked(run):
     skip = "Never" if run.skip is None else f"(Above {run.skip})"
-    settings = f"{run.rules} {run.edition} {str(run.check).lower()} {run.minimum} {skip} {listing(n for stretch in (run.stretch, *run.more) for n in stretch)}"
+    settings = f"{run.rules} {run.edition} {run.depth} {run.minimum} {skip} {listing(n for stretch in (run.stretch, *run.more) for n in stretch)}"
     return f"{listing(run.image)} {listing(run.library)} (caseSettings {settings})"
 
 
@@ -182,8 +183,8 @@ def computed_by_model(number, run, before, outcome):
 
 
 def failed_by_model(number, run, failed):
-    """What must be equal to the first failed reference of each match, by the model: 0 for none, else 3 times its number and the reason."""
-    codes = [3 * each[0] + each[1] if each else 0 for each in failed]
+    """What must be equal to the first failed reference of each match, by the model: 0 for none, else 4 times its number and the reason."""
+    codes = [4 * each[0] + each[1] if each else 0 for each in failed]
     return f"pub case-{number} : caseFailed {asked(run)}\n    ≡ {listing(codes)}"
 
 

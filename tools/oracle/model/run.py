@@ -1,11 +1,12 @@
-"""Document 01's whole run, with the editions of change request W-205, put together from reader.py, collection.py, search.py
-and listing.py: an image, a library, settings and lent memory become a list, or a number."""
+"""Document 01's whole run, with the editions of change request W-205 and the depths of W-209, put together from reader.py, collection.py,
+search.py and listing.py: an image, a library, settings and lent memory become a list, or a number."""
 from dataclasses import dataclass
 
 from model import collection, listing, reader, search
 
 LONGEST_LIBRARY = 1 << 20
 MOST_STRETCHES = 16
+GREATEST_DEPTH = 4
 LISTS = ("segments", "references", "symbols", "bytes", "masks", "placed", "noted", "lines")
 # How wide the rows of the eight lent lists are.
 WIDTHS = (*collection.WIDTHS, search.PLACED, search.NOTED, listing.LINE)
@@ -20,7 +21,8 @@ class Run:
     kind: str
     image: bytes
     library: bytes
-    check: bool = True
+    # To what depth references are checked: 0 is checking off, 1 on.
+    depth: int = 1
     minimum: int = 1
     skip: int = None
     rules: int = collection.FOUND
@@ -36,7 +38,7 @@ class Run:
     edition: int = reader.FIRST
 
     def settings(self):
-        return self.rules, self.edition, self.check, self.minimum, self.skip, self.stretch, self.more
+        return self.rules, self.edition, self.depth, self.minimum, self.skip, self.stretch, self.more
 
     def shown(self):
         """The run as plain values: hexadecimal for bytes, nothing for what is not given."""
@@ -70,11 +72,13 @@ class Watched(search.Search):
 
 
 def at_once(run):
-    """The first of 1, 30, 2, 3, 16 and 4 that is due, or 0."""
+    """The first of 1, 30, 17, 2, 3, 16 and 4 that is due, or 0."""
     if run.rules not in (collection.FOUND, collection.DOCUMENTED):
         return 1
     if run.edition not in (reader.FIRST, reader.SECOND):
         return 30
+    if run.depth > GREATEST_DEPTH:
+        return 17
     if len(run.image) > search.LONGEST_IMAGE:
         return 2
     if len(run.library) > LONGEST_LIBRARY:
@@ -89,7 +93,7 @@ class Stages:
 
     def __init__(self, run):
         self.run, self.modules, self.segments, self.fault, self.listing = run, [], [], 0, None
-        # The first of 1 to 8, 14, 15 and 30, and of 10 to 13.
+        # The first of 1 to 8, 14 to 17 and 30, and of 10 to 13.
         self.number = at_once(run)
         if self.number == 0:
             try:
@@ -99,7 +103,7 @@ class Stages:
         if self.number == 0:
             self.segments, self.fault = collection.collected(self.modules, run.rules)
             if self.fault == 0:
-                asked = search.Asked(run.rules, run.check, run.minimum, run.stretch, run.more)
+                asked = search.Asked(run.rules, run.depth, run.minimum, run.stretch, run.more)
                 found = Watched(run.image, asked, run.library, self.segments)
                 self.listing = listing.Listing(found, run.skip)
         self.rows = self.yielded()

@@ -1,5 +1,5 @@
-"""Document 01's "Matching and references", with document 02's W-202 and W-208, written from its text and apart from the Rust: where the segments match in an
-image, which symbols they place there, which names their references note; and these as rows of numbers."""
+"""Document 01's "Matching and references", with document 02's W-202, W-208 and W-209, written from its text and apart from the Rust: where the segments
+match in an image, which symbols they place there, which names their references note; and these as rows of numbers."""
 from dataclasses import dataclass
 
 from model.collection import DOCUMENTED, INBLOCK, RELATIVE, WORD
@@ -9,8 +9,8 @@ PLACED, NOTED = 8, 6
 # Buckets of keys, and of keys and names together.
 KEYS, NAMES = 65536, 65536
 SUMS = 2 ** 64
-# Why a reference fails (document 02, W-208).
-PAST, WITHHELD, UNMATCHED = 1, 2, 3
+# Why a reference fails (document 02, W-208; and W-209: a match that does not hold at a depth less).
+PAST, WITHHELD, UNMATCHED, UNHELD = 1, 2, 3, 4
 # Addresses that the processor's counter can hold (document 02, W-202).
 COUNTER = 2 ** 16
 LONGEST_IMAGE = 65536
@@ -19,7 +19,8 @@ LONGEST_IMAGE = 65536
 @dataclass
 class Asked:
     rules: int
-    check: bool
+    # To what depth references are checked; at 0 they are not.
+    depth: int
     minimum: int
     # What is withheld of the image: from where on, and how many bytes; and further stretches.
     stretch: tuple = (0, 0)
@@ -51,9 +52,11 @@ class Search:
         self.image, self.asked, self.library, self.segments = image, asked, library, segments
         # Both by place and name, in the order of coming.
         self.placed, self.noted = {}, {}
-        # Of each match, in their order, the first reference that fails and why; None where all hold.
+        # Of each match, in their order, the first reference that fails at the depth that is asked, and why; None where the match holds.
         self.failed = []
         self.found = [list(self.matches(s)) for s in segments]
+        # What was told of a match at a depth; chains that meet ask for it again.
+        self.told = {}
         for number, s in enumerate(segments):
             for at in self.found[number]:
                 self.visit(number, s, at)
@@ -96,13 +99,27 @@ class Search:
     def is_valid(self, s):
         return sum(mask != 0 for mask in s.masks) >= self.asked.minimum
 
-    def failure(self, r, at):
-        """Why a reference of a match fails; None where it holds."""
+    def failure(self, r, at, depth):
+        """Why a reference of a match fails at a depth from 1 on; None where it does not. A name that has a target asks no more; a segment must match there, and
+        that match hold at a depth less."""
         pos = at + r.place
         if self.unread(r, pos):
             return self.unread(r, pos)
-        is_met = not isinstance(r.goal, int) or r.goal < len(self.found) and self.target(r, pos) in self.found[r.goal]
-        return None if is_met else UNMATCHED
+        if not isinstance(r.goal, int):
+            return None
+        target = self.target(r, pos)
+        if r.goal >= len(self.found) or target not in self.found[r.goal]:
+            return UNMATCHED
+        return UNHELD if self.first_failed(r.goal, target, depth - 1) else None
+
+    def first_failed(self, number, at, depth):
+        """The first reference of a match that fails at a depth, and why; None where the match holds, as each does at depth 0."""
+        if depth == 0:
+            return None
+        if (number, at, depth) not in self.told:
+            reasons = enumerate(self.failure(r, at, depth) for r in self.segments[number].references)
+            self.told[number, at, depth] = next(((n, why) for n, why in reasons if why), None)
+        return self.told[number, at, depth]
 
     def visit(self, number, s, at):
         """A match: the names that its references note, in order, and then its symbols, unless one that fails keeps them out."""
@@ -110,8 +127,8 @@ class Search:
             target = self.target(r, at + r.place)
             if target is not None and not isinstance(r.goal, int):
                 self.note(Noted(target, r.goal, self.is_valid(s)))
-        self.failed.append(next(((n, self.failure(r, at)) for n, r in enumerate(s.references) if self.failure(r, at)), None))
-        if not (self.failed[-1] and self.asked.check):
+        self.failed.append(self.first_failed(number, at, self.asked.depth))
+        if not self.failed[-1]:
             for name, offset in s.symbols:
                 self.place(Placed(at + offset, name, self.is_valid(s), number, at))
 

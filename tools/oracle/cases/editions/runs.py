@@ -31,7 +31,7 @@ def swept(rng):
     found = []
     for lib in (lib for sweep in SWEEPS for lib in sweep()):
         image = image_with(rng, lib.data)
-        run = Run(f"editions, {lib.kind}", image, lib.data, rng.random() < 0.5, rng.choice((0, 1, 1, 2)), rules=rng.randrange(2), must=lib.first)
+        run = Run(f"editions, {lib.kind}", image, lib.data, int(rng.random() < 0.5), rng.choice((0, 1, 1, 2)), rules=rng.randrange(2), must=lib.first)
         found += both(run, lib.second)
     return found
 
@@ -46,7 +46,7 @@ def some_run(rng):
 
 def with_settings(rng, run):
     stretch = some_stretch(rng, len(run.image)) if rng.random() < 0.2 else (0, 0)
-    return Run("editions, random", run.image, run.library, run.check, run.minimum, run.skip, rng.choice((0, 0, 1)), stretch)
+    return Run("editions, random", run.image, run.library, run.depth, run.minimum, run.skip, rng.choice((0, 0, 1)), stretch)
 
 
 def random_runs(rng):

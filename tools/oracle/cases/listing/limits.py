@@ -41,7 +41,7 @@ def documented(rng):
         absolute = ([Public(0, start + i, b"A%d" % i) for i in range(2)], [Content(0, start, image[start:start + 3])])
         fixups = [Fixup(0, INBLOCK, TO_NAME, 1), Fixup(0, INBLOCK, TO_NAME, 2)]
         parts = [code(1, b"\1\0\x09", [(0, b"P"), (3, b"A0")], fixups), code(2, b"\x55\x56", [(0, b"A1"), (1, b"P")]), absolute]
-        asks = asked(BOTH_RULES, (rng.random() < 0.5,), (2,))
+        asks = asked(BOTH_RULES, (int(rng.random() < 0.5),), (2,))
         scenes.append(scene("rule sets", image, parts, asks, [b"A0", b"P"], (rng.choice((None, 1)),)))
     return scenes
 
@@ -54,7 +54,7 @@ def stretches(rng):
     stage.routine([(at(1), b"Q")], [(exactly(-1), b"Z")], False)
     image, library = stage.made(4)
     places = [(start, length) for start in range(len(image)) for length in (1, 5, len(image)) if start + length <= len(image)]
-    return [Scene("stretches", image, library, asked((rules,), (rules == 0,), (MINIMUM,), places), (None,)) for rules in BOTH_RULES]
+    return [Scene("stretches", image, library, asked((rules,), (int(rules == 0),), (MINIMUM,), places), (None,)) for rules in BOTH_RULES]
 
 
 def raw(rng):
@@ -80,7 +80,7 @@ def omissions(rng):
         stage = Stage()
         stage.routine([(past(distance), b"P"), (at(0), b"Q")], [(past(distance), b"P")])
         stage.routine([(at(0), b"R")], [(past(distance), b"P"), (past(0), b"A")], rng.random() < 0.5)
-        scenes.append(stage.scene("omissions", room, found((MINIMUM,), (rng.random() < 0.5,)), FEW))
+        scenes.append(stage.scene("omissions", room, found((MINIMUM,), (int(rng.random() < 0.5),)), FEW))
     return scenes
 
 

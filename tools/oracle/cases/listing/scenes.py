@@ -109,13 +109,13 @@ class Stage:
         return Scene(kind, image, library, asks or found(), tuple(skips))
 
 
-def found(minimums=(MINIMUM,), checks=(True,)):
+def found(minimums=(MINIMUM,), depths=(1,)):
     """Rule set 0, nothing withheld."""
-    return asked((0,), checks, minimums)
+    return asked((0,), depths, minimums)
 
 
 def some_asked(rng):
-    return Asked(0, rng.random() < 0.6, rng.choices((MINIMUM, FEWER, MINIMUM + 1, 0, LARGE), (70, 12, 8, 6, 4))[0])
+    return Asked(0, int(rng.random() < 0.6), rng.choices((MINIMUM, FEWER, MINIMUM + 1, 0, LARGE), (70, 12, 8, 6, 4))[0])
 
 
 def some_target(rng, spots):

@@ -61,7 +61,7 @@ def single_states(rng):
         for (placed, led), (symbols, notes) in kinds.items():
             stage.routine(symbols, notes, led if placed == "noter" else placed)
         stage.routine([(at(HELPER), b"HELP")], valid=rng.random() < 0.5)
-        scenes.append(stage.scene("states", 64, found((0, MINIMUM, MINIMUM + 1, LARGE)) + found(checks=(False,)), (None, rng.randrange(3))))
+        scenes.append(stage.scene("states", 64, found((0, MINIMUM, MINIMUM + 1, LARGE)) + found(depths=(0,)), (None, rng.randrange(3))))
     return scenes
 
 
@@ -151,7 +151,7 @@ def orders(rng):
         rng.shuffle(names)
         stage = Stage(rng.random() < 0.5)
         make(stage, at(0), names)
-        scenes.append(stage.scene("orders", 3, found((MINIMUM,), (rng.random() < 0.5,)), (None, 3, 4)))
+        scenes.append(stage.scene("orders", 3, found((MINIMUM,), (int(rng.random() < 0.5),)), (None, 3, 4)))
     return scenes
 
 
@@ -166,7 +166,7 @@ def borne_out(rng):
         stage.routine([(at(0), b"S")], [goals[goal] for goal in chosen], rng.random() < 0.8)
         stage.routine([(at(1), b"V")])
         stage.routine([(at(2), b"I"), (at(4), b"T")], [], False)
-        scenes.append(stage.scene("borne out", 6, found((MINIMUM,), (rng.random() < 0.7,)), (None, 1)))
+        scenes.append(stage.scene("borne out", 6, found((MINIMUM,), (int(rng.random() < 0.7),)), (None, 1)))
     return scenes
 
 
@@ -253,7 +253,7 @@ def small(rng):
         parts = [code(1, b"\x77", [(0, b"P")], [Fixup(1, RELATIVE, TO_NAME, 1), Fixup(1, RELATIVE, TO_NAME, 2, 3)]),
                  code(2, b"\x77\0", [(1, b"E")], [Fixup(1, RELATIVE, TO_NAME, 2)])]
         image = (b"\x77" + bytes((distance,)) + b"\0\x77\0\x77" + bytes((distance,)) + b"\0\0")[:n]
-        asks = found((minimum,), (rng.random() < 0.6,))
+        asks = found((minimum,), (int(rng.random() < 0.6),))
         scenes.append(scene("small", image, parts, asks, [b"E", b"P"], (None, rng.randrange(3))))
     return scenes
 

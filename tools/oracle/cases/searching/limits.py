@@ -17,7 +17,7 @@ def stretches(rng):
     parts = [code(1, b"\1\2\0\0\5", [(0, b"P"), (4, b"Q")], fixups), code(2, b"\3", [(0, b"R")]), code(3, b"", [(0, b"H")])]
     image = b"\1\2\0\3\5\3\xfe\1\2\0\3\5\3\xfe\3"
     places = [(start, length) for start in range(len(image) + 1) for length in (0, 1, 2, 4, len(image)) if start + length <= len(image)]
-    found = [scene("stretches", image, parts, asked((0,), (True,), (1,), places), [b"E"])]
+    found = [scene("stretches", image, parts, asked((0,), (1,), (1,), places), [b"E"])]
     absolute = ([Public(0, 3, b"A"), Public(0, 5, b"B")], [Content(0, 3, b"\3\5\3", [Fixup(2, INBLOCK, TO_NAME, 1)])])
     found.append(scene("stretches", image, [absolute], asked((1,), BOTH_CHECKS, (1,), places[::2]), [b"E"]))
     return found
@@ -43,8 +43,8 @@ def large(rng):
     fixups = [Fixup(1, RELATIVE, TO_NAME, 1), Fixup(1, RELATIVE, TO_NAME, 2, 0xFFFF)]
     found.append(scene("large", tail, [code(1, b"\x80\0", [(0, b"P")], fixups)], found_only(), [b"E", b"F"]))
     many = [code(1, b"", [(0, b"P")]), code(2, b"\0", [(0, b"Q")], [Fixup(0, RELATIVE, TO_NAME, 1)])]
-    found.append(scene("large", bytes(4096), many, asked((0,), (True,), (0, 1)), [b"E"]))
-    found.append(scene("large", bytes(400), many, asked((0,), (True,), (0, 1)), [b"E"]))
+    found.append(scene("large", bytes(4096), many, asked((0,), (1,), (0, 1)), [b"E"]))
+    found.append(scene("large", bytes(400), many, asked((0,), (1,), (0, 1)), [b"E"]))
     return found
 
 

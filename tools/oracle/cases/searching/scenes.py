@@ -12,7 +12,8 @@ from model.search import Asked
 OTHERS = (b"Aa", b"BB", b"AaBB", b"BBAa", b"\xff", b"\xfe\xff", "\u00e9".encode(), b"a_name_of_some_length")
 LARGE = 2 ** 64 - 1
 LONGEST = 300
-BOTH_RULES, BOTH_CHECKS = (0, 1), (True, False)
+# Checking on and off.
+BOTH_RULES, BOTH_CHECKS = (0, 1), (1, 0)
 
 
 @dataclass
@@ -31,8 +32,8 @@ class Scene:
         return found
 
 
-def asked(rules=BOTH_RULES, checks=BOTH_CHECKS, minimums=(0,), stretches=((0, 0),)):
-    return [Asked(*each) for each in product(rules, checks, minimums, stretches)]
+def asked(rules=BOTH_RULES, depths=BOTH_CHECKS, minimums=(0,), stretches=((0, 0),)):
+    return [Asked(*each) for each in product(rules, depths, minimums, stretches)]
 
 
 def found_only(minimum=0):
@@ -72,7 +73,7 @@ def some_stretch(rng, size):
 def some_asked(rng, scene, rules=None):
     rules = rng.randrange(2) if rules is None else rules
     minimum = some_minimum(rng, scene.segments(rules))
-    return Asked(rules, rng.random() < 0.6, minimum, some_stretch(rng, len(scene.image)))
+    return Asked(rules, int(rng.random() < 0.6), minimum, some_stretch(rng, len(scene.image)))
 
 
 def some_modules(rng):

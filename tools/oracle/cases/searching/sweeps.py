@@ -24,7 +24,7 @@ def hollow(rng):
     for offset, size in product((0, 1, 2), (3, 4, 6)):
         definitions = [Segment(1, size), Public(1, 0, b"P"), External(1, b"E")]
         part = (definitions, [Content(1, offset, b"\1", [Fixup(1, RELATIVE, TO_NAME, 1)])])
-        found.append(scene("hollow", b"\0\1\2\3\1\1\4\1", [part], asked((0, 1), (True,), (1, 2))))
+        found.append(scene("hollow", b"\0\1\2\3\1\1\4\1", [part], asked((0, 1), (1,), (1, 2))))
     for first, block in product((0x01, 0xE1, 0x11, 0x21), (0, 2)):
         part = code(1, b"\x61\x07\x33", [(0, b"P")], [Fixup(0, INBLOCK, block, 1)])
         found.append(scene("hollow", bytes((first, 7, 0x33, first ^ 0x20, 9, 0x33, first, 7)), [part], asked(minimums=(2, 3)), [b"E"]))
@@ -38,7 +38,7 @@ def edges(rng):
         image = bytearray(b"\xee" * n)
         image[at:at + 3] = b"abc"[:max(0, n - at)]
         parts = [code(1, b"abc", [(0, b"P"), (2, b"Q")]), code(2, b"bc", [(1, b"Q")]), code(3, b"c", [(0, b"Q")])]
-        found.append(scene("edges", image, parts, asked((0,), (True,), (0, 2, 3, 4))))
+        found.append(scene("edges", image, parts, asked((0,), (1,), (0, 2, 3, 4))))
     return found
 
 
@@ -49,7 +49,7 @@ def absolutes(rng):
     for at, data in product((0, 1, 3, 6, 9, 10, 11, 12, 13, 300, 0xFFFF), (b"abc", b"def", b"bcd", b"f", b"")):
         publics = [Public(0, at + i, b"P%d" % i) for i in range(len(data)) if at + i < 0x10000] + [Public(1, 1, b"P1")]
         part = ([Segment(1, 2)] + publics, [Content(0, at, data, [Fixup(1, RELATIVE, TO_NAME, 1)]), Content(1, 0, b"de")])
-        found.append(scene("absolutes", image, [part], asked((0, 1), (rng.random() < 0.5,), (rng.choice((0, 2)),)), [b"E"]))
+        found.append(scene("absolutes", image, [part], asked((0, 1), (int(rng.random() < 0.5),), (rng.choice((0, 2)),)), [b"E"]))
     return found
 
 
@@ -59,7 +59,7 @@ def relatives(rng):
     for byte, offset in product((0, 1, 5, 0x7F, 0x80, 0xF0, 0xFE, 0xFF), (0, 1, 7, 0xFFFF)):
         part = code(1, b"\x80\0", [(0, b"P")], [Fixup(1, RELATIVE, TO_NAME, 1, offset)])
         image = bytes((0x80, byte, 1, 2, 3, 4, 0x80, byte, 5, 0x80, byte))
-        found.append(scene("targets", image, [part], asked((0,), (True,), (rng.randrange(3),)), [b"E"]))
+        found.append(scene("targets", image, [part], asked((0,), (1,), (rng.randrange(3),)), [b"E"]))
     return found
 
 
@@ -69,7 +69,7 @@ def words(rng):
     for value, offset in product((0, 1, 7, 8, 9, 0x100, 0x7FFF, 0xFFFF), (0, 1, 8, 0xFFFF)):
         part = code(1, b"\x12\0\0", [(0, b"P")], [Fixup(1, WORD, TO_NAME, 1, offset)])
         image = bytes((9, 0x12, value >> 8, value & 0xFF, 9, 0x12, value & 0xFF, value >> 8))
-        found.append(scene("targets", image, [part], asked((0,), (False,), (rng.randrange(3),)), [b"E"]))
+        found.append(scene("targets", image, [part], asked((0,), (0,), (rng.randrange(3),)), [b"E"]))
     return found
 
 
@@ -79,13 +79,13 @@ def inblocks(rng):
     for first, offset in product((0x01, 0x21, 0x61, 0xE1), (0, 5, 0x800)):
         part = code(1, b"\1\0", [(0, b"P")], [Fixup(0, INBLOCK, TO_NAME, 1, offset)])
         image = bytes((first, 0, first, 7, first, 0xFF, first))
-        found.append(scene("targets", image, [part], asked(BOTH_RULES, (True,), (rng.randrange(3),)), [b"E"]))
+        found.append(scene("targets", image, [part], asked(BOTH_RULES, (1,), (rng.randrange(3),)), [b"E"]))
     for size, places in ((4096, (0x7FC, 0x7FD, 0x7FE, 0x7FF, 0xFFD, 0xFFE)), (65536, (0xF7FD, 0xF7FE, 0xFFFD, 0xFFFE))):
         image = bytearray(size)
         for at in places:
             image[at:at + 2] = (rng.choice((0x21, 0xE1)), 0x34)
         part = code(1, b"\1\0", [(1, b"P")], [Fixup(0, INBLOCK, TO_NAME, 1, 0x35)])
-        found.append(scene("targets", image, [part], asked(BOTH_RULES, (True,), (1,)), [b"E"]))
+        found.append(scene("targets", image, [part], asked(BOTH_RULES, (1,), (1,)), [b"E"]))
     return found
 
 
@@ -140,10 +140,10 @@ def twins(rng):
     image = b"abcdabcdxabc"
     for first, second in product((1, 2, 3, 4), repeat=2):
         parts = [code(1, b"abcd"[:first], [(0, b"P"), (1, b"Q"), (0, b"P")]), code(2, b"abcd"[:second], [(1, b"Q"), (0, b"P")])]
-        found.append(scene("twins", image, parts, asked((0,), (True,), (2, 3))))
+        found.append(scene("twins", image, parts, asked((0,), (1,), (2, 3))))
     for a, b in product((0, 1, 2), repeat=2):
         parts = [code(1, b"ab", [(a, b"P"), (b, b"P")]), code(2, b"bc", [(b, b"P"), (a, b"PP"), (a, b"")]), code(3, b"c", [(a, b"P")])]
-        found.append(scene("twins", image, parts, asked((0,), (True,), (2,))))
+        found.append(scene("twins", image, parts, asked((0,), (1,), (2,))))
     return found
 
 
@@ -154,7 +154,7 @@ def renoted(rng):
         image = b"\1\5\x66\x67\2\1\x66\x67\3\xfd\x66\x67"
         parts = [code(i + 1, bytes((i + 1, 0, 0x66, 0x67))[:n], [(0, b"S%d" % i)], [Fixup(1, RELATIVE, TO_NAME, 1 + (i == 2))] * (1 + i % 2))
                  for i, n in enumerate(sizes)]
-        found.append(scene("renoted", image, parts, asked((0,), (True,), (2, 3)), [b"E", b"E"]))
+        found.append(scene("renoted", image, parts, asked((0,), (1,), (2, 3)), [b"E", b"E"]))
     return found
 
 
@@ -170,11 +170,11 @@ def crowds(rng):
     for offsets in ((0, 1), (1, 0), (1, 2, 0), (0xFFFF, 0, 1), (2, 1, 2)):
         fixups = [Fixup(1, WORD, TO_NAME, 1 + i % 2, offset) for i, offset in enumerate(offsets)]
         image = b"\x12\0\0\x12\xff\xff\x12\xff\xfe\x12\0\1"
-        found.append(scene("crowds", image, [code(1, b"\x12\0\0", [(0, b"P")], fixups)], asked((0,), (True,), (1,)), [b"E", b"F"]))
+        found.append(scene("crowds", image, [code(1, b"\x12\0\0", [(0, b"P")], fixups)], asked((0,), (1,), (1,)), [b"E", b"F"]))
     for gap in (1, 2, 3):
         # a byte less by 31 at the next position: one bucket
         parts = [code(1, b"\0" * gap, [(i * gap, bytes((124 - 31 * i * gap % 124,))) for i in range(4)]), code(2, b"\0", [(0, b"|")])]
-        found.append(scene("crowds", bytes(12), parts, asked((0,), (True,), (1,))))
+        found.append(scene("crowds", bytes(12), parts, asked((0,), (1,), (1,))))
     return found
 
 
@@ -183,7 +183,7 @@ def omissions(rng):
     found = []
     for n, offset in product((1, 2, 5, 8), (0, 1, 4, 5, 7, 8, 0xFFFF)):
         parts = [code(1, b"a", [(offset, b"P"), (0, b"Q"), (offset, b"Q"), (n - 1, b"R")]), code(2, b"", [(offset, b"P"), (0, b"Z")])]
-        found.append(scene("omissions", b"a" * n, parts, asked((0,), (True,), (rng.randrange(2),))))
+        found.append(scene("omissions", b"a" * n, parts, asked((0,), (1,), (rng.randrange(2),))))
     return found
 
 

@@ -73,5 +73,5 @@ def listed(rng):
         if kind == 3:
             stage.routine([(at(0), name) for name in (b"C", b"B", b"A", b"?C?ULDIV")])
         stage.routine([(at(2), b"T")], [], False)
-        scenes.append(stage.scene("capacities", 4, asked((rules,), (True,), (MINIMUM,)), (rng.choice((None, 1)),)))
+        scenes.append(stage.scene("capacities", 4, asked((rules,), (1,), (MINIMUM,)), (rng.choice((None, 1)),)))
     return scenes

@@ -74,7 +74,7 @@ def large_patterns(rng):
         module = Module([Segment(1, size), Public(1, 3, b"FAR"), Public(1, 0, b"NEAR")], [Content(1, 0, b"\1\2\3"), Content(1, 7, bytes(40))])
         library = b"".join(plain(module))
         image = longer(b"\1\2\3", size or LONGEST_IMAGE)
-        found += [Run("sizes", data, library, True, minimum) for data in (image, image[:-1]) for minimum in (43, 44)]
+        found += [Run("sizes", data, library, 1, minimum) for data in (image, image[:-1]) for minimum in (43, 44)]
     return found
 
 

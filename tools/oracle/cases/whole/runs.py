@@ -22,7 +22,7 @@ def some_skip(rng):
 
 def some_runs(rng, kind, image, library, count):
     """One image and library under some settings, rule set 0 and nothing withheld."""
-    return [Run(kind, image, library, rng.random() < 0.6, some_minimum(rng), some_skip(rng)) for _ in range(count)]
+    return [Run(kind, image, library, int(rng.random() < 0.6), some_minimum(rng), some_skip(rng)) for _ in range(count)]
 
 
 def records_in(library):
@@ -71,7 +71,7 @@ def asked_of(rng, scene):
     found = []
     for asked in scene.asked or [scenes.some_asked(rng, scene) for _ in range(2)]:
         skips = scene.skips or some_skips(rng, Search(scene.image, asked, scene.library, scene.segments(asked.rules)))
-        found += [Run(scene.kind, scene.image, scene.library, asked.check, asked.minimum, skip, asked.rules, asked.stretch)
+        found += [Run(scene.kind, scene.image, scene.library, asked.depth, asked.minimum, skip, asked.rules, asked.stretch)
                   for skip in dict.fromkeys(skips)]
     return found
 

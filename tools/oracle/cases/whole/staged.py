@@ -47,7 +47,7 @@ def image_with(rng, library):
 def run_of(rng, kind, lib, rules=collection.FOUND):
     """One image and library, mostly checked and with a low minimum."""
     image = image_with(rng, lib.data)
-    return Run(kind, image, lib.data, rng.random() < 0.7, rng.choice((0, 1, 1, 2, 3)), rng.choice((None, None, 1)), rules, must=lib.numbers)
+    return Run(kind, image, lib.data, int(rng.random() < 0.7), rng.choice((0, 1, 1, 2, 3)), rng.choice((None, None, 1)), rules, must=lib.numbers)
 
 
 def made(rng, makers):
