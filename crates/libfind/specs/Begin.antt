@@ -21,18 +21,21 @@ use Rattle.libfind.specs.declared.begin.Checked.the-variants as Checked
 use Rattle.libfind.specs.declared.begin.Beginning.{Beginning}
 use Rattle.libfind.specs.declared.begin.Beginning.the-variants as Beginning
 
--- the first of refusals 1, 30, 17, 2, 3, 16 and 4 that applies, by the lengths of the image and of the library
-unfoldable pub settingsRefusal : ℕ → ℕ → Settings → Option Refusal
-settingsRefusal image library s =
-    leading
-    (when (ltb 1 (s .rules)) RuleSet
+-- refusals 1, 30, 17, 2, 3, 16 and 4 in their order, by the lengths of the image and of the library
+abbrev pub settingsRefusals : ℕ → ℕ → Settings → List (Option Refusal)
+settingsRefusals image library s =
+    when (ltb 1 (s .rules)) RuleSet
     ∷ when (otherEdition (s .edition)) OtherEdition
     ∷ when (tooDeep (s .depth)) TooDeep
     ∷ when (ltb 65536 image) ImageTooLong
     ∷ when (ltb 1048576 library) LibraryTooLong
     ∷ when (tooManyStretches (s .withheld)) TooManyStretches
     ∷ when (passesEnd image (cover s)) StretchPastEnd
-    ∷ [])
+    ∷ []
+
+-- the first of them that applies
+unfoldable pub settingsRefusal : ℕ → ℕ → Settings → Option Refusal
+settingsRefusal image library s = leading (settingsRefusals image library s)
 
 -- the code's answer for such a refusal
 abbrev pub checked : Option Refusal → Checked

@@ -3,7 +3,7 @@ use Prim.Native.Nat.{ℕ, _+_, _≤_, _<_}
 use mathlib.Core.Path.{_≡_, refl, sym, ap, _∙_}
 use mathlib.Core.Bool.{Bool, true, false, _&&_, _||_, false≢true}
 use mathlib.Core.Logic.{_⊎_, inl, inr}
-use mathlib.Core.List.{List, [], _∷_}
+use mathlib.Core.List.{List, [], _∷_, _++_}
 use mathlib.Core.Option.{Option, none, some}
 use native.Mathlib.Omega.{arith}
 use borrow.Author.Tests.{le-ltb, leb-true}
@@ -42,7 +42,7 @@ use Rattle.run.specs.declared.Settings.{Settings}
 use Rattle.run.specs.declared.Answer.the-variants.{Done, Refused}
 use Rattle.run.specs.Run.{Lent, lentLists, Yield, askedOf, libraryRead, otherEdition, tooDeep, stages, counted, collectOver, searchOver, listOver, refusals, zeroed, filledWith, outcomeOf, runSeen, run, cover}
 use Rattle.run.specs.StageLaws.{reading-stage}
-use Rattle.libfind.specs.Begin.{settingsRefusal, Begun}
+use Rattle.libfind.specs.Begin.{settingsRefusals, settingsRefusal, Begun}
 use Rattle.libfind.specs.BeginLaws.{known-edition}
 use Rattle.libfind.specs.Ends.{collectable, findable, allOf, concluded}
 
@@ -82,25 +82,21 @@ module _ (image library : List ℕ) (s : Settings) (lent : Lent) where
   abbrev finding : Option Refusal
   finding = leading (when (searchOver lent (counted yield)) TooFewRows ∷ when (listOver lent (counted yield)) TooFewRows ∷ [])
 
-  in-turn : (a b c d e f g h i : Option Refusal) (rest : List (Option Refusal))
-      → leading (a ∷ b ∷ c ∷ d ∷ e ∷ f ∷ g ∷ h ∷ i ∷ rest) ≡ orElse (orElse (leading (a ∷ b ∷ c ∷ d ∷ e ∷ f ∷ [])) g) (orElse (orElse h i) (leading rest))
+  in-turn : (xs : List (Option Refusal)) (g h i : Option Refusal) (rest : List (Option Refusal))
+      → leading (xs ++ g ∷ h ∷ i ∷ rest) ≡ orElse (orElse (leading xs) g) (orElse (orElse h i) (leading rest))
   unfolding leading
-  in-turn none none none none none none none none i rest = refl
-  in-turn none none none none none none none (some r) i rest = refl
-  in-turn none none none none none none (some r) h i rest = refl
-  in-turn none none none none none (some r) g h i rest = refl
-  in-turn none none none none (some r) f g h i rest = refl
-  in-turn none none none (some r) e f g h i rest = refl
-  in-turn none none (some r) d e f g h i rest = refl
-  in-turn none (some r) c d e f g h i rest = refl
-  in-turn (some r) b c d e f g h i rest = refl
+  in-turn [] none none i rest = refl
+  in-turn [] none (some r) i rest = refl
+  in-turn [] (some r) h i rest = refl
+  in-turn (none ∷ xs) g h i rest = in-turn xs g h i rest
+  in-turn (some r ∷ xs) g h i rest = refl
 
   run-is : run image library s lent ≡ outcomeOf library (orElse early (orElse collecting finding)) yield lent
   unfolding run runSeen refusals settingsRefusal
   run-is = ap (λ o. outcomeOf library o yield lent) (go (view-length image (cover s)))
     where
       go : length cells ≡ length image → leading (refusals cells library s lent (counted yield)) ≡ orElse early (orElse collecting finding)
-      go e = in-turn _ _ _ _ _ _ _ _ _ _ ∙ rw e refl
+      go e = in-turn (settingsRefusals (length cells) (length library) s) _ _ _ _ ∙ rw e refl
 
   -- REFUSED EARLY: nothing is written
   writes-nothing : {r : Refusal} → early ≡ some r → zeroes r ≡ false

@@ -36,52 +36,52 @@ returns-2 c =
     let a = at-entry (c .before) .args in
     refused-30 (a .image) (a .library) (a .settings) (rules-fine (c .before)) (sym (c .before .is-other-edition .ensures) ∙ c .if2 .taken)
 
-depth-fine : (c : tie.Else3) → at-entry (c .before .before) .args .settings .depth ≤ 4
+depth-fine : (c : tie.Else3) → at-entry (c .before .before .before) .args .settings .depth ≤ 4
 depth-fine c = omega (arith, c .if3 .left)
 
 returns-3 : tie.Need-returns-3
 returns-3 c =
-    let edition = c .before in
+    let edition = c .before .before in
     let a = at-entry (edition .before) .args in
     refused-17 (a .image) (a .library) (a .settings) (rules-fine (edition .before)) (edition-fine edition) (omega (arith, c .if3 .taken))
 
 returns-4 : tie.Need-returns-4
 returns-4 c =
     let depth = c .before in
-    let edition = depth .before in
+    let edition = depth .before .before in
     let a = at-entry (edition .before) .args in
     refused-2 (a .image) (a .library) (a .settings) (rules-fine (edition .before)) (edition-fine edition) (depth-fine depth) (omega (arith, c .if4 .taken))
 
 returns-5 : tie.Need-returns-5
 returns-5 c =
     let depth = c .before .before in
-    let edition = depth .before in
+    let edition = depth .before .before in
     let a = at-entry (edition .before) .args in
     refused-3 (a .image) (a .library) (a .settings) (rules-fine (edition .before)) (edition-fine edition) (depth-fine depth) (omega (arith, c .before .if4 .left)) (omega (arith, c .if5 .taken))
 
 -- the lengths are fine
-fitting : (c : tie.Else5) → (at-entry (c .before .before .before .before) .args .image ≤ 65536) × (at-entry (c .before .before .before .before) .args .library ≤ 1048576)
+fitting : (c : tie.Else5) → (at-entry (c .before .before .before .before .before) .args .image ≤ 65536) × (at-entry (c .before .before .before .before .before) .args .library ≤ 1048576)
 fitting c = (omega (arith, c .before .if4 .left), omega (arith, c .if5 .left))
 
 returns-6 : tie.Need-returns-6
 returns-6 c =
     let last = c .before .before .before in
     let depth = last .before .before in
-    let edition = depth .before in
+    let edition = depth .before .before in
     let a = at-entry (edition .before) .args in
     refused-16 (a .image) (a .library) (a .settings) (rules-fine (edition .before)) (edition-fine edition) (depth-fine depth) (fitting last .0) (fitting last .1) (omega (arith, c .if6 .taken))
 
 -- what is lent of the pairs is the cover
-passing : (c : tie.After-passes-end) → let a = at-entry (at-else5 c .before .before .before .before) .args in c .passes-end .result ≡ passesEnd (a .image) (cover (a .settings))
+passing : (c : tie.After-passes-end) → let a = at-entry (at-else5 c .before .before .before .before .before) .args in c .passes-end .result ≡ passesEnd (a .image) (cover (a .settings))
 passing c =
-    let a = at-entry (at-else5 c .before .before .before .before) .args in
+    let a = at-entry (at-else5 c .before .before .before .before .before) .args in
     c .passes-end .ensures ∙ ap (λ pairs. passesEnd (a .image) (stretchesIn pairs)) (c .before .first-pairs .ensures)
 
 returns-7 : tie.Need-returns-7
 returns-7 c =
     let last = at-else5 (c .before) in
     let depth = last .before .before in
-    let edition = depth .before in
+    let edition = depth .before .before in
     let a = at-entry (edition .before) .args in
     refused-4 (a .image) (a .library) (a .settings) (rules-fine (edition .before)) (edition-fine edition) (depth-fine depth) (fitting last .0) (fitting last .1)
     (omega (arith, at-else6 (c .before) .if6 .left)) (sym (passing (c .before)) ∙ c .if7 .taken)
@@ -90,7 +90,7 @@ returns-8 : tie.Need-returns-8
 returns-8 c =
     let last = at-else5 (c .before) in
     let depth = last .before .before in
-    let edition = depth .before in
+    let edition = depth .before .before in
     let a = at-entry (edition .before) .args in
     is-accepted (a .image) (a .library) (a .settings) (rules-fine (edition .before)) (edition-fine edition) (depth-fine depth) (fitting last .0) (fitting last .1)
     (omega (arith, at-else6 (c .before) .if6 .left)) (sym (passing (c .before)) ∙ c .if7 .left)
