@@ -19,6 +19,7 @@ fn reason(why: Why) {
         Why::PastEnd => say(b" past the end"),
         Why::Withheld => say(b" withheld"),
         Why::NoMatch => say(b" no match"),
+        Why::NotHeld => say(b" not held"),
     }
 }
 
