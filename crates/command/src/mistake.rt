@@ -24,7 +24,7 @@ pub struct Mistake {
     pub word: usize,
 }
 
-// A word that is too long, or an option that is none, too many, or lacks its value.
+// A word that is too long, or an option that is none, too many, not taken beside another, or lacks its value.
 fn option_words(fault: Fault, i: usize) {
     match fault {
         Fault::TooLong => {
