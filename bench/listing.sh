@@ -11,10 +11,10 @@ shift 7
 [ $# -gt 0 ] || set -- $(cd "$loads" && ls)
 for load; do
     folder=$loads/$load
-    read -r check minimum <"$folder/asked"
-    total() { counted=$(timeout 1200 "$here/count.sh" "$emulator" "$plugin" "$program" "$1" "$check" "$minimum" "$skip" "$folder/image" "$folder/library") && echo "$counted" | sed -n 's/^total //p'; }
+    read -r depth minimum <"$folder/asked"
+    total() { counted=$(timeout 1200 "$here/count.sh" "$emulator" "$plugin" "$program" "$1" "$depth" "$minimum" "$skip" "$folder/image" "$folder/library") && echo "$counted" | sed -n 's/^total //p'; }
     if before=$(total "$less") && both=$(total "$more"); then
-        echo "$load $((both - before)) instructions, $("$emulator" "$program" show "$check" "$minimum" "$skip" "$folder/image" "$folder/library")"
+        echo "$load $((both - before)) instructions, $("$emulator" "$program" show "$depth" "$minimum" "$skip" "$folder/image" "$folder/library")"
     else
         echo "$load no answer"
     fi

@@ -1,6 +1,6 @@
 #!/usr/bin/env python3
-"""Loads for counting the search: a folder for each, with the files `image`, `library` and `asked` (whether references are checked, 1 or 0, and the minimum). The
-same seed gives the same bytes.
+"""Loads for counting the search: a folder for each, with the files `image`, `library` and `asked` (the depth to which references are checked,
+which for the Rust is 1 or 0, and the minimum). The same seed gives the same bytes.
 
 searchloads.py --out FOLDER writes, all with checking on and a minimum of 4 unless something else is said,
   firmware          64 KiB: three fifths of the library's routines, linked (what their references lead to stands where they say), other code, FFh behind
@@ -297,7 +297,7 @@ def symbols(name):
     return make
 
 
-# A name, how it is made, and whether references are checked and the minimum where they are not 1 and 4.
+# A name, how it is made, and the depth and the minimum where they are not 1 and 4.
 LOADS = (("firmware", firmware), ("firmware-random", firmware_random), ("modules", of_modules), ("small-1k", small(1 << 10)), ("small-4k", small(1 << 12)),
          ("empty", empty), ("empty-named", twenty(5, EMPTY)), ("unfilled-named", twenty(1, CODE)), ("unfilled-self", unfilled_self),
          ("zeros", zeros), ("zeros-reference", zeros_reference), ("zeros-referring", zeros_referring),

@@ -22,8 +22,8 @@ echo "| load | image | library | segments | placed | noted | lines | Rust | port
 echo "|---|---|---|---|---|---|---|---|---|---|"
 for load; do
     folder=$loads/$load
-    read -r check minimum <"$folder/asked"
-    words="$check $minimum none $folder/image $folder/library"
+    read -r depth minimum <"$folder/asked"
+    words="$depth $minimum none $folder/image $folder/library"
     # shellcheck disable=SC2086
     {
         lent=$("$emulator" "$port" show $words) || lent=

@@ -1,5 +1,5 @@
-/* example IMAGE LIBRARY found|documented EDITION: prints where the names of the library stand in the image, as `sillmarble list` does with nothing else said.
-   Status 0: printed. 1: refused, and standard error has the number. 2: wrong usage, or a file that cannot be read. */
+/* example IMAGE LIBRARY found|documented EDITION DEPTH: prints where the names of the library stand in the image, as `sillmarble list` does with nothing else
+   said. Status 0: printed. 1: refused, and standard error has the number. 2: wrong usage, or a file that cannot be read. */
 #include "libfind.h"
 #include <stdio.h>
 #include <stdlib.h>
@@ -34,15 +34,15 @@ static size_t loaded(const char *path, uint8_t *room, size_t size)
 
 int main(int count, char **words)
 {
-    size_t in_image = count == 5 ? loaded(words[1], image, IMAGE) : SIZE_MAX;
-    size_t in_library = count == 5 ? loaded(words[2], library, LIBRARY) : SIZE_MAX;
+    size_t in_image = count == 6 ? loaded(words[1], image, IMAGE) : SIZE_MAX;
+    size_t in_library = count == 6 ? loaded(words[2], library, LIBRARY) : SIZE_MAX;
     if (in_image == SIZE_MAX || in_library == SIZE_MAX) {
-        fputs("usage: example IMAGE LIBRARY found|documented EDITION\n", stderr);
+        fputs("usage: example IMAGE LIBRARY found|documented EDITION DEPTH\n", stderr);
         return 2;
     }
-    uint64_t rules = strcmp(words[3], "found") != 0, edition = strtoull(words[4], NULL, 10);
+    uint64_t rules = strcmp(words[3], "found") != 0, edition = strtoull(words[4], NULL, 10), depth = strtoull(words[5], NULL, 10);
     uint64_t counts[SILLMARBLE_COUNTS];
-    uint8_t number = sillmarble_find(image, in_image, library, in_library, rules, edition, true, 3, false, 0, nothing, 0, counts, COUNT(counts),
+    uint8_t number = sillmarble_find(image, in_image, library, in_library, rules, edition, depth, 3, false, 0, nothing, 0, counts, COUNT(counts),
                                      segments, COUNT(segments), references, COUNT(references), symbols, COUNT(symbols), bytes, COUNT(bytes),
                                      masks, COUNT(masks), placed, COUNT(placed), noted, COUNT(noted), lines, COUNT(lines));
     if (number != 0) {

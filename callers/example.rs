@@ -1,5 +1,5 @@
-// example IMAGE LIBRARY found|documented EDITION: prints where the names of the library stand in the image, as `sillmarble list` does with nothing else said.
-// Status 0: printed. 1: refused, and standard error has the number. 2: wrong usage, or a file that cannot be read.
+// example IMAGE LIBRARY found|documented EDITION DEPTH: prints where the names of the library stand in the image, as `sillmarble list` does with nothing else
+// said. Status 0: printed. 1: refused, and standard error has the number. 2: wrong usage, or a file that cannot be read.
 use std::io::Write;
 use std::process::exit;
 
@@ -8,7 +8,7 @@ extern "C" {
     fn sillmarble_find(
         image: *const u8, in_image: usize,
         library: *const u8, in_library: usize,
-        rules: u64, edition: u64, check: bool, minimum: usize,
+        rules: u64, edition: u64, depth: u64, minimum: usize,
         skips: bool, amount: usize,
         withheld: *const u64, in_withheld: usize,
         counts: *mut u64, in_counts: usize,
@@ -41,8 +41,8 @@ const LINES: usize = 7;
 // No stretch is withheld.
 const NOTHING: [u64; 2] = [0, 0];
 
-// The number that a run with checking, minimum 3, no skip amount and nothing withheld comes to, and what is left: how many lines there are, and their rows.
-fn find(image: &[u8], library: &[u8], rules: u64, edition: u64) -> (u8, usize, Vec<u64>) {
+// The number that a run with minimum 3, no skip amount and nothing withheld comes to, and what is left: how many lines there are, and their rows.
+fn find(image: &[u8], library: &[u8], rules: u64, edition: u64, depth: u64) -> (u8, usize, Vec<u64>) {
     let room = |list: usize, rows: usize| vec![0u64; rows * unsafe { sillmarble_row_width(list) }];
     let (mut segments, mut references, mut symbols) = (room(SEGMENTS, 20000), room(REFERENCES, 40000), room(SYMBOLS, 20000));
     let (mut placed, mut noted, mut lines) = (room(PLACED, 20000), room(NOTED, 20000), room(LINES, 40000));
@@ -50,7 +50,7 @@ fn find(image: &[u8], library: &[u8], rules: u64, edition: u64) -> (u8, usize, V
     let mut counts = [0u64; 7];
     let number = unsafe {
         sillmarble_find(
-            image.as_ptr(), image.len(), library.as_ptr(), library.len(), rules, edition, true, 3, false, 0, NOTHING.as_ptr(), 0, counts.as_mut_ptr(), counts.len(),
+            image.as_ptr(), image.len(), library.as_ptr(), library.len(), rules, edition, depth, 3, false, 0, NOTHING.as_ptr(), 0, counts.as_mut_ptr(), counts.len(),
             segments.as_mut_ptr(), segments.len(), references.as_mut_ptr(), references.len(), symbols.as_mut_ptr(), symbols.len(),
             bytes.as_mut_ptr(), bytes.len(), masks.as_mut_ptr(), masks.len(), placed.as_mut_ptr(), placed.len(), noted.as_mut_ptr(), noted.len(),
             lines.as_mut_ptr(), lines.len(),
@@ -80,17 +80,17 @@ fn number(word: Option<&String>) -> Option<u64> {
 }
 
 fn run(words: Vec<String>) -> i32 {
-    match (loaded(words.get(1)), loaded(words.get(2)), words.get(3), number(words.get(4))) {
-        (Some(image), Some(library), Some(rules), Some(edition)) => list(&image, &library, u64::from(rules != "found"), edition),
+    match (loaded(words.get(1)), loaded(words.get(2)), words.get(3), number(words.get(4)), number(words.get(5))) {
+        (Some(image), Some(library), Some(rules), Some(edition), Some(depth)) => list(&image, &library, u64::from(rules != "found"), edition, depth),
         _ => {
-            eprintln!("usage: example IMAGE LIBRARY found|documented EDITION");
+            eprintln!("usage: example IMAGE LIBRARY found|documented EDITION DEPTH");
             2
         }
     }
 }
 
-fn list(image: &[u8], library: &[u8], rules: u64, edition: u64) -> i32 {
-    let (number, n, lines) = find(image, library, rules, edition);
+fn list(image: &[u8], library: &[u8], rules: u64, edition: u64, depth: u64) -> i32 {
+    let (number, n, lines) = find(image, library, rules, edition, depth);
     if number != 0 {
         eprintln!("refused ({})", number);
         return 1;

@@ -42,8 +42,8 @@ enum {
      9  more rows or pattern bytes than were lent 10  a fixup kind above 7                  11  a fixup block above 3
     12  a content passes its segment's end        13  a fixup to a segment that is not kept
     14  a record's bytes do not sum to 0          15  bytes are left over behind a record's entries, or behind the file's last record
-    16  more than 16 stretches are withheld      30  edition not 1 or 2
-   The first that applies is given: 1, 30, 2, 3, 16, 4; of 5 to 8, 14 and 15 the first that is met in the file; then 9 to 13.
+    16  more than 16 stretches are withheld      17  depth above 4                         30  edition not 1 or 2
+   The first that applies is given: 1, 30, 17, 2, 3, 16, 4; of 5 to 8, 14 and 15 the first that is met in the file; then 9 to 13.
    Refusals 9 to 13 set all lent lists to zero, all others leave them as they were. On 0 each list begins with its rows, and the rest of it is zero.
 
    image, library       the bytes of both files
@@ -52,7 +52,9 @@ enum {
    edition              how the library is read. 1: checksums and bytes that are left over are not looked at. 2: all bytes of a record, its checksum included, sum
                         to 0 modulo 256, entries use up the body of their record, and the last record the file; else 14 or 15. What edition 2 reads, edition 1
                         reads to the same modules
-   check                whether a match counts only if the segments that it refers to stand where it says
+   depth                to what depth references are checked, 0 to 4. 0: every match counts. 1: a match counts only if every reference of it leads into the image, and
+                        to a match of the segment, if it refers to one. 2 to 4: the match there has to hold so too, at a depth less by one. What holds at a depth
+                        holds at every smaller one; a list may still have lines at a greater depth that it lacks at a smaller one
    minimum              so many bytes of a pattern must be fixed, in whole or in part, for a match to count by itself
    skips, amount        whether addresses with more than `amount` names are left out; if not, `amount` has no influence
    withheld             stretches of the image that have no influence on anything that comes out: pairs of numbers, a start and a length each, up to 16
@@ -65,7 +67,7 @@ enum {
    lines                for the list, rows of 4, by address: the address, the grade, and the place and the length of the name in the library.
                         Grade 3: it stands there, is referred to there, and what it refers to by name stands where it should. 2: the same, but not referred to.
                         1: something that it refers to by name does not stand where it should. 0: it is only referred to there */
-uint8_t sillmarble_find(const uint8_t *image, size_t in_image, const uint8_t *library, size_t in_library, uint64_t rules, uint64_t edition, bool check,
+uint8_t sillmarble_find(const uint8_t *image, size_t in_image, const uint8_t *library, size_t in_library, uint64_t rules, uint64_t edition, uint64_t depth,
                         size_t minimum, bool skips, size_t amount, const uint64_t *withheld, size_t in_withheld, uint64_t *counts, size_t in_counts,
                         uint64_t *segments, size_t in_segments, uint64_t *references, size_t in_references, uint64_t *symbols, size_t in_symbols,
                         uint8_t *bytes, size_t in_bytes, uint8_t *masks, size_t in_masks, uint64_t *placed, size_t in_placed, uint64_t *noted,

@@ -55,10 +55,10 @@ passed=0 failed=0
 # The examples and the program have to do with 6 MiB of stack.
 ulimit -S -s 6144
 # Runs an example and the listing program on the same files: status and standard output must be the same, and the refusal's number.
-try() { # EXAMPLE IMAGE LIBRARY RULES EDITION
+try() { # EXAMPLE IMAGE LIBRARY RULES EDITION DEPTH
     was=0 got=0
-    ./sillmarble list "$2" "$3" --rules "$4" --edition "$5" >"$out/was" 2>"$out/was.err" || was=$?
-    $emulator "$out/$1" "$2" "$3" "$4" "$5" >"$out/got" 2>"$out/got.err" || got=$?
+    ./sillmarble list "$2" "$3" --rules "$4" --edition "$5" --depth "$6" >"$out/was" 2>"$out/was.err" || was=$?
+    $emulator "$out/$1" "$2" "$3" "$4" "$5" "$6" >"$out/got" 2>"$out/got.err" || got=$?
     if [ "$was" -eq "$got" ] && cmp -s "$out/was" "$out/got" && [ "$(sed 's/:.*//' "$out/was.err")" = "$(cat "$out/got.err")" ]; then
         passed=$((passed + 1))
     else
@@ -117,13 +117,17 @@ printf '\032' >>"$out/over.lib"
 for example in example-c example-rs; do
     for edition in 1 2 3; do
         for rules in found documented; do
-            try "$example" examples/aid.img examples/routines.lib "$rules" "$edition"
+            try "$example" examples/aid.img examples/routines.lib "$rules" "$edition" 1
             # an image is no library: refusal 5, or 14 by edition 2
-            try "$example" examples/aid.img examples/aid.img "$rules" "$edition"
+            try "$example" examples/aid.img examples/aid.img "$rules" "$edition" 1
         done
-        try "$example" examples/aid.img "$out/over.lib" documented "$edition"
+        try "$example" examples/aid.img "$out/over.lib" documented "$edition" 1
+    done
+    # the other depths; 5 is refused with 17
+    for depth in 0 2 4 5; do
+        try "$example" examples/aid.img examples/routines.lib documented 1 "$depth"
     done
 done
-$emulator "$out/example-c" examples/aid.img examples/routines.lib documented 1
+$emulator "$out/example-c" examples/aid.img examples/routines.lib documented 1 1
 printf '%s passed, %s failed\n' "$passed" "$failed"
 [ "$failed" -eq 0 ]

@@ -68,6 +68,20 @@ printed both three.img both.lib --skip-multiple 2
 printed heading three.img both.lib --skip-multiple 1
 printed heading call.img unmet.lib --min-fn-length 1
 printed unmet call.img unmet.lib --min-fn-length 1 --no-check
+printed heading call.img unmet.lib --min-fn-length 1 --depth 1
+printed unmet call.img unmet.lib --min-fn-length 1 --depth 0
+for depth in 0 1 2 3 4; do
+    printed "steps-$depth" steps.img steps.lib --depth "$depth"
+    printed "steps-$depth" steps.img --depth "0x$depth" steps.lib --rules found --edition 2
+    printed documented aid.img routines.lib --depth "$depth"
+done
+printed steps-0 --no-check steps.img steps.lib
+printed steps-1 steps.img steps.lib
+# a greater depth can add lines: the f of three bytes goes, and a like-named one of one byte is seen
+for depth in 0 1; do printed chain chain.img chain.lib --rules found --min-fn-length 1 --depth "$depth"; done
+for depth in 2 3 4; do printed chain-deep chain.img chain.lib --rules found --min-fn-length 1 --depth "$depth"; done
+printed chain chain.img chain.lib --rules found --min-fn-length 1
+printed chain chain.img chain.lib --rules found --min-fn-length 1 --no-check
 printed back back.img back.lib --min-fn-length 1
 printed back-found back.img back.lib --min-fn-length 1 --rules found
 printed full full.img full.lib
@@ -146,6 +160,18 @@ done
 refused '(30): edition not 1 or 2' long.img long.lib --edition 0
 refused '(30): edition not 1 or 2' aid.img long.lib --edition 3
 refused '(30): edition not 1 or 2' aid.img none.lib --edition 3 --withhold 10240:1
+deep='(17): references are checked to depth 4 at most'
+for value in 5 0x5 256 4294967296 18446744073709551615; do
+    refused "$deep" aid.img routines.lib --depth "$value"
+done
+refused "$deep" long.img long.lib --depth 5
+refused "$deep" aid.img long.lib --edition 2 --depth 5
+# shellcheck disable=SC2086 # the words of several options
+refused "$deep" aid.img none.lib --depth 5 $fifteen --withhold 10240:1 --withhold 0:1
+refused "$deep" aid.img none.lib --depth 5 --withhold 10240:1
+refused '(30): edition not 1 or 2' long.img long.lib --depth 5 --edition 3
+refused '(2): image too long (more than 65536 bytes)' long.img long.lib --depth 4
+refused '(3): library too long (more than 65536 bytes)' aid.img long.lib --depth 4
 refused '(2): image too long (more than 65536 bytes)' long.img long.lib --edition 2
 refused '(3): library too long (more than 65536 bytes)' aid.img long.lib --edition 2
 
@@ -155,29 +181,39 @@ wrong "only an image and a library are taken, and there is also 'third'" aid.img
 wrong "there is no option '--check'" aid.img routines.lib --check
 wrong "there is no option '-n'" aid.img routines.lib -n
 wrong "there is no option '-'" - routines.lib
-for option in --min-fn-length --skip-multiple --rules --edition --withhold; do
+for option in --min-fn-length --skip-multiple --rules --edition --depth --withhold; do
     wrong "the option '$option' lacks its value" aid.img routines.lib "$option"
 done
 wrong "the option '--no-check' is given twice" --no-check aid.img routines.lib --no-check
 wrong "the option '--rules' is given twice" aid.img routines.lib --rules found --rules documented
 wrong "the option '--edition' is given twice" aid.img routines.lib --edition 1 --edition 2
+wrong "the option '--depth' is given twice" aid.img routines.lib --depth 1 --depth 1
+wrong "the option '--depth' is given twice" aid.img routines.lib --depth 5 --no-check --depth x
+one='--no-check is --depth 0, and only one of the two is taken'
+wrong "$one" aid.img routines.lib --no-check --depth 0
+wrong "$one" --depth 0 aid.img routines.lib --no-check
+wrong "$one" aid.img routines.lib --no-check --depth x --min-fn-length x
+wrong "$one" aid.img routines.lib --depth 5 --no-check
+wrong 'a library is to be named behind the image' aid.img --depth 1 --no-check
 wrong "the option '--min-fn-length' is given twice" aid.img routines.lib --min-fn-length 3 --min-fn-length 4
 wrong "the option '--skip-multiple' is given twice" aid.img routines.lib --skip-multiple 3 --skip-multiple 4
 number='a number is decimal, or hexadecimal behind 0x, and not'
 for value in '' x 3x 0x 0xg -1 ' 3' 0X10; do
     wrong "$number '$value'" aid.img routines.lib --min-fn-length "$value"
     wrong "$number '$value'" aid.img routines.lib --skip-multiple "$value"
+    wrong "$number '$value'" aid.img routines.lib --depth "$value" --min-fn-length y
     wrong "$number '$value:1'" aid.img routines.lib --withhold "$value:1"
     wrong "$number '1:$value'" aid.img routines.lib --withhold "1:$value"
 done
 wrong "$number '1:2:3'" aid.img routines.lib --withhold 1:2:3
 wrong "$number 'two'" aid.img routines.lib --edition two
-wrong "$number ''" aid.img routines.lib --edition '' --min-fn-length x
+wrong "$number ''" aid.img routines.lib --edition '' --depth x --min-fn-length x
 wrong "the rules are found or documented, and not 'old'" aid.img routines.lib --edition x --rules old
 large='a number is at most 18446744073709551615, and not'
 for value in 18446744073709551616 0x10000000000000000 99999999999999999999999; do
     wrong "$large '$value'" aid.img routines.lib --min-fn-length "$value"
     wrong "$large '$value'" aid.img routines.lib --skip-multiple "$value"
+    wrong "$large '$value'" aid.img routines.lib --depth "$value"
     wrong "$large '0:$value'" aid.img routines.lib --withhold "0:$value"
 done
 wrong "$large '18446744073709551616'" aid.img routines.lib --edition 18446744073709551616
@@ -203,7 +239,7 @@ count $was 'a list that cannot be written'
 
 # help names each option and each command
 "$program" list aid.img --help --rules >out 2>err && was=0 || was=1
-for word in --rules --edition --no-check --min-fn-length --skip-multiple --withhold --help 'refused (N)' 'usage:'; do
+for word in --rules --edition --depth --no-check --min-fn-length --skip-multiple --withhold --help 'refused (N)' 'usage:'; do
     grep -q -e "$word" out || was=1
 done
 [ ! -s err ] || was=1

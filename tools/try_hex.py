@@ -98,7 +98,7 @@ def listing(folder):
     image, library = ROOT / "examples" / "aid.img", ROOT / "examples" / "routines.lib"
     run("list", image, library)
     text = put(folder / "aid.hex", exported(image.read_bytes())[1])
-    for options in ((), ("--rules", "found"), ("--withhold", "0x1204:8")):
+    for options in ((), ("--rules", "found"), ("--depth", "2"), ("--withhold", "0x1204:8")):
         wanted = run("list", image, library, *options)[1]
         os.environ["TMPDIR"] = str(folder / "empty")
         for words in ((text, library, *options, "--hex"), ("--hex", *options, text, library), (*options, text, "--hex", library)):

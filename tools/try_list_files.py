@@ -28,6 +28,13 @@ def fixed(*entries):
     return make.module("M", segment(1, 3), make.content(1, 0, RETURNS), make.record(0x08, b"".join(entries)))
 
 
+def stepping(count):
+    """A module of segments of five bytes: each begins with its number twice and jumps to the next, the last to the first."""
+    numbers = range(1, count + 1)
+    jumps = (make.content(n, 0, bytes([n, n, 2, 0, 0])) + make.record(0x08, make.fixup(3, make.WORD, make.SEGMENT, n % count + 1)) for n in numbers)
+    return make.module("M", *(segment(n, 5) for n in numbers), *(make.public(n, 0, f"step{n}") for n in numbers), *jumps)
+
+
 def libraries():
     whole = make.routine("LADD", "?C?LADD", make.ADD)
     header = make.record(0x02, make.name("M") + b"\0\0")
@@ -56,6 +63,12 @@ def libraries():
         "short": make.routine("SHORT", "short", b"\x22"),
         # a call of the segment behind it, which does not stand there
         "unmet": make.module("M", segment(1, 3), segment(2, 3), make.public(1, 0, "unmet"), make.content(1, 0, b"\x02\0\0"), make.record(0x08, make.fixup(1, make.WORD, make.SEGMENT, 2)), make.content(2, 0, RETURNS)),
+        # f calls the segment behind it, which stands there in chain.img but jumps past the image's end; the f of the second module has one byte, and refers to g
+        "chain": make.module("M", segment(1, 3), segment(2, 3), make.public(1, 0, "f"), make.content(1, 0, b"\x12\0\0"), make.record(0x08, make.fixup(1, make.WORD, make.SEGMENT, 2)),
+                             make.content(2, 0, b"\x02\0\0"), make.record(0x08, make.fixup(1, make.WORD, make.SEGMENT, 1)))
+        + make.module("N", segment(1, 1), make.public(1, 0, "f"), make.external(1, "g"), make.content(1, 0, b"\x12"), make.record(0x08, make.fixup(4, RELATIVE, make.EXTERNAL, 1))),
+        # in steps.img the last of them jumps past the image's end
+        "steps": stepping(5),
         # a short jump back, to a name that stands before address 0
         "back": make.module("M", segment(1, 2), make.public(1, 0, "back"), make.external(0, "before"), make.content(1, 0, b"\x80\0"), make.record(0x08, make.fixup(1, RELATIVE, make.EXTERNAL, 0))),
         "printed": bytes.fromhex(
@@ -78,9 +91,16 @@ def images():
         "three": RETURNS,
         "call": b"\x02\x12\x34",
         "back": b"\x80\x80",
+        "steps": b"".join(bytes([n, n, 2, 0, 5 * n]) for n in range(1, 5)) + b"\x05\x05\x02\xFF\xFF",
+        "chain": bytes.fromhex("12 00 03 02 00 FF 00"),
         "empty": b"",
         "printed": bytes.fromhex("00 E5 25 22"),
     }
+
+
+def steps(depth):
+    """Each depth more takes the last step that is left."""
+    return HEADING + "".join(line(5 * n, f"step{n + 1}") for n in range(5 - depth))
 
 
 def lists():
@@ -100,6 +120,9 @@ def lists():
         "both": HEADING + line(0, "one") + line(0, "other"),
         "short": HEADING + line(0, "short"),
         "unmet": HEADING + line(0, "unmet"),
+        **{f"steps-{depth}": steps(depth) for depth in range(5)},
+        "chain": HEADING + line(0, "f") + line(5, "g", "()"),
+        "chain-deep": HEADING + line(0, "f", "[]") + line(5, "g", "()"),
         "back": HEADING + line(0, "back", "[]") + line(2 - 128 + 2**16, "before", "()"),
         "back-found": HEADING + line(0, "back", "[]") + line(2 - 128 + 2**64, "before", "()"),
     }

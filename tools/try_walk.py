@@ -117,7 +117,8 @@ def usage(folder):
             ((path, 2 ** 64), f"a number is at most 18446744073709551615, and not '{2 ** 64}'"),
             ((path, 0, "--withhold"), "the option '--withhold' lacks its value"), ((path, 0, "--withhold", "3"), "what is withheld is START:LENGTH, and not '3'"),
             ((path, 0, "--rules", "found"), "there is no option '--rules'"), ((path, "--no-check", 0), "there is no option '--no-check'"),
-            ((path, 0, "--edition", "1"), "there is no option '--edition'"), ((path, 0, "--other"), "there is no option '--other'")):
+            ((path, 0, "--edition", "1"), "there is no option '--edition'"), ((path, 0, "--depth", "1"), "there is no option '--depth'"),
+            ((path, 0, "--other"), "there is no option '--other'")):
         try_(2, "", f"usage: {said}{TELLS}", *words)
     missing = folder / "missing"
     came = run(missing, 0)

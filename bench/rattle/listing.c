@@ -1,4 +1,4 @@
-/* rattle-listing WHAT CHECK MINIMUM SKIP IMAGE LIBRARY: the port's list of what a search found, so that its instructions can be counted; CHECK is 1 or 0, SKIP is
+/* rattle-listing WHAT DEPTH MINIMUM SKIP IMAGE LIBRARY: the port's list of what a search found, so that its instructions can be counted; DEPTH is 0 to 4, SKIP is
    none or the skip amount.
      find   both files are loaded, the library read, its segments collected, and the image searched for them, into much lent memory
      list   the same, and then what was found is listed, with exactly as many rows lent as it takes
@@ -26,7 +26,7 @@ uint8_t count_collecting(const uint8_t *library, size_t length, uint64_t *counts
                          uint64_t *references, size_t in_references, uint64_t *symbols, size_t in_symbols, uint8_t *bytes, size_t in_bytes,
                          uint8_t *masks, size_t in_masks);
 
-uint8_t count_searching(const uint8_t *image, size_t in_image, bool check, size_t minimum, const uint8_t *library, size_t length, size_t n,
+uint8_t count_searching(const uint8_t *image, size_t in_image, uint64_t depth, size_t minimum, const uint8_t *library, size_t length, size_t n,
                         uint64_t *counts, size_t two, uint64_t *segments, size_t in_segments, uint64_t *references, size_t in_references,
                         uint64_t *symbols, size_t in_symbols, uint8_t *bytes, size_t in_bytes, uint8_t *masks, size_t in_masks,
                         uint64_t *placed, size_t in_placed, uint64_t *noted, size_t in_noted, uint32_t *positions, size_t in_positions,
@@ -46,8 +46,8 @@ static uint8_t bytes[PATTERN], masks[PATTERN], text[TEXT];
 struct job {
     const uint8_t *image, *library;
     size_t in_image, length, minimum, amount;
-    bool check, skips;
-    uint64_t stored[4], found[2], listed[1];
+    bool skips;
+    uint64_t depth, stored[4], found[2], listed[1];
 };
 
 static int collected(struct job *j)
@@ -59,7 +59,7 @@ static int collected(struct job *j)
 /* The collection's lists are lent as far as they are filled. */
 static int searched(struct job *j)
 {
-    return count_searching(j->image, j->in_image, j->check, j->minimum, j->library, j->length, j->stored[0], j->found, 2, segments,
+    return count_searching(j->image, j->in_image, j->depth, j->minimum, j->library, j->length, j->stored[0], j->found, 2, segments,
                            8 * j->stored[0], references, 6 * j->stored[1], symbols, 3 * j->stored[2], bytes, j->stored[3], masks, j->stored[3],
                            placed, 8 * PLACED, noted, 6 * NOTED, positions, HEADS, goals, HEADS);
 }
@@ -80,7 +80,7 @@ int main(int count, char **words)
 {
     struct job j = {0};
     if (count == 7) {
-        j.check = words[2][0] == '1';
+        j.depth = (uint64_t)(words[2][0] - '0');
         j.minimum = strtoul(words[3], NULL, 10);
         j.skips = strcmp(words[4], "none") != 0;
         j.amount = strtoul(words[4], NULL, 10);
@@ -88,7 +88,7 @@ int main(int count, char **words)
         j.library = loaded(words[6], &j.length);
     }
     if (!j.image || !j.library) {
-        fputs("usage: rattle-listing find|list|text|show CHECK MINIMUM SKIP IMAGE LIBRARY\n", stderr);
+        fputs("usage: rattle-listing find|list|text|show DEPTH MINIMUM SKIP IMAGE LIBRARY\n", stderr);
         return 2;
     }
     char job = words[1][0];

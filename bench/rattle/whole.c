@@ -1,4 +1,4 @@
-/* rattle-whole WHAT CHECK MINIMUM SKIP IMAGE LIBRARY [COUNTS]: the port's whole run, so that its instructions can be counted; CHECK is 1 or 0, with a 2
+/* rattle-whole WHAT DEPTH MINIMUM SKIP IMAGE LIBRARY [COUNTS]: the port's whole run, so that its instructions can be counted; DEPTH is 0 to 4, with a 2
    behind it the library is read in edition 2, and with sN behind that N stretches of 16 bytes are withheld, scattered over the image; SKIP is none or the skip
    amount. COUNTS are how many rows of segments, references and symbols, pattern bytes, and rows of placed symbols, noted names and lines are lent; without
    them it is more than any of the loads takes.
@@ -22,10 +22,10 @@ static uint8_t bytes[1 << 21], masks[1 << 21];
 /* What is withheld: pairs of a start and a length. */
 static uint64_t withheld[2 * 17];
 
-/* Scatters the stretches that CHECK asks for, and says how many numbers these are. */
-static size_t scattered(const char *check, size_t in_image)
+/* Scatters the stretches that the word of DEPTH asks for, and says how many numbers these are. */
+static size_t scattered(const char *word, size_t in_image)
 {
-    const char *asked = strchr(check, 's');
+    const char *asked = strchr(word, 's');
     size_t n = asked ? strtoul(asked + 1, NULL, 10) : 0;
     for (size_t i = 0; i < n && i < 17; i++) {
         withheld[2 * i] = (i + 1) * in_image / (n + 1);
@@ -36,7 +36,7 @@ static size_t scattered(const char *check, size_t in_image)
 
 static int found(char **words, const uint8_t *image, size_t in_image, const uint8_t *library, size_t length, const size_t *lent, uint64_t *counts)
 {
-    return sillmarble_find(image, in_image, library, length, 0, words[2][1] == '2' ? 2 : 1, words[2][0] == '1', strtoul(words[3], NULL, 10), strcmp(words[4], "none") != 0,
+    return sillmarble_find(image, in_image, library, length, 0, words[2][1] == '2' ? 2 : 1, (uint64_t)(words[2][0] - '0'), strtoul(words[3], NULL, 10), strcmp(words[4], "none") != 0,
                            strtoul(words[4], NULL, 10), withheld, scattered(words[2], in_image), counts, COUNTS, segments, 8 * lent[SEGMENTS], references, 6 * lent[REFERENCES], symbols,
                            3 * lent[SYMBOLS], bytes, lent[PATTERN], masks, lent[PATTERN], placed, 8 * lent[PLACED], noted, 6 * lent[NOTED], lines,
                            4 * lent[LINES]);
@@ -58,7 +58,7 @@ int main(int count, char **words)
     bool asked = count == 7 || count == 7 + COUNTS;
     uint8_t *image = asked ? loaded(words[5], &in_image) : NULL, *library = asked ? loaded(words[6], &length) : NULL;
     if (!image || !library) {
-        fputs("usage: rattle-whole load|find|show CHECK MINIMUM SKIP IMAGE LIBRARY [COUNTS]\n", stderr);
+        fputs("usage: rattle-whole load|find|show DEPTH MINIMUM SKIP IMAGE LIBRARY [COUNTS]\n", stderr);
         return 2;
     }
     for (int i = 0; i < COUNTS; i++) {

@@ -14,7 +14,7 @@ use Rattle.command.specs.SettingsOf.{settingsOf}
 use Rattle.command.specs.declared.mistake.Fault.the-variants.{TooLong, Unknown, Twice, NoValue, ThirdFile, NoImage, NoLibrary}
 use Rattle.command.specs.declared.options.Options.{Options}
 use Rattle.command.specs.declared.options.Valued as valued
-use Rattle.command.specs.declared.options.Valued.the-variants.{Rules, Edition, Minimum, Skip, Withhold}
+use Rattle.command.specs.declared.options.Valued.the-variants.{Rules, Edition, Depth, Minimum, Skip, Withhold}
 use Rattle.command.specs.declared.options.Kind.{Kind}
 use Rattle.command.specs.declared.options.Kind.the-variants.{NoCheck, Valued, Unknown as NoOption, File}
 use Rattle.command.specs.declared.settings.Wanted.{Wanted}
@@ -94,6 +94,7 @@ ended g last = expectedEnded (g .expected) g last
 abbrev pub valueWithheld : valued.Valued → Stretches → List ℕ → ℕ → Stretches
 valueWithheld Rules w word i = w
 valueWithheld Edition w word i = w
+valueWithheld Depth w word i = w
 valueWithheld Minimum w word i = w
 valueWithheld Skip w word i = w
 valueWithheld Withhold w word i = stretchAdded w (stretchValue word i)

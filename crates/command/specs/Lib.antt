@@ -7,6 +7,7 @@ pub mod Stretches
 pub mod StretchLaws
 pub mod Options
 pub mod SettingsOf
+pub mod DepthLaws
 pub mod Arguments
 pub mod ArgumentLaws
 pub mod Examples

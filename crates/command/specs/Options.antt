@@ -1,7 +1,8 @@
 -- The options of the command line, and what is known of them.
 use Prim.Native.Nat.{ℕ}
 use mathlib.Core.Bool.{Bool, true, false}
-use mathlib.Core.List.{List}
+use mathlib.Core.List.{List, [], _∷_}
+use Prim.Native.String.{String}
 use lib.Dec.{eqb}
 use lib.ListN.{length, getD}
 use Rattle.lent.specs.Choice.{if_then_else_}
@@ -12,7 +13,7 @@ use Rattle.command.specs.Stretches.{stretchValue}
 use Rattle.command.specs.declared.values.Read.{Read}
 use Rattle.command.specs.declared.stretch.Withheld.{Withheld}
 use Rattle.command.specs.declared.options.Valued as valued
-use Rattle.command.specs.declared.options.Valued.the-variants.{Rules, Edition, Minimum, Skip, Withhold}
+use Rattle.command.specs.declared.options.Valued.the-variants.{Rules, Edition, Depth, Minimum, Skip, Withhold}
 use Rattle.command.specs.declared.options.Kind.{Kind}
 use Rattle.command.specs.declared.options.Kind.the-variants.{NoCheck, Valued, Unknown, File}
 use Rattle.command.specs.declared.options.Value.{Value}
@@ -23,15 +24,24 @@ use Rattle.command.specs.declared.options.Held.the-variants.{Stretches, 
 use Rattle.command.specs.declared.options.Options.{Options}
 
 -- the options by their words
-unfoldable pub optionOf : List ℕ → Kind
-optionOf word =
-    if same word (text "--no-check") then NoCheck
-    else if same word (text "--min-fn-length") then Valued Minimum
-    else if same word (text "--skip-multiple") then Valued Skip
-    else if same word (text "--rules") then Valued Rules
-    else if same word (text "--edition") then Valued Edition
-    else if same word (text "--withhold") then Valued Withhold
-    else Unknown
+abbrev pub options : List (String × Kind)
+options =
+    ("--no-check", NoCheck)
+    ∷ ("--depth", Valued Depth)
+    ∷ ("--min-fn-length", Valued Minimum)
+    ∷ ("--skip-multiple", Valued Skip)
+    ∷ ("--rules", Valued Rules)
+    ∷ ("--edition", Valued Edition)
+    ∷ ("--withhold", Valued Withhold)
+    ∷ []
+
+-- the first of some options that has this word
+unfoldable pub optionIn : List (String × Kind) → List ℕ → Kind
+optionIn [] word = Unknown
+optionIn (o ∷ rest) word = if same word (text (o .0)) then o .1 else optionIn rest word
+
+abbrev pub optionOf : List ℕ → Kind
+optionOf word = optionIn options word
 
 -- what a word is that is no option's value: an option, if it begins with -, and else a file
 unfoldable pub kindOf : List ℕ → Kind
@@ -42,7 +52,7 @@ kindOf word =
 
 -- where no option is given: references are checked, and nothing else is said
 abbrev pub noOptions : Options
-noOptions = record { rules = Absent; edition = Absent; check = true; minimum = Absent; skip = Absent; withheld = Stretches }
+noOptions = record { rules = Absent; edition = Absent; check = true; depth = Absent; minimum = Absent; skip = Absent; withheld = Stretches }
 
 abbrev pub valueGiven : Value → Bool
 valueGiven Absent = false
@@ -52,6 +62,7 @@ valueGiven (Given read) = true
 abbrev pub isGiven : Options → valued.Valued → Bool
 isGiven o Rules = valueGiven (o .rules)
 isGiven o Edition = valueGiven (o .edition)
+isGiven o Depth = valueGiven (o .depth)
 isGiven o Minimum = valueGiven (o .minimum)
 isGiven o Skip = valueGiven (o .skip)
 isGiven o Withhold = false
@@ -59,19 +70,23 @@ isGiven o Withhold = false
 -- an option's value is put in; the others stay
 abbrev pub withRules : Options → Read → Options
 withRules o read =
-    record { rules = Given read; edition = o .edition; check = o .check; minimum = o .minimum; skip = o .skip; withheld = o .withheld }
+    record { rules = Given read; edition = o .edition; check = o .check; depth = o .depth; minimum = o .minimum; skip = o .skip; withheld = o .withheld }
 
 abbrev pub withEdition : Options → Read → Options
 withEdition o read =
-    record { rules = o .rules; edition = Given read; check = o .check; minimum = o .minimum; skip = o .skip; withheld = o .withheld }
+    record { rules = o .rules; edition = Given read; check = o .check; depth = o .depth; minimum = o .minimum; skip = o .skip; withheld = o .withheld }
+
+abbrev pub withDepth : Options → Read → Options
+withDepth o read =
+    record { rules = o .rules; edition = o .edition; check = o .check; depth = Given read; minimum = o .minimum; skip = o .skip; withheld = o .withheld }
 
 abbrev pub withMinimum : Options → Read → Options
 withMinimum o read =
-    record { rules = o .rules; edition = o .edition; check = o .check; minimum = Given read; skip = o .skip; withheld = o .withheld }
+    record { rules = o .rules; edition = o .edition; check = o .check; depth = o .depth; minimum = Given read; skip = o .skip; withheld = o .withheld }
 
 abbrev pub withSkip : Options → Read → Options
 withSkip o read =
-    record { rules = o .rules; edition = o .edition; check = o .check; minimum = o .minimum; skip = Given read; withheld = o .withheld }
+    record { rules = o .rules; edition = o .edition; check = o .check; depth = o .depth; minimum = o .minimum; skip = Given read; withheld = o .withheld }
 
 -- one value more of --withhold; of several values that are wrong the first is told
 abbrev pub heldWith : Held → Withheld → Held
@@ -81,15 +96,16 @@ heldWith (WrongBefore m) read = WrongBefore m
 
 abbrev pub withWithheld : Options → Withheld → Options
 withWithheld o read =
-    record { rules = o .rules; edition = o .edition; check = o .check; minimum = o .minimum; skip = o .skip; withheld = heldWith (o .withheld) read }
+    record { rules = o .rules; edition = o .edition; check = o .check; depth = o .depth; minimum = o .minimum; skip = o .skip; withheld = heldWith (o .withheld) read }
 
 abbrev pub uncheckedOf : Options → Options
 uncheckedOf o =
-    record { rules = o .rules; edition = o .edition; check = false; minimum = o .minimum; skip = o .skip; withheld = o .withheld }
+    record { rules = o .rules; edition = o .edition; check = false; depth = o .depth; minimum = o .minimum; skip = o .skip; withheld = o .withheld }
 
 abbrev pub withValue : Options → valued.Valued → List ℕ → ℕ → Options
 withValue o Rules word i = withRules o (rulesValue word i)
 withValue o Edition word i = withEdition o (numberValue word i)
+withValue o Depth word i = withDepth o (numberValue word i)
 withValue o Minimum word i = withMinimum o (numberValue word i)
 withValue o Skip word i = withSkip o (numberValue word i)
 withValue o Withhold word i = withWithheld o (stretchValue word i)

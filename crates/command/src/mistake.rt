@@ -15,6 +15,7 @@ pub enum Fault {
     NumberTooLarge,
     NoSuchRules,
     NotAStretch,
+    BothDepths,
 }
 
 // Which fault, and the number of the word that has it; 0 for a word that is not there.
@@ -23,7 +24,7 @@ pub struct Mistake {
     pub word: usize,
 }
 
-// A word that is too long, or an option that is none, too many, or lacks its value.
+// A word that is too long, or an option that is none, too many, not taken beside another, or lacks its value.
 fn option_words(fault: Fault, i: usize) {
     match fault {
         Fault::TooLong => {
@@ -33,6 +34,7 @@ fn option_words(fault: Fault, i: usize) {
         Fault::Unknown => about(b"there is no option ", i, b""),
         Fault::Twice => about(b"the option ", i, b" is given twice"),
         Fault::NoValue => about(b"the option ", i, b" lacks its value"),
+        Fault::BothDepths => say(b"--no-check is --depth 0, and only one of the two is taken"),
         _ => file_words(fault, i),
     }
 }

@@ -1,6 +1,6 @@
 // The options by their words, and what is known of them so far.
 ghost use mathlib.Core.Path.{_≡_};
-ghost use Rattle.command.specs.Options.{optionOf, kindOf, noOptions, valueGiven, isGiven, heldWith, withRules, withEdition, withMinimum, withSkip, withWithheld, withValue, uncheckedOf};
+ghost use Rattle.command.specs.Options.{optionOf, kindOf, noOptions, valueGiven, isGiven, heldWith, withRules, withEdition, withDepth, withMinimum, withSkip, withWithheld, withValue, uncheckedOf};
 use crate::mistake::Mistake;
 use crate::stretch::Withheld;
 use crate::stretch::stretch_value;
@@ -13,6 +13,7 @@ use lent::names::same;
 pub enum Valued {
     Rules,
     Edition,
+    Depth,
     Minimum,
     Skip,
     Withhold,
@@ -38,11 +39,12 @@ pub enum Held {
     Wrong(Mistake),
 }
 
-// The options so far. References are checked, unless --no-check is given.
+// The options so far. `check` is false once --no-check is given; that --depth is not given beside it is asked behind the last word.
 pub struct Options {
     pub rules: Value,
     pub edition: Value,
     pub check: bool,
+    pub depth: Value,
     pub minimum: Value,
     pub skip: Value,
     pub withheld: Held,
@@ -53,6 +55,9 @@ fn option_of(word: &[u8]) -> Kind
 {
     if same(word, b"--no-check") {
         return Kind::NoCheck;
+    }
+    if same(word, b"--depth") {
+        return Kind::Valued(Valued::Depth);
     }
     if same(word, b"--min-fn-length") {
         return Kind::Valued(Valued::Minimum);
@@ -92,6 +97,7 @@ pub fn no_options() -> Options
         rules: Value::Absent,
         edition: Value::Absent,
         check: true,
+        depth: Value::Absent,
         minimum: Value::Absent,
         skip: Value::Absent,
         withheld: Held::Stretches,
@@ -126,11 +132,13 @@ pub fn is_given(o: Options, option: Valued) -> bool
 {
     let rules = o.rules;
     let edition = o.edition;
+    let depth = o.depth;
     let minimum = o.minimum;
     let skip = o.skip;
     match option {
         Valued::Rules => is_value_given(rules),
         Valued::Edition => is_value_given(edition),
+        Valued::Depth => is_value_given(depth),
         Valued::Minimum => is_value_given(minimum),
         Valued::Skip => is_value_given(skip),
         Valued::Withhold => false,
@@ -141,6 +149,7 @@ fn with_rules(o: Options, read: Read) -> Options
     ensures { λ r. ⌜ r ≡ withRules o read ⌝ }
 {
     let edition = o.edition;
+    let depth = o.depth;
     let minimum = o.minimum;
     let skip = o.skip;
     let withheld = o.withheld;
@@ -148,6 +157,7 @@ fn with_rules(o: Options, read: Read) -> Options
         rules: Value::Given(read),
         edition,
         check: o.check,
+        depth,
         minimum,
         skip,
         withheld,
@@ -158,6 +168,7 @@ fn with_edition(o: Options, read: Read) -> Options
     ensures { λ r. ⌜ r ≡ withEdition o read ⌝ }
 {
     let rules = o.rules;
+    let depth = o.depth;
     let minimum = o.minimum;
     let skip = o.skip;
     let withheld = o.withheld;
@@ -165,6 +176,26 @@ fn with_edition(o: Options, read: Read) -> Options
         rules,
         edition: Value::Given(read),
         check: o.check,
+        depth,
+        minimum,
+        skip,
+        withheld,
+    }
+}
+
+fn with_depth(o: Options, read: Read) -> Options
+    ensures { λ r. ⌜ r ≡ withDepth o read ⌝ }
+{
+    let rules = o.rules;
+    let edition = o.edition;
+    let minimum = o.minimum;
+    let skip = o.skip;
+    let withheld = o.withheld;
+    Options {
+        rules,
+        edition,
+        check: o.check,
+        depth: Value::Given(read),
         minimum,
         skip,
         withheld,
@@ -176,12 +207,14 @@ fn with_minimum(o: Options, read: Read) -> Options
 {
     let rules = o.rules;
     let edition = o.edition;
+    let depth = o.depth;
     let skip = o.skip;
     let withheld = o.withheld;
     Options {
         rules,
         edition,
         check: o.check,
+        depth,
         minimum: Value::Given(read),
         skip,
         withheld,
@@ -193,12 +226,14 @@ fn with_skip(o: Options, read: Read) -> Options
 {
     let rules = o.rules;
     let edition = o.edition;
+    let depth = o.depth;
     let minimum = o.minimum;
     let withheld = o.withheld;
     Options {
         rules,
         edition,
         check: o.check,
+        depth,
         minimum,
         skip: Value::Given(read),
         withheld,
@@ -210,6 +245,7 @@ fn with_withheld(o: Options, read: Withheld) -> Options
 {
     let rules = o.rules;
     let edition = o.edition;
+    let depth = o.depth;
     let minimum = o.minimum;
     let skip = o.skip;
     let withheld = o.withheld;
@@ -217,6 +253,7 @@ fn with_withheld(o: Options, read: Withheld) -> Options
         rules,
         edition,
         check: o.check,
+        depth,
         minimum,
         skip,
         withheld: held_with(withheld, read),
@@ -230,6 +267,7 @@ pub fn with_value(o: Options, option: Valued, word: &[u8], i: usize) -> Options
     match option {
         Valued::Rules => with_rules(o, rules_value(word, i)),
         Valued::Edition => with_edition(o, number_value(word, i)),
+        Valued::Depth => with_depth(o, number_value(word, i)),
         Valued::Minimum => with_minimum(o, number_value(word, i)),
         Valued::Skip => with_skip(o, number_value(word, i)),
         Valued::Withhold => with_withheld(o, stretch_value(word, i)),

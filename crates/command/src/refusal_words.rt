@@ -10,6 +10,7 @@ fn settings_words(r: Refusal, lent: Counts) {
     match r {
         Refusal::RuleSet => say(b"rule set not 0 or 1"),
         Refusal::OtherEdition => say(b"edition not 1 or 2"),
+        Refusal::TooDeep => say(b"references are checked to depth 4 at most"),
         Refusal::ImageTooLong => say(b"image too long (more than 65536 bytes)"),
         Refusal::LibraryTooLong => say(b"library too long (more than 65536 bytes)"),
         Refusal::StretchPastEnd => say(b"withheld start + length passes the image's end"),

@@ -86,7 +86,7 @@ pub extern "C" fn count_collecting(
 #[no_mangle]
 pub extern "C" fn count_searching(
     image: &[u8],
-    check: bool,
+    depth: u64,
     minimum: usize,
     library: &[u8],
     n: usize,
@@ -103,7 +103,7 @@ pub extern "C" fn count_searching(
 ) -> u8 {
     let asked = Asked {
         rules: Rules::AsFound,
-        check,
+        depth,
         minimum,
     };
     match search(

@@ -33,7 +33,7 @@ use Rattle.run.specs.Demands.{memory as run-memory, same-lengths as run-lengths
 use Rattle.libfind_c.specs.Exported.{Handed, handed, handedRun, countsIn, countNumbers}
 
 -- the contract of `sillmarble_find`: its number, and the counts and the eight lists as it leaves them, are those of the run;
--- s is what `settingsOf` makes of the rule set, the edition, the choices, the numbers and the stretches
+-- s is what `settingsOf` makes of the rule set, the edition, the depth, the minimum, the skip amount and the stretches
 abbrev pub Contract : List ℕ → List ℕ → Settings → List ℕ → Lent → Handed → Type 0
 Contract image library s counts lent h = h ≡ handedRun image library s counts lent
 

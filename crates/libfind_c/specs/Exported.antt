@@ -24,13 +24,13 @@ use Rattle.run.specs.Run.{Lent, Outcome, run, numberOf, countsOf}
 abbrev pub skipOf : Bool → ℕ → Skip
 skipOf skips amount = if skips then Above amount else Never
 
--- the settings: rule set, edition, whether references are checked, minimum, whether there is a skip amount and which, and the
--- stretches as pairs of numbers
-abbrev pub settingsOf : ℕ → ℕ → Bool → ℕ → Bool → ℕ → List ℕ → Settings
-settingsOf rules edition check minimum skips amount numbers = record {
+-- the settings: rule set, edition, to what depth references are checked, minimum, whether there is a skip amount and which,
+-- and the stretches as pairs of numbers
+abbrev pub settingsOf : ℕ → ℕ → ℕ → ℕ → Bool → ℕ → List ℕ → Settings
+settingsOf rules edition depth minimum skips amount numbers = record {
   rules = rules;
   edition = edition;
-  check = check;
+  depth = depth;
   minimum = minimum;
   skip = skipOf skips amount;
   withheld = gathered noStretches numbers;

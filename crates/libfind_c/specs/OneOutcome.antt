@@ -27,9 +27,9 @@ pub row-width-one : (list : ℕ) → Determines (λ (r : ℕ). r ≡ widthOf lis
 row-width-one list = by-equation (widthOf list)
 
 -- and the four functions on plain numbers inside them
-pub settings-of-one : (rules edition : ℕ) (check : Bool) (minimum : ℕ) (skips : Bool) (amount : ℕ) (numbers : List ℕ)
-    → Determines (λ r. r ≡ settingsOf rules edition check minimum skips amount numbers)
-settings-of-one rules edition check minimum skips amount numbers = by-equation (settingsOf rules edition check minimum skips amount numbers)
+pub settings-of-one : (rules edition depth minimum : ℕ) (skips : Bool) (amount : ℕ) (numbers : List ℕ)
+    → Determines (λ r. r ≡ settingsOf rules edition depth minimum skips amount numbers)
+settings-of-one rules edition depth minimum skips amount numbers = by-equation (settingsOf rules edition depth minimum skips amount numbers)
 
 -- `hand_over`: the number, and the counts afterwards
 abbrev pub HandsOver : Answer → List ℕ → ℕ × List ℕ → Type 0

@@ -30,7 +30,7 @@ pub extern "C" fn sillmarble_find(
     library: &[u8],
     rules: u64,
     edition: u64,
-    check: bool,
+    depth: u64,
     minimum: usize,
     skips: bool,
     amount: usize,
@@ -46,10 +46,10 @@ pub extern "C" fn sillmarble_find(
     lines: &mut [u64],
 ) -> u8
     ensures { λ r. ⌜ record { number = r; counts = now (counts .exit); left = lentLists (now (segments .exit)) (now (references .exit)) (now (symbols .exit)) (now (bytes .exit)) (now (masks .exit)) (now (placed .exit)) (now (noted .exit)) (now (lines .exit)) }
-        ≡ handedRun (now (image .entry)) (now (library .entry)) (settingsOf rules edition check minimum skips amount (now (withheld .entry))) (now (counts .entry))
+        ≡ handedRun (now (image .entry)) (now (library .entry)) (settingsOf rules edition depth minimum skips amount (now (withheld .entry))) (now (counts .entry))
         (lentLists (now (segments .entry)) (now (references .entry)) (now (symbols .entry)) (now (bytes .entry)) (now (masks .entry)) (now (placed .entry)) (now (noted .entry)) (now (lines .entry))) ⌝ }
 {
-    let settings = settings_of(rules, edition, check, minimum, skips, amount, withheld);
+    let settings = settings_of(rules, edition, depth, minimum, skips, amount, withheld);
     let answer = find_names(
         image,
         library,

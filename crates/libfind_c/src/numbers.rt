@@ -22,23 +22,23 @@ fn skip_of(skips: bool, amount: usize) -> Skip
     Skip::Never
 }
 
-// The settings of a run from plain numbers: the rule set, the edition, whether references are checked, the minimum,
-// whether there is a skip amount and which, and the stretches as pairs of numbers.
+// The settings of a run from plain numbers: the rule set, the edition, to what depth references are checked, the
+// minimum, whether there is a skip amount and which, and the stretches as pairs of numbers.
 pub fn settings_of(
     rules: u64,
     edition: u64,
-    check: bool,
+    depth: u64,
     minimum: usize,
     skips: bool,
     amount: usize,
     withheld: &[u64],
 ) -> Settings
-    ensures { λ r. ⌜ r ≡ settingsOf rules edition check minimum skips amount (now (withheld .entry)) ⌝ }
+    ensures { λ r. ⌜ r ≡ settingsOf rules edition depth minimum skips amount (now (withheld .entry)) ⌝ }
 {
     Settings {
         rules,
         edition,
-        check,
+        depth,
         minimum,
         skip: skip_of(skips, amount),
         withheld: gather(withheld),

@@ -14,6 +14,9 @@ use run::Settings;
 // No file is longer.
 const LONGEST: usize = 65536;
 
+// No depth is greater.
+const DEEPEST: u64 = 4;
+
 fn find(image: &[u8], library: &[u8], settings: Settings) {
     let mut segments = memory::segments();
     let mut references = memory::references();
@@ -41,18 +44,18 @@ fn find(image: &[u8], library: &[u8], settings: Settings) {
     }
 }
 
-// Whether a run looks at the library: not if the edition is none or the image too long.
-fn is_library_next(image: &[u8], edition: u64) -> bool {
+// Whether a run looks at the library: not if the edition is none, the depth too great or the image too long.
+fn is_library_next(image: &[u8], edition: u64, depth: u64) -> bool {
     match edition {
-        1 | 2 => image.len() <= LONGEST,
+        1 | 2 => depth <= DEEPEST && image.len() <= LONGEST,
         _ => false,
     }
 }
 
-// A run takes longer libraries than the program does. One that is too long for the program is refused in its place in the order: behind an edition that is none
-// and an image that is too long, before a stretch that passes the image's end.
+// A run takes longer libraries than the program does. One that is too long for the program is refused in its place in the order: behind an edition that is none,
+// a depth that is too great and an image that is too long, before a stretch that passes the image's end.
 fn find_in(image: &[u8], library: &[u8], settings: Settings) {
-    if LONGEST < library.len() && is_library_next(image, settings.edition) {
+    if LONGEST < library.len() && is_library_next(image, settings.edition, settings.depth) {
         say_refused(Refusal::LibraryTooLong, memory::lent());
         return;
     }

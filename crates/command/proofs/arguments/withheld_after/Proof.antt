@@ -10,21 +10,23 @@ use borrow.Author.Needs.{needs}
 use Rattle.image.specs.declared.cover.Stretches.{Stretches}
 use Rattle.command.specs.Arguments.{valueWithheld}
 use Rattle.command.specs.declared.options.Valued.{Valued}
-use Rattle.command.specs.declared.options.Valued.the-variants.{Rules, Edition, Minimum, Skip, Withhold}
+use Rattle.command.specs.declared.options.Valued.the-variants.{Rules, Edition, Depth, Minimum, Skip, Withhold}
 use Rattle.command.proofs.options.Valued.{the-type}
 use Rattle.command.proofs.arguments.withheld_after.Statement.{statement}
 use Rattle.command.proofs.arguments.withheld_after.Tie as tie
 
--- the other four options withhold nothing
-others : (option : Valued) → OneOf (0 ∷ 1 ∷ 2 ∷ 3 ∷ []) (tagOf the-type option) → (w : Stretches) (word : List ℕ) (i : ℕ) → w ≡ valueWithheld option w word i
+-- the other five options withhold nothing
+others : (option : Valued) → OneOf (0 ∷ 1 ∷ 2 ∷ 3 ∷ 4 ∷ []) (tagOf the-type option) → (w : Stretches) (word : List ℕ) (i : ℕ) → w ≡ valueWithheld option w word i
 others Rules h w word i = refl
 others Edition h w word i = refl
+others Depth h w word i = refl
 others Minimum h w word i = refl
 others Skip h w word i = refl
 others Withhold (inl z) w word i = absurd (omega arith)
 others Withhold (inr (inl z)) w word i = absurd (omega arith)
 others Withhold (inr (inr (inl z))) w word i = absurd (omega arith)
-others Withhold (inr (inr (inr z))) w word i = absurd (omega arith)
+others Withhold (inr (inr (inr (inl z)))) w word i = absurd (omega arith)
+others Withhold (inr (inr (inr (inr z)))) w word i = absurd (omega arith)
 
 returns : tie.Need-returns
 returns c = rw (c .enum-told .given .1)
