@@ -7,12 +7,10 @@ use crate::failed::failed_by;
 use crate::failed::is_failed;
 use crate::targets::is_match;
 use crate::targets::target_of;
-use crate::told::Answered;
 use crate::told::Recalled;
 use crate::told::answer_at;
-use crate::told::put_answer;
 use crate::told::recall;
-use crate::told::row_for;
+use crate::told::remember;
 use image::fixup::Rules;
 use image::fixup::Target;
 use lent::part::Part;
@@ -40,7 +38,7 @@ fn holds(
     references: &[u64],
     bytes: &[u8],
     masks: &[u8],
-    told: &mut [u64],
+    told: &mut [u16],
 ) -> bool
     requires { ⌜ Told (view (now image) (stretchesIn (now s))) rules (now segments) n (now references) (now bytes) (now masks) (now told) ⌝ }
     ensures { λ r. ⌜ HoldsSo (view (now (image .entry)) (stretchesIn (now (s .entry)))) rules (now (segments .entry)) n (now (references .entry)) (now (bytes .entry)) (now (masks .entry)) depth number at r
@@ -53,8 +51,7 @@ fn holds(
     if n <= i {
         return true;
     }
-    let place = row_for(told.len(), i, at, depth);
-    match recall(answer_at(told, place), i, at, depth) {
+    match recall(answer_at(told, at), i, depth) {
         Recalled::Holds => true,
         Recalled::Fails => false,
         Recalled::Nothing => {
@@ -74,16 +71,7 @@ fn holds(
                 told,
             );
             let answer = !is_failed(f);
-            put_answer(
-                told,
-                place,
-                Answered {
-                    number: i,
-                    at,
-                    depth,
-                    holds: answer,
-                },
-            );
+            remember(told, i, at, depth, answer);
             answer
         }
     }
@@ -104,7 +92,7 @@ fn failed_at(
     k: usize,
     goal: Goal,
     target: Target,
-    told: &mut [u64],
+    told: &mut [u16],
 ) -> Failed
     requires { ⌜ Told (view (now image) (stretchesIn (now s))) rules (now segments) n (now references) (now bytes) (now masks) (now told) ⌝ }
     ensures { λ q. ⌜ FailsAt (view (now (image .entry)) (stretchesIn (now (s .entry)))) rules (now (segments .entry)) n (now (references .entry)) (now (bytes .entry)) (now (masks .entry)) below k goal target q
@@ -159,7 +147,7 @@ pub fn failed_among(
     part: Part,
     bytes: &[u8],
     masks: &[u8],
-    told: &mut [u64],
+    told: &mut [u16],
 ) -> Failed
     requires { ⌜ Told (view (now image) (stretchesIn (now s))) rules (now segments) n (now references) (now bytes) (now masks) (now told) ⌝ }
     ensures { λ q. ⌜ FailsAmong (view (now (image .entry)) (stretchesIn (now (s .entry)))) rules (now (segments .entry)) n (now (references .entry)) (now (bytes .entry)) (now (masks .entry)) below position part q

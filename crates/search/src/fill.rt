@@ -111,7 +111,7 @@ fn fill_along(
     bytes: &[u8],
     masks: &[u8],
     next: &mut [u32],
-    told: &mut [u64],
+    told: &mut [u16],
     placed: &mut [u64],
     positions: &mut [u32],
     noted: &mut [u64],

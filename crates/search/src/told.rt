@@ -1,76 +1,75 @@
-// What the check of references remembers: rows of answers in a table that is made for it. A row is one answer; a later one
-// may take its place. Any numbers make a row, and a row of zeros tells nothing.
+// What the check of references remembers: for each place of the image one answer, in a table that is made for it. A later
+// answer may take the place of an earlier one. Any number is an answer, and 0 tells nothing.
 ghost use mathlib.Core.Path.{_≡_};
-ghost use Rattle.lent.specs.Rows.{putRow};
-ghost use Rattle.search.specs.told.Answers.{answerCells, answerAt, recallOf};
-use lent::rows;
-use std::num::wrapping_add_u64;
+ghost use lib.ListN.{getD};
+ghost use Rattle.lent.specs.Rows.{flag};
+ghost use Rattle.search.specs.told.Answers.{recallOf, remembered};
 
-// How many numbers the row of an answer has.
-pub const ANSWER_WIDTH: usize = 4;
+// Answers are remembered of so many segments, and of depths below 4: an answer has 16 bits.
+const MOST_SEGMENTS: usize = 8192;
 
-// Whether the match of a segment, by its number, at a place holds to a depth. Of depth 0 nothing is told.
-pub struct Answered {
-    pub number: usize,
-    pub at: u64,
-    pub depth: u64,
-    pub holds: bool,
-}
+const DEPTHS: u64 = 4;
 
-// What a row says to a question: nothing, if it answers another one.
+// What an answer says to a question: nothing, if it is another one's and does not settle it.
 pub enum Recalled {
     Nothing,
     Holds,
     Fails,
 }
 
-// The answer in row i, made of zeros where there is no such row.
-pub fn answer_at(m: &[u64], i: usize) -> Answered
-    ensures { λ r. ⌜ r ≡ answerAt (now (m .entry)) i ⌝ }
+// The answer that is remembered of a place; 0 where there is none.
+pub fn answer_at(told: &[u16], at: u64) -> u16
+    ensures { λ r. ⌜ r ≡ getD (now (told .entry)) at 0 ⌝ }
 {
-    let n = rows::numbers(m, ANSWER_WIDTH, i);
-    Answered {
-        number: n[0] as usize,
-        at: n[1],
-        depth: n[2],
-        holds: n[3] == 1,
+    if at < told.len() as u64 {
+        return told[at as usize];
     }
+    0
 }
 
-// Puts an answer into row i; without such a row the table stays as it was.
-pub fn put_answer(m: &mut [u64], i: usize, row: Answered)
-    ensures { λ _. ⌜ now (m .exit) ≡ putRow 4 (now (m .entry)) i (answerCells row) ⌝ }
+// What an answer says of the match of segment `number` to a depth. It is 8 times its segment's number, twice its own depth,
+// and 1 where the match holds: what holds there holds at a smaller depth, and what fails fails at a greater one.
+pub fn recall(answer: u16, number: usize, depth: u64) -> Recalled
+    ensures { λ r. ⌜ r ≡ recallOf answer number depth ⌝ }
 {
-    let cells = [row.number as u64, row.at, row.depth, rows::flag(row.holds)];
-    rows::put(m, i, &cells);
+    let known = (answer / 2 % 4) as u64;
+    if known == 0 {
+        return Recalled::Nothing;
+    }
+    if (answer / 8) as usize != number {
+        return Recalled::Nothing;
+    }
+    if answer % 2 == 1 {
+        if depth <= known {
+            return Recalled::Holds;
+        }
+        return Recalled::Nothing;
+    }
+    if known <= depth {
+        return Recalled::Fails;
+    }
+    Recalled::Nothing
 }
 
-// What a row says of the match of segment `number` at a place, to a depth.
-pub fn recall(row: Answered, number: usize, at: u64, depth: u64) -> Recalled
-    ensures { λ r. ⌜ r ≡ recallOf row number at depth ⌝ }
+// Whether the match holds, as the last bit of an answer.
+fn last_bit(holds: bool) -> usize
+    ensures { λ r. ⌜ r ≡ flag holds ⌝ }
 {
-    if row.number != number {
-        return Recalled::Nothing;
-    }
-    if row.at != at {
-        return Recalled::Nothing;
-    }
-    if row.depth != depth {
-        return Recalled::Nothing;
-    }
-    if row.holds {
-        return Recalled::Holds;
-    }
-    Recalled::Fails
+    if holds { 1 } else { 0 }
 }
 
-// The row for a question, in a table of so many numbers. Any row will do: questions that share one only take it from one
-// another, so that the contract says nothing.
-pub fn row_for(numbers: usize, number: usize, at: u64, depth: u64) -> usize {
-    let rows = numbers as u64 / 4;
-    if rows == 0 {
-        return 0;
+// Remembers whether the match of segment `number` at a place holds to a depth, if there is room for such an answer.
+pub fn remember(told: &mut [u16], number: usize, at: u64, depth: u64, holds: bool)
+    ensures { λ _. ⌜ now (told .exit) ≡ remembered (now (told .entry)) number at depth holds ⌝ }
+{
+    if MOST_SEGMENTS <= number {
+        return;
     }
-    let question = wrapping_add_u64((number as u64) << 7, depth << 5);
-    (wrapping_add_u64(question, at) % rows) as usize
+    if DEPTHS <= depth {
+        return;
+    }
+    if told.len() as u64 <= at {
+        return;
+    }
+    told[at as usize] = (number * 8 + depth as usize * 2 + last_bit(holds)) as u16;
 }

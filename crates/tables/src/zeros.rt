@@ -80,18 +80,18 @@ pub fn few_links() -> [u32; 4096]
     [0u32; 4096]
 }
 
-// Answers that the check of references remembers, 1,024 rows of four numbers.
-pub fn many_answers() -> [u64; 4096]
-    ensures { λ r. ⌜ r ≡ zeroList 4096 ⌝ }
+// An answer that the check of references remembers, for each place of the image.
+pub fn many_answers() -> [u16; 65536]
+    ensures { λ r. ⌜ r ≡ zeroList 65536 ⌝ }
 {
-    [0u64; 4096]
+    [0u16; 65536]
 }
 
-// The same for an image of at most 4 KiB: 64 rows.
-pub fn few_answers() -> [u64; 256]
-    ensures { λ r. ⌜ r ≡ zeroList 256 ⌝ }
+// The same for an image of at most 4 KiB.
+pub fn few_answers() -> [u16; 4096]
+    ensures { λ r. ⌜ r ≡ zeroList 4096 ⌝ }
 {
-    [0u64; 256]
+    [0u16; 4096]
 }
 
 // The heads of the buckets by which rows of placed symbols or noted names are found: 65,536 buckets

@@ -1,10 +1,12 @@
 -- Whether a match holds to a depth, and which of its references fails first there, asked of segments and references that are
 -- stored in rows; and that a table of answers tells the truth. The symbols that are stored with the segments do not matter.
-use Prim.Native.Nat.{ℕ, suc, _<_}
+use Prim.Native.Nat.{ℕ, suc, _/_, _%_, _<_}
 use mathlib.Core.Path.{_≡_}
 use mathlib.Core.Bool.{Bool, not}
 use mathlib.Core.List.{List}
 use mathlib.Core.Option.{Option}
+use lib.Dec.{eqb}
+use lib.ListN.{getD}
 use Rattle.lent.specs.declared.part.Part.{Part}
 use Rattle.image.specs.declared.fixup.Rules.{Rules}
 use Rattle.image.specs.declared.fixup.Target.{Target}
@@ -18,8 +20,6 @@ use Rattle.search_rules.specs.declared.Why.{Why}
 use Rattle.search_rules.specs.declared.Failed.{Failed}
 use Rattle.search_rules.specs.declared.Failed.the-variants as Failed
 use Rattle.search_rules.specs.Search.{leads, segmentOf, holdsTo, failure, failed, failedFrom, failedTo}
-use Rattle.search.specs.declared.told.Answered.{Answered}
-use Rattle.search.specs.told.Answers.{answerAt}
 
 -- why a reference of a match at a position fails at depth d + 1
 abbrev pub whyTo : List ℕ → Rules → List Collected → ℕ → ℕ → Reference → Option Why
@@ -30,13 +30,15 @@ module _ (cells : List ℕ) (rules : Rules) (segments : List ℕ) (n : ℕ) (ref
   abbrev pub among : List ℕ → List Collected
   among symbols = recalled segments references symbols bytes masks n
 
-  -- a row tells the truth: to a depth above 0, whether the match of its segment at its place holds
-  abbrev pub Tells : Answered → Type 0
-  Tells r = (symbols : List ℕ) → 0 < r .depth → holdsTo cells rules (among symbols) (r .depth) (segmentOf (among symbols) (record { 0 = r .number })) (r .at) ≡ r .holds
+  -- an answer at a place tells the truth: to its depth, if that is above 0, whether the match of its segment there holds
+  abbrev pub Tells : ℕ → ℕ → Type 0
+  Tells at answer =
+      (symbols : List ℕ) → 0 < answer / 2 % 4
+      → holdsTo cells rules (among symbols) (answer / 2 % 4) (segmentOf (among symbols) (record { 0 = answer / 8 })) at ≡ eqb (answer % 2) 1
 
-  -- and so does each row of a table
+  -- and so does each answer of a table
   abbrev pub Told : List ℕ → Type 0
-  Told m = (i : ℕ) → Tells (answerAt m i)
+  Told m = (i : ℕ) → Tells i (getD m i 0)
 
   -- the answer for the match of a segment at a place
   abbrev pub HoldsSo : ℕ → SegmentNumber → ℕ → Bool → Type 0

@@ -22,7 +22,7 @@ pub fn search_all(
     masks: &[u8],
     first: &[u32],
     next: &[u32],
-    told: &mut [u64],
+    told: &mut [u16],
     placed: &mut [u64],
     positions: &mut [u32],
     noted: &mut [u64],

@@ -1,68 +1,32 @@
 // One match: its references are gone over in file order, and then its symbols are placed.
 ghost use mathlib.Core.Path.{_≡_};
+ghost use mathlib.Core.Bool.{_&&_, not};
+ghost use lib.Dec.{ltb};
 ghost use Rattle.image.specs.View.{stretchesIn, view};
-ghost use Rattle.search.specs.failed.Failures.{FirstToFail};
-ghost use Rattle.search.specs.depth.Depths.{Told, KeepsOut};
 ghost use Rattle.search.specs.visit.Visits.{stored, ToldOf, VisitsMatch};
 use crate::depth::failed_among;
 use crate::failed::is_failed;
 use crate::note::refer::refer_all;
 use crate::place::place_symbols;
 use crate::visit::Fills;
-use image::fixup::Rules;
-use lent::part::Part;
 use search_rules::Asked;
-use search_rules::Failed;
 use segments::SegmentNumber;
 use segments::SegmentRow;
 use tables::fill::Fill;
 
-// Whether a match at `at` places no symbols: it does not hold to the depth. `failed` is the first of its references, which
-// are a part of the rows, that fails at depth 1: what fails there fails at every depth above. The other parameters are those
-// of `failed_among`.
-fn keeps_out(
-    image: &[u8],
-    s: &[u64],
-    rules: Rules,
-    depth: u64,
-    at: usize,
-    segments: &[u64],
-    n: usize,
-    references: &[u64],
-    part: Part,
-    bytes: &[u8],
-    masks: &[u8],
-    failed: Failed,
-    told: &mut [u64],
-) -> bool
-    requires { ⌜ Told (view (now image) (stretchesIn (now s))) rules (now segments) n (now references) (now bytes) (now masks) (now told) ⌝ }
-    ensures { λ r. ⌜ (FirstToFail (view (now (image .entry)) (stretchesIn (now (s .entry)))) rules at (now (segments .entry)) n (now (references .entry)) part (now (bytes .entry)) (now (masks .entry)) failed
-        → KeepsOut (view (now (image .entry)) (stretchesIn (now (s .entry)))) rules (now (segments .entry)) n (now (references .entry)) (now (bytes .entry)) (now (masks .entry)) depth at part r)
-        × Told (view (now (image .entry)) (stretchesIn (now (s .entry)))) rules (now (segments .entry)) n (now (references .entry)) (now (bytes .entry)) (now (masks .entry)) (now (told .exit)) ⌝ }
+// Whether what failed at depth 1 keeps the symbols of a match out: references are checked. What fails there fails at every
+// depth above.
+fn keeps_out(depth: u64, failed: bool) -> bool
+    ensures { λ r. ⌜ r ≡ (ltb 0 depth && failed) ⌝ }
 {
-    if depth == 0 {
-        return false;
-    }
-    if is_failed(failed) {
-        return true;
-    }
-    if depth == 1 {
-        return false;
-    }
-    is_failed(failed_among(
-        image,
-        s,
-        rules,
-        depth - 1,
-        at,
-        segments,
-        n,
-        references,
-        part,
-        bytes,
-        masks,
-        told,
-    ))
+    0 < depth && failed
+}
+
+// Whether a match is to be checked further than to depth 1.
+fn asks_deeper(depth: u64, out: bool) -> bool
+    ensures { λ r. ⌜ r ≡ (ltb 1 depth && not out) ⌝ }
+{
+    1 < depth && !out
 }
 
 // How far the two lists of the search are filled.
@@ -90,7 +54,7 @@ pub fn visit_match(
     row: SegmentRow,
     valid: bool,
     at: usize,
-    told: &mut [u64],
+    told: &mut [u16],
     placed: &mut [u64],
     positions: &mut [u32],
     noted: &mut [u64],
@@ -124,22 +88,25 @@ pub fn visit_match(
     );
     let failed = referred.failed;
     let reached = referred.fill;
-    let part = row.references;
-    if keeps_out(
-        image,
-        s,
-        rules,
-        asked.depth,
-        at,
-        segments,
-        n,
-        references,
-        part,
-        bytes,
-        masks,
-        failed,
-        told,
-    ) {
+    let depth = asked.depth;
+    let mut out = keeps_out(depth, is_failed(failed));
+    if asks_deeper(depth, out) {
+        out = is_failed(failed_among(
+            image,
+            s,
+            rules,
+            depth - 1,
+            at,
+            segments,
+            n,
+            references,
+            row.references,
+            bytes,
+            masks,
+            told,
+        ));
+    }
+    if out {
         return fills(before, reached);
     }
     let filled = place_symbols(

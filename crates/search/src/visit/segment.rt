@@ -29,7 +29,7 @@ pub fn search_segment(
     first: &[u32],
     next: &[u32],
     i: usize,
-    told: &mut [u64],
+    told: &mut [u16],
     placed: &mut [u64],
     positions: &mut [u32],
     noted: &mut [u64],

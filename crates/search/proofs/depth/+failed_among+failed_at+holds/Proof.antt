@@ -43,9 +43,8 @@ use Rattle.search.proofs.failed.is_failed.Reads as is-failed-reads
 use Rattle.search.proofs.targets.is_match.Reads as is-match-reads
 use Rattle.search.proofs.targets.target_of.Reads as target-of-reads
 use Rattle.search.proofs.told.answer_at.Reads as answer-at-reads
-use Rattle.search.proofs.told.put_answer.Reads as put-answer-reads
+use Rattle.search.proofs.told.remember.Reads as remember-reads
 use Rattle.search.proofs.told.recall.Reads as recall-reads
-use Rattle.search.proofs.told.row_for.Reads as row-for-reads
 use Rattle.segments.proofs.recalled.lies_within.Reads as lies-within-reads
 use Rattle.segments.proofs.rows.reference_at.Reads as reference-at-reads
 use Rattle.segments.proofs.rows.segment_at.Reads as segment-at-reads
@@ -121,8 +120,6 @@ at-claims t = (
 
 abbrev holds-claims : ℕ → holds-lts.Claims
 holds-claims t = (
-  row-for-reads.Asked,
-  row-for-reads.Learnt,
   answer-at-reads.Asked,
   answer-at-reads.Learnt,
   recall-reads.Asked,
@@ -133,8 +130,8 @@ holds-claims t = (
   failed-among.Post,
   is-failed-reads.Asked,
   is-failed-reads.Learnt,
-  put-answer-reads.Asked,
-  put-answer-reads.Learnt,
+  remember-reads.Asked,
+  remember-reads.Learnt,
 )
 
 module _ (t : ℕ) where
@@ -171,7 +168,7 @@ module _ (t : ℕ) where
 
   -- `holds`: its entry, and an answer that is remembered
   abbrev holds-start : holds-lts.After-recall (holds-claims t) (holds-at t) holds.Post → holds-lts.Start (holds-claims t) (holds-at t) holds.Post
-  holds-start c = c .before .before .before .before .before .before .before .before .before .before .before .before .before
+  holds-start c = c .before .before .before .before .before .before .before .before .before .before .before .before
 
   known : (c : holds-lts.After-recall (holds-claims t) (holds-at t) holds.Post) (b : Bool) → c .recall .result ≡ (if b then Recalled.Holds else Recalled.Fails)
       → let a = holds-start c .args in
@@ -181,9 +178,8 @@ module _ (t : ℕ) where
       let start = holds-start c in
       let a = start .args in
       let seen = view (a .image .now) (stretchesIn (a .s .now)) in (
-        recalled-holds seen (a .rules) (a .segments .now) (a .n) (a .references .now) (a .bytes .now) (a .masks .now) (a .told .now) (start .pre .1) (c .before .before .before .row-for .result) (a .number) (a .at) (a .depth)
-            (pos-of-ne-zero (c .before .before .before .before .before .if1 .left)) b
-            (ap (λ r. recallOf r (a .number .0) (a .at) (a .depth)) (sym (c .before .answer-at .ensures)) ∙ sym (c .recall .ensures) ∙ e),
+        recalled-holds seen (a .rules) (a .segments .now) (a .n) (a .references .now) (a .bytes .now) (a .masks .now) (a .told .now) (start .pre .1) (a .number) (a .at) (a .depth) b
+            (ap (λ x. recallOf x (a .number .0) (a .depth)) (sym (c .before .answer-at .ensures)) ∙ sym (c .recall .ensures) ∙ e),
         start .pre .1,
       )
 
@@ -318,14 +314,13 @@ pub +failed-among+failed-at+holds-spec : {M : Type 1} → statement M
     (λ c. let start = c .before .before .before .before .before .before .before .before .before in let a = start .args in (holds-lacking (view (a .image .now) (stretchesIn (a .s .now))) (a .rules) (a .segments .now) (a .n) (a .references .now) (a .bytes .now) (a .masks .now) (a .depth) (a .number) (a .at) (omega (arith, c .if2 .taken)), start .pre .1))
     (λ c κs. search needs)
     (λ c κs. search needs)
-    (λ c κs. search needs)
     (λ c. search needs)
     (λ c. search needs)
     (λ c. search needs)
     (λ c κs. search needs)
-    (λ c. pos-of-ne-zero (c .before .before .before .before .before .before .before .before .if1 .left))
+    (λ c. pos-of-ne-zero (c .before .before .before .before .before .before .before .if1 .left))
     (λ c κs.
-    let else2 = c .before .before .before .before .before .before .before .before in
+    let else2 = c .before .before .before .before .before .before .before in
     let start = else2 .before .before .before .before .before .before .before .before .before in
     (subst (λ (j : ℕ). 3 * (start .args .depth - 1) + 2 < j) (start .pre .0) (omega (arith, pos-of-ne-zero (else2 .before .if1 .left))), start .pre .1))
     (λ c κs. search needs)
@@ -342,14 +337,14 @@ pub +failed-among+failed-at+holds-spec : {M : Type 1} → statement M
     let among = is-failed .before .before .before in
     let segment-at = among .before .before in
     let recall = segment-at .before .before .before in
-    let else2 = recall .before .before .before .before in
+    let else2 = recall .before .before .before in
     let start = else2 .before .before .before .before .before .before .before .before .before in
     let a = start .args in
     let seen = view (a .image .now) (stretchesIn (a .s .now)) in
     let so = holds-row seen (a .rules) (a .segments .now) (a .n) (a .references .now) (a .bytes .now) (a .masks .now) (a .depth) (a .number) (a .at) (omega (arith, else2 .if2 .left)) (segment-at .segment-at .result) (segment-at .segment-at .ensures) (a .depth - 1)
     (omega (arith, pos-of-ne-zero (else2 .before .if1 .left))) (among .failed-among .result) (among .failed-among .ensures .0) (is-failed .is-failed .result) (is-failed .is-failed .ensures) in (
       so,
-      subst (Told seen (a .rules) (a .segments .now) (a .n) (a .references .now) (a .bytes .now) (a .masks .now)) (sym (put .put-answer .ensures))
-          (put-told seen (a .rules) (a .segments .now) (a .n) (a .references .now) (a .bytes .now) (a .masks .now) (among .failed-among .last .1 .1 .1 .1 .1 .1 .1 .1 .1 .1 .1 .0) (among .failed-among .ensures .1) (recall .before .before .before .row-for .result) (a .number) (a .at) (a .depth)
+      subst (Told seen (a .rules) (a .segments .now) (a .n) (a .references .now) (a .bytes .now) (a .masks .now)) (sym (put .remember .ensures))
+          (put-told seen (a .rules) (a .segments .now) (a .n) (a .references .now) (a .bytes .now) (a .masks .now) (among .failed-among .last .1 .1 .1 .1 .1 .1 .1 .1 .1 .1 .1 .0) (among .failed-among .ensures .1) (a .number) (a .at) (a .depth)
           (not (is-failed .is-failed .result)) so),
     ))

@@ -18,7 +18,7 @@ failed-among-requires : tie.Need-failed-among-requires
 failed-among-requires c κs =
     let few = c .before in
     let a = few .before .before .before .before .before .before .before .before .args in
-    blank-told (view (a .image .now) (stretchesIn (a .s .now))) (a .rules) (a .segments .now) (a .n) (a .references .now) (a .bytes .now) (a .masks .now) 256 (few .few-answers .result) (few .few-answers .ensures)
+    blank-told (view (a .image .now) (stretchesIn (a .s .now))) (a .rules) (a .segments .now) (a .n) (a .references .now) (a .bytes .now) (a .masks .now) 4096 (few .few-answers .result) (few .few-answers .ensures)
 
 returns-2 : tie.Need-returns-2
 returns-2 c =

@@ -20,7 +20,7 @@ fill-along-requires c κs =
     let a = start .args in (
       start .pre,
       omega (arith, few .before .before .if1 .taken, ap length (few .before .few-links .ensures) ∙ zero-length 4096),
-      blank-told (view (a .image .now) (stretchesIn (a .s .now))) (a .asked .rules) (a .segments .now) (a .n) (a .references .now) (a .bytes .now) (a .masks .now) 256 (few .few-answers .result) (few .few-answers .ensures),
+      blank-told (view (a .image .now) (stretchesIn (a .s .now))) (a .asked .rules) (a .segments .now) (a .n) (a .references .now) (a .bytes .now) (a .masks .now) 4096 (few .few-answers .result) (few .few-answers .ensures),
     )
 
 fill-along-requires-2 : tie.Need-fill-along-requires-2
@@ -30,7 +30,7 @@ fill-along-requires-2 c κs =
     let a = start .args in (
       start .pre,
       omega (arith, start .pre, ap length (many .before .place-links .ensures) ∙ zero-length 65536),
-      blank-told (view (a .image .now) (stretchesIn (a .s .now))) (a .asked .rules) (a .segments .now) (a .n) (a .references .now) (a .bytes .now) (a .masks .now) 4096 (many .many-answers .result) (many .many-answers .ensures),
+      blank-told (view (a .image .now) (stretchesIn (a .s .now))) (a .asked .rules) (a .segments .now) (a .n) (a .references .now) (a .bytes .now) (a .masks .now) 65536 (many .many-answers .result) (many .many-answers .ensures),
     )
 
 pub fill-rows-spec : {M : Type 1} → statement M
