@@ -2,16 +2,15 @@
 -- another; and whether a match is kept out. Assumes nothing.
 use Prim.Native.Nat.{ℕ, zero, suc, _+_, _-_, _≤_, _<_}
 use mathlib.Core.Path.{_≡_, refl, sym, ap, subst, _∙_}
-use mathlib.Core.Bool.{Bool, true, false, not, _&&_, and-true, false≢true}
+use mathlib.Core.Bool.{Bool, true, false, not, _&&_, false≢true}
 use mathlib.Core.List.{List, []}
 use mathlib.Core.Option.{Option, none, some}
 use native.Mathlib.Decide.{decLt}
 use native.Mathlib.Omega.{arith}
-use borrow.Author.Tests.{ltb-true, ltb-false, lt-ltb}
+use borrow.Author.Tests.{lt-ltb, le-ltb}
 use lib.Dec.{ltb}
 use Rattle.lent.specs.declared.part.Part.{Part}
 use Rattle.lent.specs.Choice.{if_then_else_}
-use Rattle.lent.specs.ChoiceLaws.{both}
 use Rattle.lent.specs.Lists.{all, isIn}
 use Rattle.image.specs.declared.fixup.Rules.{Rules}
 use Rattle.image.specs.declared.fixup.Target.{Target}
@@ -169,24 +168,20 @@ module _ (cells : List ℕ) (rules : Rules) (segments : List ℕ) (n : ℕ) (ref
     kept-once depth e q h out o is symbols g refers =
         sym is ∙ kept-to 1 q (once-to q h) out o symbols g refers ∙ ap (λ d. not (holdsTo cells rules (In symbols) d g position)) (sym e)
 
-    -- as the code decides: by what failed at depth 1, where it asks no further; and by the check to the depth, where it does
-    pub kept-first : (depth : ℕ) (q : Failed) → FirstToFail cells rules position segments n references part bytes masks q → (failed : Bool) → failed ≡ not (isNothing q)
-        → (out : Bool) → out ≡ (ltb 0 depth && failed) → (deeper : Bool) → deeper ≡ (ltb 1 depth && not out) → deeper ≡ false → KeepsOut cells rules segments n references bytes masks depth position part out
-    kept-first depth q h failed f out o deeper d is = go (decLt 0 depth) failed f (o ∙ refl)
+    -- as the code decides: above depth 1 by the check to the depth, and else by what failed at depth 1
+    pub kept-so : (depth : ℕ) (deep : Bool) → (1 < depth → KeepsOut cells rules segments n references bytes masks depth position part deep)
+        → (q : Failed) → FirstToFail cells rules position segments n references part bytes masks q → (failed : Bool) → failed ≡ not (isNothing q)
+        → (out : Bool) → out ≡ (if ltb 1 depth then deep else (ltb 0 depth && failed)) → KeepsOut cells rules segments n references bytes masks depth position part out
+    kept-so depth deep known q h failed f out o = go (decLt 1 depth) (decLt 0 depth) failed refl
       where
         Out : Bool → Type 0
         Out b = KeepsOut cells rules segments n references bytes masks depth position part b
 
-        go : Dec (0 < depth) → (b : Bool) → b ≡ not (isNothing q) → out ≡ (ltb 0 depth && failed) → Out out
-        go (no l) b e p =
-            let none : depth ≡ 0 = omega (arith, l) in
-            subst Out (sym (p ∙ ap (λ k. ltb 0 k && failed) none)) (kept-none depth none)
-        go (yes l) true e p = subst Out (sym (p ∙ rw (lt-ltb 0 depth l, f, ← e) refl)) (kept-early depth l q h true e refl)
-        go (yes l) false e p =
-            let no-out : out ≡ false = p ∙ rw (lt-ltb 0 depth l, f, ← e) refl in
-            let flat : ltb 1 depth ≡ false = sym (and-true (ltb 1 depth)) ∙ sym (d ∙ ap (λ b. ltb 1 depth && not b) no-out) ∙ is in
-            let low : depth ≤ 1 = ltb-false 1 depth flat in
-            subst Out (sym no-out) (kept-once depth (omega (arith, l, low)) q h false e refl)
-
-    pub deeper-above : (depth : ℕ) (out deeper : Bool) → deeper ≡ (ltb 1 depth && not out) → deeper ≡ true → 1 < depth
-    deeper-above depth out deeper d is = ltb-true 1 depth (both (ltb 1 depth) (not out) (sym d ∙ is) .0)
+        go : Dec (1 < depth) → Dec (0 < depth) → (b : Bool) → failed ≡ b → Out out
+        go (yes l) m b e = subst Out (sym (o ∙ rw (lt-ltb 1 depth l) refl)) (known l)
+        go (no l) (no m) b e =
+            subst Out (sym (o ∙ rw (le-ltb 1 depth (omega (arith, l)), le-ltb 0 depth (omega (arith, m))) refl)) (kept-none depth (omega (arith, m)))
+        go (no l) (yes m) true e =
+            subst Out (sym (o ∙ rw (le-ltb 1 depth (omega (arith, l)), lt-ltb 0 depth m, e) refl)) (kept-early depth m q h true (sym e ∙ f) refl)
+        go (no l) (yes m) false e =
+            subst Out (sym (o ∙ rw (le-ltb 1 depth (omega (arith, l)), lt-ltb 0 depth m, e) refl)) (kept-once depth (omega (arith, l, m)) q h false (sym e ∙ f) refl)

@@ -1,5 +1,5 @@
 -- What matches leave in lent memory: the symbols that they place, and the names that their references note.
-use Prim.Native.Nat.{ℕ}
+use Prim.Native.Nat.{ℕ, _<_}
 use mathlib.Core.Path.{_≡_}
 use mathlib.Core.Bool.{Bool}
 use mathlib.Core.List.{List}
@@ -13,7 +13,7 @@ use Rattle.search_rules.specs.declared.Asked.{Asked}
 use Rattle.search_rules.specs.Search.{Match, Placing, Noting, matchesOf, allMatches, isValid, notes, symbolsAt}
 use Rattle.search.specs.place.PlacedSymbols.{Places}
 use Rattle.search.specs.note.NotedNames.{Notes}
-use Rattle.search.specs.depth.Depths.{Told}
+use Rattle.search.specs.depth.Depths.{Told, KeepsOut}
 use Rattle.search.specs.declared.visit.Fills.{Fills}
 
 -- the lists in which the segments are stored, and the segments of the first n rows
@@ -60,9 +60,13 @@ module _ (cells : List ℕ) (a : Asked) (library : List ℕ) (t : Stored) (n : �
   abbrev pub matchOf : SegmentNumber → SegmentRow → ℕ → Match
   matchOf number row at = record { number = number .0; segment = segmentBy row; position = at }
 
-  abbrev pub VisitsMatch : SegmentNumber → SegmentRow → Bool → ℕ → List ℕ → List ℕ → List ℕ → List ℕ → Fills → List ℕ → List ℕ → List ℕ → List ℕ → Fills → Type 0
-  VisitsMatch number row valid at placed positions noted goals f placed′ positions′ noted′ goals′ f′ =
-      valid ≡ isValid a (segmentBy row) → Visits cells a library (segmentsIn t n) (one (matchOf number row at)) placed positions noted goals f placed′ positions′ noted′ goals′ f′
+  -- at a depth above 1 it is known whether a reference of the match fails there
+  abbrev pub KnownDeep : SegmentRow → ℕ → Bool → Type 0
+  KnownDeep row at deep = 1 < a .depth → KeepsOut cells (a .rules) (t .segments) n (t .references) (t .bytes) (t .masks) (a .depth) at (row .references) deep
+
+  abbrev pub VisitsMatch : SegmentNumber → SegmentRow → Bool → ℕ → Bool → List ℕ → List ℕ → List ℕ → List ℕ → Fills → List ℕ → List ℕ → List ℕ → List ℕ → Fills → Type 0
+  VisitsMatch number row valid at deep placed positions noted goals f placed′ positions′ noted′ goals′ f′ =
+      valid ≡ isValid a (segmentBy row) → KnownDeep row at deep → Visits cells a library (segmentsIn t n) (one (matchOf number row at)) placed positions noted goals f placed′ positions′ noted′ goals′ f′
 
   abbrev pub VisitsSegment : ℕ → List ℕ → List ℕ → List ℕ → List ℕ → Fills → List ℕ → List ℕ → List ℕ → List ℕ → Fills → Type 0
   VisitsSegment i = Visits cells a library (segmentsIn t n) (matchesOf cells (i, segmentAt t i))

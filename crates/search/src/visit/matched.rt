@@ -1,10 +1,10 @@
 // One match: its references are gone over in file order, and then its symbols are placed.
 ghost use mathlib.Core.Path.{_≡_};
-ghost use mathlib.Core.Bool.{_&&_, not};
+ghost use mathlib.Core.Bool.{_&&_};
 ghost use lib.Dec.{ltb};
+ghost use Rattle.lent.specs.Choice.{if_then_else_};
 ghost use Rattle.image.specs.View.{stretchesIn, view};
-ghost use Rattle.search.specs.visit.Visits.{stored, ToldOf, VisitsMatch};
-use crate::depth::failed_among;
+ghost use Rattle.search.specs.visit.Visits.{stored, VisitsMatch};
 use crate::failed::is_failed;
 use crate::note::refer::refer_all;
 use crate::place::place_symbols;
@@ -14,19 +14,15 @@ use segments::SegmentNumber;
 use segments::SegmentRow;
 use tables::fill::Fill;
 
-// Whether what failed at depth 1 keeps the symbols of a match out: references are checked. What fails there fails at every
-// depth above.
-fn keeps_out(depth: u64, failed: bool) -> bool
-    ensures { λ r. ⌜ r ≡ (ltb 0 depth && failed) ⌝ }
+// Whether a match places no symbols: at a depth above 1 by the check to that depth, `deep`; else by what failed at depth 1,
+// where references are checked.
+fn keeps_out(depth: u64, failed: bool, deep: bool) -> bool
+    ensures { λ r. ⌜ r ≡ (if ltb 1 depth then deep else (ltb 0 depth && failed)) ⌝ }
 {
+    if 1 < depth {
+        return deep;
+    }
     0 < depth && failed
-}
-
-// Whether a match is to be checked further than to depth 1.
-fn asks_deeper(depth: u64, out: bool) -> bool
-    ensures { λ r. ⌜ r ≡ (ltb 1 depth && not out) ⌝ }
-{
-    1 < depth && !out
 }
 
 // How far the two lists of the search are filled.
@@ -37,8 +33,8 @@ fn fills(placed: Fill, noted: Fill) -> Fills
 }
 
 // Goes over one match, of the segment `number`, whose row is `row`, at the place `at`. Where it does not hold to the depth
-// that is asked its symbols are kept out; the names that its references noted stay. The other parameters are those of
-// `search_all`.
+// that is asked its symbols are kept out; the names that its references noted stay. At a depth above 1 `deep` says whether
+// a reference fails there. The other parameters are those of `search_all`.
 pub fn visit_match(
     image: &[u8],
     s: &[u64],
@@ -54,17 +50,15 @@ pub fn visit_match(
     row: SegmentRow,
     valid: bool,
     at: usize,
-    told: &mut [u16],
+    deep: bool,
     placed: &mut [u64],
     positions: &mut [u32],
     noted: &mut [u64],
     goals: &mut [u32],
     f: Fills,
 ) -> Fills
-    requires { ⌜ ToldOf (view (now image) (stretchesIn (now s))) asked (stored (now segments) (now references) (now symbols) (now bytes) (now masks)) n (now told) ⌝ }
-    ensures { λ r. ⌜ VisitsMatch (view (now (image .entry)) (stretchesIn (now (s .entry)))) asked (now (library .entry)) (stored (now (segments .entry)) (now (references .entry)) (now (symbols .entry)) (now (bytes .entry)) (now (masks .entry))) n number row valid at
-        (now (placed .entry)) (now (positions .entry)) (now (noted .entry)) (now (goals .entry)) f (now (placed .exit)) (now (positions .exit)) (now (noted .exit)) (now (goals .exit)) r
-        × ToldOf (view (now (image .entry)) (stretchesIn (now (s .entry)))) asked (stored (now (segments .entry)) (now (references .entry)) (now (symbols .entry)) (now (bytes .entry)) (now (masks .entry))) n (now (told .exit)) ⌝ }
+    ensures { λ r. ⌜ VisitsMatch (view (now (image .entry)) (stretchesIn (now (s .entry)))) asked (now (library .entry)) (stored (now (segments .entry)) (now (references .entry)) (now (symbols .entry)) (now (bytes .entry)) (now (masks .entry))) n number row valid at deep
+        (now (placed .entry)) (now (positions .entry)) (now (noted .entry)) (now (goals .entry)) f (now (placed .exit)) (now (positions .exit)) (now (noted .exit)) (now (goals .exit)) r ⌝ }
 {
     let rules = asked.rules;
     let before = f.placed;
@@ -88,25 +82,7 @@ pub fn visit_match(
     );
     let failed = referred.failed;
     let reached = referred.fill;
-    let depth = asked.depth;
-    let mut out = keeps_out(depth, is_failed(failed));
-    if asks_deeper(depth, out) {
-        out = is_failed(failed_among(
-            image,
-            s,
-            rules,
-            depth - 1,
-            at,
-            segments,
-            n,
-            references,
-            row.references,
-            bytes,
-            masks,
-            told,
-        ));
-    }
-    if out {
+    if keeps_out(asked.depth, is_failed(failed), deep) {
         return fills(before, reached);
     }
     let filled = place_symbols(

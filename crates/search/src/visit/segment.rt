@@ -2,6 +2,8 @@
 ghost use Rattle.image.specs.View.{stretchesIn, view};
 ghost use Rattle.search.specs.byte_index.Index.{Indexed};
 ghost use Rattle.search.specs.visit.Visits.{stored, ToldOf, VisitsSegment};
+use crate::depth::failed_among;
+use crate::failed::is_failed;
 use crate::matches::Next;
 use crate::matches::next_place;
 use crate::matches::start;
@@ -14,7 +16,8 @@ use segments::SegmentNumber;
 use segments::rows::segment_at;
 
 // Searches the image for segment i, and goes over its matches. A segment with no symbol and no reference leaves
-// nothing, wherever it matches, and is not searched for. The other parameters are those of `search_all`.
+// nothing, wherever it matches, and is not searched for. The check to a depth above 1 is asked here, and not where a match
+// is visited: it takes slices along, which would be copied at every match. The other parameters are those of `search_all`.
 pub fn search_segment(
     image: &[u8],
     s: &[u64],
@@ -43,6 +46,7 @@ pub fn search_segment(
 {
     let row = segment_at(segments, i);
     let seat = row.seat;
+    let rules = asked.rules;
     let mut f = before;
     if row.references.len == 0 {
         if row.symbols.len == 0 {
@@ -57,6 +61,23 @@ pub fn search_segment(
         let Next::At { at, rest } = next_place(image, s, pattern, masked, next, c) else {
             return f;
         };
+        let mut deep = false;
+        if 1 < asked.depth {
+            deep = is_failed(failed_among(
+                image,
+                s,
+                rules,
+                asked.depth - 1,
+                at,
+                segments,
+                n,
+                references,
+                row.references,
+                bytes,
+                masks,
+                told,
+            ));
+        }
         f = visit_match(
             image,
             s,
@@ -72,7 +93,7 @@ pub fn search_segment(
             row,
             valid,
             at,
-            told,
+            deep,
             placed,
             positions,
             noted,

@@ -38,11 +38,14 @@ abbrev μ-loop : tie.MeasureT-loop
 abbrev at-entry : tie.After-slice-known Inv-loop μ-loop → tie.Start Inv-loop μ-loop
 at-entry c = c .before .before .before .before .before .before .before .before .before .before .before
 
+abbrev at-in-loop : tie.After-search-segment-arg5 Inv-loop μ-loop → tie.In-loop Inv-loop μ-loop
+at-in-loop c = c .before .before .before .before .before
+
 abbrev after-placed : tie.After-slice-known10 Inv-loop μ-loop → tie.After-placed Inv-loop μ-loop
 after-placed c = c .before .before .before .before .before .before .before
 
-abbrev at-in-loop : tie.After-slice-known10 Inv-loop μ-loop → tie.In-loop Inv-loop μ-loop
-at-in-loop c = after-placed c .before .before .before .before .before .before .before .before .before
+abbrev after-search-segment : tie.After-slice-known10 Inv-loop μ-loop → tie.After-search-segment Inv-loop μ-loop
+after-search-segment c = after-placed c .before .before .before
 
 abbrev rows : tie.Start Inv-loop μ-loop → Stored
 rows c = stored (c .args .segments .now) (c .args .references .now) (c .args .symbols .now) (c .args .bytes .now) (c .args .masks .now)
@@ -68,23 +71,23 @@ loop-holds c =
 
 search-segment-requires : tie.Need-search-segment-requires Inv-loop μ-loop
 search-segment-requires c κs =
-    let loop = c .before .before .before .before .before .before in
-    (at-entry (loop .before .before .before .before .before) .pre .0, loop .loop .inv .truth)
+    (at-entry (at-in-loop c .before .before .before .before .before .before) .pre .0, at-in-loop c .before .loop .inv .truth)
 
 add-i : tie.Need-add-i Inv-loop μ-loop
 add-i c =
-    omega (arith, at-in-loop c .loop-test .taken, at-entry (at-in-loop c .before .before .before .before .before .before) .fits)
+    let in-loop = at-in-loop (after-search-segment c .before) in
+    omega (arith, in-loop .loop-test .taken, at-entry (in-loop .before .before .before .before .before .before) .fits)
 
 loop-less : tie.Need-loop-less Inv-loop μ-loop
-loop-less c = omega (arith, at-in-loop c .loop-test .taken)
+loop-less c = omega (arith, at-in-loop (after-search-segment c .before) .loop-test .taken)
 
 loop-again : tie.Need-loop-again Inv-loop μ-loop
 loop-again c =
-    let in-loop = at-in-loop c in
+    let in-loop = at-in-loop (after-search-segment c .before) in
     let entry = at-entry (in-loop .before .before .before .before .before .before) in
     let a = entry .args in
     let l = in-loop .before .loop in
-    let v = after-placed c .before .before .before .search-segment in
+    let v = after-search-segment c .search-segment in
     let more = joined (matchesBy (seen entry) (rows entry)) in
     record {
       within = omega (arith, in-loop .loop-test .taken);

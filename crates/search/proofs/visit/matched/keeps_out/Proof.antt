@@ -5,10 +5,17 @@ use Rattle.search.proofs.visit.matched.keeps_out.Statement.{statement}
 use Rattle.search.proofs.visit.matched.keeps_out.Tie as tie
 
 returns : tie.Need-returns
-returns c = simp (lt-ltb 0 (c .before .args .depth) (omega (arith, c .if1 .taken)))
+returns c = simp (lt-ltb 1 (c .before .args .depth) (omega (arith, c .if1 .taken)))
 
 returns-2 : tie.Need-returns-2
-returns-2 c = simp (le-ltb 0 (c .before .args .depth) (omega (arith, c .if1 .left)))
+returns-2 c =
+    let d = c .before .before .args .depth in
+    simp (le-ltb 1 d (omega (arith, c .before .if1 .left)), lt-ltb 0 d (omega (arith, c .if2 .taken)))
+
+returns-3 : tie.Need-returns-3
+returns-3 c =
+    let d = c .before .before .args .depth in
+    simp (le-ltb 1 d (omega (arith, c .before .if1 .left)), le-ltb 0 d (omega (arith, c .if2 .left)))
 
 pub keeps-out-spec : {M : Type 1} → statement M
-keeps-out-spec = tie.close (tie.spec returns returns-2)
+keeps-out-spec = tie.close (tie.spec returns returns-2 returns-3)

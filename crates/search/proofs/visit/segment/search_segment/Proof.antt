@@ -1,7 +1,10 @@
 -- `search_segment` goes from match to match. The invariant: whoever visits those that are left has visited all. Assumes nothing.
-use Prim.Native.Nat.{ℕ}
-use mathlib.Core.Path.{_≡_, refl, ap, subst, _∙_}
+use Prim.Native.Nat.{ℕ, _-_}
+use mathlib.Core.Path.{_≡_, refl, sym, ap, subst, _∙_}
+use mathlib.Core.Logic.{⊎-elim}
+use mathlib.Core.Bool.{Bool}
 use mathlib.Core.List.{List, map}
+use native.Mathlib.Omega.{arith}
 use lib.ListN.{length}
 use Rattle.lent.specs.Lists.{one}
 use Rattle.image.specs.declared.Stretch.{Stretch}
@@ -12,7 +15,8 @@ use Rattle.search.specs.matches.Cursor.{placesLeft, Sound, Reached}
 use Rattle.search.specs.matches.StepLaws.{stepped-at, stepped-done, reached-less}
 use Rattle.search_rules.specs.declared.Asked.{Asked}
 use Rattle.search.specs.declared.visit.Fills.{Fills}
-use Rattle.search.specs.visit.Visits.{Stored, stored, segmentsIn, Visits, ToldOf}
+use Rattle.search.specs.depth.DeepLaws.{among-to, kept-to}
+use Rattle.search.specs.visit.Visits.{Stored, stored, segmentsIn, Visits, ToldOf, KnownDeep}
 use Rattle.search.specs.visit.SegmentLaws.{matchAt, segment-matches, known-valid, visits-nothing}
 use Rattle.search.specs.visit.VisitsLeft.{Leading}
 use Rattle.search.specs.visit.VisitsLeftLaws.{leading-starts, leading-on, leading-ends}
@@ -34,35 +38,38 @@ record Inv (image : List ℕ) (s : List Stretch) (asked : Asked) (library : List
       (map (matchAt (view image s) asked library t n i row) (placesLeft (view image s) pattern masked c)) placed positions noted goals f
 
 abbrev Inv-loop : tie.InvT-loop
-Inv-loop image s asked library segments n references symbols bytes masks first next i told₀ placed₀ positions₀ noted₀ goals₀ row f₀ pattern masked valid c₀
+Inv-loop image s asked library segments n references symbols bytes masks first next i told₀ placed₀ positions₀ noted₀ goals₀ row rules f₀ pattern masked valid c₀
     told placed positions noted goals f c = Inv image (stretchesIn s) asked library (stored segments references symbols bytes masks) n i told₀ placed₀ positions₀ noted₀
     goals₀ row f₀ pattern masked c₀ told placed positions noted goals f c
 
 abbrev μ-loop : tie.MeasureT-loop
-μ-loop image s asked library segments n references symbols bytes masks first next i told₀ placed₀ positions₀ noted₀ goals₀ row f₀ pattern masked valid c₀
+μ-loop image s asked library segments n references symbols bytes masks first next i told₀ placed₀ positions₀ noted₀ goals₀ row rules f₀ pattern masked valid c₀
     told placed positions noted goals f c = length (placesLeft (view image (stretchesIn s)) pattern masked c)
 
 -- The ladder: places of the code that the answers cite, each as it is seen from a later place.
-abbrev at-entry : tie.After-segment-at Inv-loop μ-loop → tie.Start Inv-loop μ-loop
-at-entry c = c .before .before .before .before .before .before .before .before .before .before .before .before .before .before .before .before
+abbrev at-entry : tie.After-shared-slice-known5 Inv-loop μ-loop → tie.Start Inv-loop μ-loop
+at-entry c = c .before .before .before .before .before
 
-abbrev after-segment-at : tie.After-start Inv-loop μ-loop → tie.After-segment-at Inv-loop μ-loop
-after-segment-at c = c .before .before .before .before .before .before
+abbrev after-segment-at : tie.After-reaches Inv-loop μ-loop → tie.After-segment-at Inv-loop μ-loop
+after-segment-at c = c .before .before .before .before .before
+
+abbrev after-shared-slice-known5 : tie.After-reaches Inv-loop μ-loop → tie.After-shared-slice-known5 Inv-loop μ-loop
+after-shared-slice-known5 c = after-segment-at c .before .before .before .before .before .before .before .before .before .before .before
 
 abbrev at-loop : tie.After-enum-told Inv-loop μ-loop → tie.At-loop Inv-loop μ-loop
 at-loop c = c .before .before .before
 
-abbrev after-start : tie.After-known-told Inv-loop μ-loop → tie.After-start Inv-loop μ-loop
-after-start c = c .before .before .before .before .before
+abbrev after-next-place : tie.After-known-told Inv-loop μ-loop → tie.After-next-place Inv-loop μ-loop
+after-next-place c = c .before .before .before
 
-abbrev after-name2 : tie.After-known-told Inv-loop μ-loop → tie.After-name2 Inv-loop μ-loop
-after-name2 c = after-start c .before .before
+abbrev after-reaches : tie.After-known-told Inv-loop μ-loop → tie.After-reaches Inv-loop μ-loop
+after-reaches c = after-next-place c .before .before .before
 
-abbrev after-known-told : tie.After-positions Inv-loop μ-loop → tie.After-known-told Inv-loop μ-loop
-after-known-told c = c .before .before .before .before .before .before .before .before .before .before .before
+abbrev after-placed : tie.After-slice-known10 Inv-loop μ-loop → tie.After-placed Inv-loop μ-loop
+after-placed c = c .before .before .before .before .before .before .before
 
-abbrev after-positions : tie.After-slice-known10 Inv-loop μ-loop → tie.After-positions Inv-loop μ-loop
-after-positions c = c .before .before .before .before .before
+abbrev after-known-told : tie.After-slice-known10 Inv-loop μ-loop → tie.After-known-told Inv-loop μ-loop
+after-known-told c = after-placed c .before .before .before .before .before .before .before .before
 
 abbrev rows : tie.Start Inv-loop μ-loop → Stored
 rows c = stored (c .args .segments .now) (c .args .references .now) (c .args .symbols .now) (c .args .bytes .now) (c .args .masks .now)
@@ -71,18 +78,19 @@ abbrev seen : tie.Start Inv-loop μ-loop → List ℕ
 seen c = view (c .args .image .now) (stretchesIn (c .args .s .now))
 
 -- the match that is reached, once it is known
-reached : (c : tie.After-known-told Inv-loop μ-loop) → Reached (at-entry (after-segment-at (after-start c)) .args .image .now)
-    (stretchesIn (at-entry (after-segment-at (after-start c)) .args .s .now)) (after-name2 c .before .name .result .now)
-    (after-name2 c .name2 .result .now) (c .before .before .before .before .loop .c) (c .before .at .given .0 .0) (c .before .at .given .0 .1 .0)
+reached : (c : tie.After-known-told Inv-loop μ-loop) → Reached (at-entry (after-shared-slice-known5 (after-reaches c)) .args .image .now)
+    (stretchesIn (at-entry (after-shared-slice-known5 (after-reaches c)) .args .s .now)) (after-reaches c .before .before .name .result .now)
+    (after-reaches c .before .name2 .result .now) (after-next-place c .before .loop .c) (c .before .at .given .0 .0) (c .before .at .given .0 .1 .0)
 reached c =
-    let entry = at-entry (after-segment-at (after-start c)) in
-    stepped-at (entry .args .image .now) (stretchesIn (entry .args .s .now)) (after-name2 c .before .name .result .now) (after-name2 c .name2 .result .now)
-    (c .before .before .before .before .loop .c) (c .before .at .given .1) (c .before .before .before .next-place .ensures)
+    let reaches = after-reaches c in
+    let entry = at-entry (after-shared-slice-known5 reaches) in
+    stepped-at (entry .args .image .now) (stretchesIn (entry .args .s .now)) (reaches .before .before .name .result .now) (reaches .before .name2 .result .now)
+    (after-next-place c .before .loop .c) (c .before .at .given .1) (after-next-place c .next-place .ensures)
 
 returns : tie.Need-returns Inv-loop μ-loop
 returns c =
     let segment-at = c .before .before .before .before in
-    let entry = at-entry segment-at in
+    let entry = at-entry (segment-at .before .before .before .before .before .before .before .before .before .before .before) in
     let a = entry .args in (
       visits-nothing (seen entry) (a .asked) (a .library .now) (rows entry) (a .n) (a .i) (segment-at .segment-at .result)
           (segment-at .segment-at .ensures) (c .before .before .if1 .taken) (c .if2 .taken) (a .placed .now) (a .positions .now) (a .noted .now) (a .goals .now) (a .before),
@@ -90,11 +98,11 @@ returns c =
     )
 
 start-requires : tie.Need-start-requires Inv-loop μ-loop
-start-requires c κs = at-entry (c .before .before .before .before .before) .pre .0 .heads
+start-requires c κs = at-entry (after-shared-slice-known5 c) .pre .0 .heads
 
 loop-holds : tie.Need-loop-holds Inv-loop μ-loop
 loop-holds c =
-    let entry = at-entry (after-segment-at c) in
+    let entry = at-entry (after-shared-slice-known5 (c .before)) in
     let a = entry .args in
     record {
       told-long = refl;
@@ -105,13 +113,13 @@ loop-holds c =
       goals-long = refl;
       sound = c .start .ensures .sound;
       leads = leading-starts (seen entry) (a .asked) (a .library .now) (segmentsIn (rows entry) (a .n))
-          (map (matchAt (seen entry) (a .asked) (a .library .now) (rows entry) (a .n) (a .i) (after-segment-at c .segment-at .result))
+          (map (matchAt (seen entry) (a .asked) (a .library .now) (rows entry) (a .n) (a .i) (after-segment-at (c .before) .segment-at .result))
           (placesLeft (seen entry) (c .before .before .before .name .result .now) (c .before .before .name2 .result .now) (c .start .result)))
           (a .placed .now) (a .positions .now) (a .noted .now) (a .goals .now) (a .before);
     }
 
 next-place-requires : tie.Need-next-place-requires Inv-loop μ-loop
-next-place-requires c κs = record { nexts = at-entry (after-segment-at (c .before)) .pre .0 .nexts; sound = c .loop .inv .sound }
+next-place-requires c κs = record { nexts = at-entry (after-shared-slice-known5 (c .before .before)) .pre .0 .nexts; sound = c .loop .inv .sound }
 
 same-length : tie.Need-same-length Inv-loop μ-loop
 same-length c = at-loop c .loop .inv .told-long
@@ -128,18 +136,43 @@ same-length-4 c = at-loop c .loop .inv .noted-long
 same-length-5 : tie.Need-same-length-5 Inv-loop μ-loop
 same-length-5 c = at-loop c .loop .inv .goals-long
 
-visit-match-requires : tie.Need-visit-match-requires Inv-loop μ-loop
-visit-match-requires c κs = c .before .before .before .before .before .before .before .before .before .loop .inv .truth
+-- the check to a depth above 1, and that the table tells the truth after it
+failed-among-requires : tie.Need-failed-among-requires Inv-loop μ-loop
+failed-among-requires c κs = after-next-place (c .before .before .before .before) .before .loop .inv .truth
+
+decided : (c : tie.Joined3 Inv-loop μ-loop) → let reaches = after-reaches (c .before .before) in let e = at-entry (after-shared-slice-known5 reaches) in let a = e .args in
+    KnownDeep (seen e) (a .asked) (a .library .now) (rows e) (a .n) (after-segment-at reaches .segment-at .result) (c .before .before .before .at .given .0 .0) (c .if3 .deep)
+    × ToldOf (seen e) (a .asked) (rows e) (a .n) (c .if3 .told)
+decided c =
+    let known-told = c .before .before in
+    let reaches = after-reaches known-told in
+    let e = at-entry (after-shared-slice-known5 reaches) in
+    let a = e .args in
+    let row = after-segment-at reaches .segment-at .result in
+    let at = known-told .before .at .given .0 .0 in
+    let Deep : Bool → Type 0 = KnownDeep (seen e) (a .asked) (a .library .now) (rows e) (a .n) row at in
+    let True : List ℕ → Type 0 = ToldOf (seen e) (a .asked) (rows e) (a .n) in
+    ⊎-elim
+    (λ w. (
+      subst Deep (sym (w .8)) (λ l. kept-to (seen e) (a .asked .rules) (a .segments .now) (a .n) (a .references .now) (a .bytes .now) (a .masks .now) at (row .references) (a .asked .depth) (w .3 .result)
+          (among-to (seen e) (a .asked .rules) (a .segments .now) (a .n) (a .references .now) (a .bytes .now) (a .masks .now) (a .asked .depth - 1) (a .asked .depth) at (row .references) (w .3 .result)
+          (omega (arith, l)) (w .3 .ensures .0)) (w .6 .result) (w .6 .ensures)),
+      subst True (sym (w .7)) (w .3 .ensures .1),
+    ))
+    (λ w. (subst Deep (sym (w .2)) (λ l. absurd (omega (arith, l, w .0 .left))), subst True (sym (w .1)) (after-next-place known-told .before .loop .inv .truth)))
+    (c .if3 .came)
+
+long : (c : tie.Joined3 Inv-loop μ-loop) → length (c .if3 .told) ≡ length (after-next-place (c .before .before) .before .loop .told)
+long c = ⊎-elim (λ w. ap length (w .7) ∙ w .4 .given) (λ w. ap length (w .1)) (c .if3 .came)
 
 returns-2 : tie.Need-returns-2 Inv-loop μ-loop
 returns-2 c =
     let loop = at-loop c in
     let start = loop .before in
-    let segment-at = after-segment-at start in
-    let entry = at-entry segment-at in
+    let entry = at-entry (after-shared-slice-known5 (start .before)) in
     let a = entry .args in
     let l = loop .loop in
-    let row = segment-at .segment-at in
+    let row = after-segment-at (start .before) .segment-at in
     let b = start .before .before .before .name in
     let m = start .before .before .name2 in
     let mk = matchAt (seen entry) (a .asked) (a .library .now) (rows entry) (a .n) (a .i) (row .result) in
@@ -157,36 +190,35 @@ returns-2 c =
 
 loop-less : tie.Need-loop-less Inv-loop μ-loop
 loop-less c =
-    let known-told = after-known-told (after-positions c) in
-    let name2 = after-name2 known-told in
-    let entry = at-entry (after-segment-at (after-start known-told)) in
-    reached-less (entry .args .image .now) (stretchesIn (entry .args .s .now)) (name2 .before .name .result .now) (name2 .name2 .result .now)
-    (known-told .before .before .before .before .loop .c) (reached known-told)
+    let known-told = after-known-told c in
+    let reaches = after-reaches known-told in
+    let entry = at-entry (after-shared-slice-known5 reaches) in
+    reached-less (entry .args .image .now) (stretchesIn (entry .args .s .now)) (reaches .before .before .name .result .now) (reaches .before .name2 .result .now)
+    (after-next-place known-told .before .loop .c) (reached known-told)
 
 loop-again : tie.Need-loop-again Inv-loop μ-loop
 loop-again c =
-    let positions = after-positions c in
-    let known-told = after-known-told positions in
+    let placed = after-placed c in
+    let joined = placed .before .before .before .before .before .before in
+    let known-told = after-known-told c in
     let at = known-told .before in
-    let start = after-start known-told in
-    let reaches = start .before in
-    let name2 = reaches .before in
-    let segment-at = after-segment-at start in
-    let entry = at-entry segment-at in
+    let next-place = after-next-place known-told in
+    let reaches = after-reaches known-told in
+    let entry = at-entry (after-shared-slice-known5 reaches) in
     let a = entry .args in
-    let l = at .before .before .before .loop in
-    let v = positions .before .before .before .before .before .visit-match in
-    let row = segment-at .segment-at .result in
-    let b = name2 .before .name in
-    let m = name2 .name2 in
+    let l = next-place .before .loop in
+    let v = placed .before .visit-match in
+    let row = after-segment-at reaches .segment-at .result in
+    let b = reaches .before .before .name in
+    let m = reaches .before .name2 in
     let t = rows entry in
     let mk = matchAt (seen entry) (a .asked) (a .library .now) t (a .n) (a .i) row in
-    let every = map mk (placesLeft (seen entry) (b .result .now) (m .result .now) (start .start .result)) in
+    let every = map mk (placesLeft (seen entry) (b .result .now) (m .result .now) (next-place .before .before .start .result)) in
     record {
-      told-long = positions .before .before .before .before .told .given ∙ l .inv .told-long;
-      truth = v .ensures .1;
-      placed-long = positions .before .before .placed .given ∙ l .inv .placed-long;
-      positions-long = positions .positions .given ∙ l .inv .positions-long;
+      told-long = long joined ∙ l .inv .told-long;
+      truth = decided joined .1;
+      placed-long = placed .placed .given ∙ l .inv .placed-long;
+      positions-long = c .before .before .before .before .before .positions .given ∙ l .inv .positions-long;
       noted-long = c .before .before .before .noted .given ∙ l .inv .noted-long;
       goals-long = c .before .goals .given ∙ l .inv .goals-long;
       sound = reached known-told .sound;
@@ -197,8 +229,8 @@ loop-again c =
           (v .last .1 .1 .1 .1 .1 .1 .1 .1 .1 .1 .1 .1 .1 .1 .1 .0) (v .last .1 .1 .1 .1 .1 .1 .1 .1 .1 .1 .1 .1 .1 .1 .1 .1 .0)
           (v .last .1 .1 .1 .1 .1 .1 .1 .1 .1 .1 .1 .1 .1 .1 .1 .1 .1 .0) (v .last .1 .1 .1 .1 .1 .1 .1 .1 .1 .1 .1 .1 .1 .1 .1 .1 .1 .1 .0) (v .result)
           (ap (map mk) (reached known-told .places))
-          (v .ensures .0 (known-valid (seen entry) (a .asked) (a .library .now) t (a .n) (a .i) row (b .result .now) (m .result .now) (b .ensures)
-          (m .ensures) (reaches .reaches .result) (reaches .reaches .ensures)));
+          (v .ensures (known-valid (seen entry) (a .asked) (a .library .now) t (a .n) (a .i) row (b .result .now) (m .result .now) (b .ensures)
+          (m .ensures) (reaches .reaches .result) (reaches .reaches .ensures)) (decided joined .0));
     }
 
 pub search-segment-spec : {M : Type 1} → statement M
@@ -223,6 +255,9 @@ search-segment-spec =
     same-length-4
     same-length-5
     returns-2
-    visit-match-requires
+    (λ c. search needs)
+    failed-among-requires
+    (λ c κs. search needs)
+    (λ c κs. search needs)
     loop-less
     loop-again)
