@@ -1,8 +1,9 @@
 // Whether a match holds to a depth: a check that goes from a match to the matches to which its references lead, with a depth
 // that falls at each step. What was answered is remembered in a table, `told`, which may hold any answers that are true.
 ghost use mathlib.Core.Path.{_≡_};
+ghost use Prim.Native.Nat.{_≤_};
 ghost use Rattle.image.specs.View.{stretchesIn, view};
-ghost use Rattle.search.specs.depth.Depths.{Told, HoldsSo, FailsAt, FailsAmong, FailsTo};
+ghost use Rattle.search.specs.depth.Depths.{Told, HoldsSo, FailsAt, FailsAmong, FailsTo, KeepsOut};
 use crate::failed::failed_by;
 use crate::failed::is_failed;
 use crate::targets::is_match;
@@ -184,6 +185,43 @@ pub fn failed_among(
         k += 1;
     }
     Failed::Nothing
+}
+
+// Whether a match at `position`, with the references in a part of the rows, does not hold to a depth above 0. It is a function
+// of its own so that the search copies the slices for it only where it asks. The other parameters are those of
+// `failed_among`.
+pub fn fails_deep(
+    image: &[u8],
+    s: &[u64],
+    rules: Rules,
+    depth: u64,
+    position: usize,
+    segments: &[u64],
+    n: usize,
+    references: &[u64],
+    part: Part,
+    bytes: &[u8],
+    masks: &[u8],
+    told: &mut [u16],
+) -> bool
+    requires { ⌜ (1 ≤ depth) × Told (view (now image) (stretchesIn (now s))) rules (now segments) n (now references) (now bytes) (now masks) (now told) ⌝ }
+    ensures { λ r. ⌜ KeepsOut (view (now (image .entry)) (stretchesIn (now (s .entry)))) rules (now (segments .entry)) n (now (references .entry)) (now (bytes .entry)) (now (masks .entry)) depth position part r
+        × Told (view (now (image .entry)) (stretchesIn (now (s .entry)))) rules (now (segments .entry)) n (now (references .entry)) (now (bytes .entry)) (now (masks .entry)) (now (told .exit)) ⌝ }
+{
+    is_failed(failed_among(
+        image,
+        s,
+        rules,
+        depth - 1,
+        position,
+        segments,
+        n,
+        references,
+        part,
+        bytes,
+        masks,
+        told,
+    ))
 }
 
 // The first reference in a part of the rows that fails at a depth, for a match at `position`, and why; at depth 0 none does.

@@ -2,8 +2,7 @@
 ghost use Rattle.image.specs.View.{stretchesIn, view};
 ghost use Rattle.search.specs.byte_index.Index.{Indexed};
 ghost use Rattle.search.specs.visit.Visits.{stored, ToldOf, VisitsSegment};
-use crate::depth::failed_among;
-use crate::failed::is_failed;
+use crate::depth::fails_deep;
 use crate::matches::Next;
 use crate::matches::next_place;
 use crate::matches::start;
@@ -63,11 +62,11 @@ pub fn search_segment(
         };
         let mut deep = false;
         if 1 < asked.depth {
-            deep = is_failed(failed_among(
+            deep = fails_deep(
                 image,
                 s,
                 rules,
-                asked.depth - 1,
+                asked.depth,
                 at,
                 segments,
                 n,
@@ -76,7 +75,7 @@ pub fn search_segment(
                 bytes,
                 masks,
                 told,
-            ));
+            );
         }
         f = visit_match(
             image,

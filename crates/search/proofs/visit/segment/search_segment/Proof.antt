@@ -1,5 +1,5 @@
 -- `search_segment` goes from match to match. The invariant: whoever visits those that are left has visited all. Assumes nothing.
-use Prim.Native.Nat.{ℕ, _-_}
+use Prim.Native.Nat.{ℕ}
 use mathlib.Core.Path.{_≡_, refl, sym, ap, subst, _∙_}
 use mathlib.Core.Logic.{⊎-elim}
 use mathlib.Core.Bool.{Bool}
@@ -15,7 +15,6 @@ use Rattle.search.specs.matches.Cursor.{placesLeft, Sound, Reached}
 use Rattle.search.specs.matches.StepLaws.{stepped-at, stepped-done, reached-less}
 use Rattle.search_rules.specs.declared.Asked.{Asked}
 use Rattle.search.specs.declared.visit.Fills.{Fills}
-use Rattle.search.specs.depth.DeepLaws.{among-to, kept-to}
 use Rattle.search.specs.visit.Visits.{Stored, stored, segmentsIn, Visits, ToldOf, KnownDeep}
 use Rattle.search.specs.visit.SegmentLaws.{matchAt, segment-matches, known-valid, visits-nothing}
 use Rattle.search.specs.visit.VisitsLeft.{Leading}
@@ -137,8 +136,10 @@ same-length-5 : tie.Need-same-length-5 Inv-loop μ-loop
 same-length-5 c = at-loop c .loop .inv .goals-long
 
 -- the check to a depth above 1, and that the table tells the truth after it
-failed-among-requires : tie.Need-failed-among-requires Inv-loop μ-loop
-failed-among-requires c κs = after-next-place (c .before .before .before .before) .before .loop .inv .truth
+fails-deep-requires : tie.Need-fails-deep-requires Inv-loop μ-loop
+fails-deep-requires c κs =
+    let known-told = c .before .before .before in
+    (omega (arith, c .before .if3 .taken), after-next-place known-told .before .loop .inv .truth)
 
 decided : (c : tie.Joined3 Inv-loop μ-loop) → let reaches = after-reaches (c .before .before) in let e = at-entry (after-shared-slice-known5 reaches) in let a = e .args in
     KnownDeep (seen e) (a .asked) (a .library .now) (rows e) (a .n) (after-segment-at reaches .segment-at .result) (c .before .before .before .at .given .0 .0) (c .if3 .deep)
@@ -148,22 +149,15 @@ decided c =
     let reaches = after-reaches known-told in
     let e = at-entry (after-shared-slice-known5 reaches) in
     let a = e .args in
-    let row = after-segment-at reaches .segment-at .result in
-    let at = known-told .before .at .given .0 .0 in
-    let Deep : Bool → Type 0 = KnownDeep (seen e) (a .asked) (a .library .now) (rows e) (a .n) row at in
+    let Deep : Bool → Type 0 = KnownDeep (seen e) (a .asked) (a .library .now) (rows e) (a .n) (after-segment-at reaches .segment-at .result) (known-told .before .at .given .0 .0) in
     let True : List ℕ → Type 0 = ToldOf (seen e) (a .asked) (rows e) (a .n) in
     ⊎-elim
-    (λ w. (
-      subst Deep (sym (w .8)) (λ l. kept-to (seen e) (a .asked .rules) (a .segments .now) (a .n) (a .references .now) (a .bytes .now) (a .masks .now) at (row .references) (a .asked .depth) (w .3 .result)
-          (among-to (seen e) (a .asked .rules) (a .segments .now) (a .n) (a .references .now) (a .bytes .now) (a .masks .now) (a .asked .depth - 1) (a .asked .depth) at (row .references) (w .3 .result)
-          (omega (arith, l)) (w .3 .ensures .0)) (w .6 .result) (w .6 .ensures)),
-      subst True (sym (w .7)) (w .3 .ensures .1),
-    ))
+    (λ w. (subst Deep (sym (w .6)) (λ l. w .2 .ensures .0), subst True (sym (w .5)) (w .2 .ensures .1)))
     (λ w. (subst Deep (sym (w .2)) (λ l. absurd (omega (arith, l, w .0 .left))), subst True (sym (w .1)) (after-next-place known-told .before .loop .inv .truth)))
     (c .if3 .came)
 
 long : (c : tie.Joined3 Inv-loop μ-loop) → length (c .if3 .told) ≡ length (after-next-place (c .before .before) .before .loop .told)
-long c = ⊎-elim (λ w. ap length (w .7) ∙ w .4 .given) (λ w. ap length (w .1)) (c .if3 .came)
+long c = ⊎-elim (λ w. ap length (w .5) ∙ w .3 .given) (λ w. ap length (w .1)) (c .if3 .came)
 
 returns-2 : tie.Need-returns-2 Inv-loop μ-loop
 returns-2 c =
@@ -255,9 +249,7 @@ search-segment-spec =
     same-length-4
     same-length-5
     returns-2
-    (λ c. search needs)
-    failed-among-requires
-    (λ c κs. search needs)
+    fails-deep-requires
     (λ c κs. search needs)
     loop-less
     loop-again)
