@@ -2,7 +2,7 @@
 -- another; and whether a match is kept out. Assumes nothing.
 use Prim.Native.Nat.{ℕ, zero, suc, _+_, _-_, _≤_, _<_}
 use mathlib.Core.Path.{_≡_, refl, sym, ap, subst, _∙_}
-use mathlib.Core.Bool.{Bool, true, false, not, _&&_, false≢true}
+use mathlib.Core.Bool.{Bool, true, false, not, _&&_, _||_, false≢true}
 use mathlib.Core.List.{List, []}
 use mathlib.Core.Option.{Option, none, some}
 use native.Mathlib.Decide.{decLt}
@@ -168,20 +168,31 @@ module _ (cells : List ℕ) (rules : Rules) (segments : List ℕ) (n : ℕ) (ref
     kept-once depth e q h out o is symbols g refers =
         sym is ∙ kept-to 1 q (once-to q h) out o symbols g refers ∙ ap (λ d. not (holdsTo cells rules (In symbols) d g position)) (sym e)
 
-    -- as the code decides: above depth 1 by the check to the depth, and else by what failed at depth 1
-    pub kept-so : (depth : ℕ) (deep : Bool) → (1 < depth → KeepsOut cells rules segments n references bytes masks depth position part deep)
+    -- as the code decides: by the check to a depth above 1, or by what failed at depth 1
+    pub kept-so : (depth : ℕ) (deep : Bool) → (1 < depth → KeepsOut cells rules segments n references bytes masks depth position part deep) → (depth ≤ 1 → deep ≡ false)
         → (q : Failed) → FirstToFail cells rules position segments n references part bytes masks q → (failed : Bool) → failed ≡ not (isNothing q)
-        → (out : Bool) → out ≡ (if ltb 1 depth then deep else (ltb 0 depth && failed)) → KeepsOut cells rules segments n references bytes masks depth position part out
-    kept-so depth deep known q h failed f out o = go (decLt 1 depth) (decLt 0 depth) failed refl
+        → (out : Bool) → out ≡ (deep || (ltb 0 depth && failed)) → KeepsOut cells rules segments n references bytes masks depth position part out
+    kept-so depth deep known flat q h failed f out o = go (decLt 1 depth) (decLt 0 depth) deep refl failed refl
       where
         Out : Bool → Type 0
         Out b = KeepsOut cells rules segments n references bytes masks depth position part b
 
-        go : Dec (1 < depth) → Dec (0 < depth) → (b : Bool) → failed ≡ b → Out out
-        go (yes l) m b e = subst Out (sym (o ∙ rw (lt-ltb 1 depth l) refl)) (known l)
-        go (no l) (no m) b e =
-            subst Out (sym (o ∙ rw (le-ltb 1 depth (omega (arith, l)), le-ltb 0 depth (omega (arith, m))) refl)) (kept-none depth (omega (arith, m)))
-        go (no l) (yes m) true e =
-            subst Out (sym (o ∙ rw (le-ltb 1 depth (omega (arith, l)), lt-ltb 0 depth m, e) refl)) (kept-early depth m q h true (sym e ∙ f) refl)
-        go (no l) (yes m) false e =
-            subst Out (sym (o ∙ rw (le-ltb 1 depth (omega (arith, l)), lt-ltb 0 depth m, e) refl)) (kept-once depth (omega (arith, l, m)) q h false (sym e ∙ f) refl)
+        -- what holds to the depth holds at depth 1, so nothing failed there
+        nothing : 1 < depth → deep ≡ false → (symbols : List ℕ) (g : Collected) → Refers cells rules segments n references bytes masks part g → failed ≡ not (holdsTo cells rules (In symbols) depth g position)
+        nothing l e symbols g refers =
+            let none : false ≡ not (holdsTo cells rules (In symbols) depth g position) = sym e ∙ known l symbols g refers in
+            let all : holdsTo cells rules (In symbols) depth g position ≡ true = sym (twice (holdsTo cells rules (In symbols) depth g position)) ∙ ap not (sym none) in
+            let low : 1 ≤ depth = omega (arith, l) in
+            f
+            ∙ ap not (to-holds 1 position part q (once-to q h) symbols g refers ∙ holds-every-less cells rules (In symbols) depth 1 low g position all)
+            ∙ none
+
+        go : Dec (1 < depth) → Dec (0 < depth) → (d : Bool) → deep ≡ d → (b : Bool) → failed ≡ b → Out out
+        go (yes l) m true e b g = subst Out (sym (o ∙ rw e refl)) (subst Out e (known l))
+        go (yes l) m false e b g = subst Out (sym (o ∙ rw (e, lt-ltb 0 depth (omega (arith, l))) refl)) (nothing l e)
+        go (no l) (no m) d e b g =
+            subst Out (sym (o ∙ rw (flat (omega (arith, l)), le-ltb 0 depth (omega (arith, m))) refl)) (kept-none depth (omega (arith, m)))
+        go (no l) (yes m) d e true g =
+            subst Out (sym (o ∙ rw (flat (omega (arith, l)), lt-ltb 0 depth m, g) refl)) (kept-early depth m q h true (sym g ∙ f) refl)
+        go (no l) (yes m) d e false g =
+            subst Out (sym (o ∙ rw (flat (omega (arith, l)), lt-ltb 0 depth m, g) refl)) (kept-once depth (omega (arith, l, m)) q h false (sym g ∙ f) refl)

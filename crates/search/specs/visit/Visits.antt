@@ -1,7 +1,7 @@
 -- What matches leave in lent memory: the symbols that they place, and the names that their references note.
-use Prim.Native.Nat.{ℕ, _<_}
+use Prim.Native.Nat.{ℕ, _≤_, _<_}
 use mathlib.Core.Path.{_≡_}
-use mathlib.Core.Bool.{Bool}
+use mathlib.Core.Bool.{Bool, false}
 use mathlib.Core.List.{List}
 use lib.ListN.{length}
 use Rattle.lent.specs.Lists.{one, joined}
@@ -60,9 +60,10 @@ module _ (cells : List ℕ) (a : Asked) (library : List ℕ) (t : Stored) (n : �
   abbrev pub matchOf : SegmentNumber → SegmentRow → ℕ → Match
   matchOf number row at = record { number = number .0; segment = segmentBy row; position = at }
 
-  -- at a depth above 1 it is known whether a reference of the match fails there
+  -- at a depth above 1 it is known whether a reference of the match fails there; else nothing is said of it
   abbrev pub KnownDeep : SegmentRow → ℕ → Bool → Type 0
-  KnownDeep row at deep = 1 < a .depth → KeepsOut cells (a .rules) (t .segments) n (t .references) (t .bytes) (t .masks) (a .depth) at (row .references) deep
+  KnownDeep row at deep =
+      (1 < a .depth → KeepsOut cells (a .rules) (t .segments) n (t .references) (t .bytes) (t .masks) (a .depth) at (row .references) deep) × (a .depth ≤ 1 → deep ≡ false)
 
   abbrev pub VisitsMatch : SegmentNumber → SegmentRow → Bool → ℕ → Bool → List ℕ → List ℕ → List ℕ → List ℕ → Fills → List ℕ → List ℕ → List ℕ → List ℕ → Fills → Type 0
   VisitsMatch number row valid at deep placed positions noted goals f placed′ positions′ noted′ goals′ f′ =

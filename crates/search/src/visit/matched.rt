@@ -1,8 +1,7 @@
 // One match: its references are gone over in file order, and then its symbols are placed.
 ghost use mathlib.Core.Path.{_≡_};
-ghost use mathlib.Core.Bool.{_&&_};
+ghost use mathlib.Core.Bool.{_&&_, _||_};
 ghost use lib.Dec.{ltb};
-ghost use Rattle.lent.specs.Choice.{if_then_else_};
 ghost use Rattle.image.specs.View.{stretchesIn, view};
 ghost use Rattle.search.specs.visit.Visits.{stored, VisitsMatch};
 use crate::failed::is_failed;
@@ -14,13 +13,13 @@ use segments::SegmentNumber;
 use segments::SegmentRow;
 use tables::fill::Fill;
 
-// Whether a match places no symbols: at a depth above 1 by the check to that depth, `deep`; else by what failed at depth 1,
-// where references are checked.
+// Whether a match places no symbols: the check to a depth above 1 says so, `deep`, or a reference failed at depth 1, where
+// references are checked. What fails there fails at every depth above.
 fn keeps_out(depth: u64, failed: bool, deep: bool) -> bool
-    ensures { λ r. ⌜ r ≡ (if ltb 1 depth then deep else (ltb 0 depth && failed)) ⌝ }
+    ensures { λ r. ⌜ r ≡ (deep || (ltb 0 depth && failed)) ⌝ }
 {
-    if 1 < depth {
-        return deep;
+    if deep {
+        return true;
     }
     0 < depth && failed
 }

@@ -56,7 +56,7 @@ kept c deep =
     let e = at-entry c in
     let a = e .args in
     let q = after-refer-all c .refer-all in
-    kept-so (seen e) (a .asked .rules) (a .segments .now) (a .n) (a .references .now) (a .bytes .now) (a .masks .now) (a .at) (a .row .references) (a .asked .depth) (a .deep) deep
+    kept-so (seen e) (a .asked .rules) (a .segments .now) (a .n) (a .references .now) (a .bytes .now) (a .masks .now) (a .at) (a .row .references) (a .asked .depth) (a .deep) (deep .0) (deep .1)
     (q .result .failed) (q .ensures .fails) (c .before .is-failed .result) (c .before .is-failed .ensures) (c .keeps-out .result) (c .keeps-out .ensures)
 
 returns : tie.Need-returns

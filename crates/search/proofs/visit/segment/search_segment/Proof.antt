@@ -152,8 +152,8 @@ decided c =
     let Deep : Bool → Type 0 = KnownDeep (seen e) (a .asked) (a .library .now) (rows e) (a .n) (after-segment-at reaches .segment-at .result) (known-told .before .at .given .0 .0) in
     let True : List ℕ → Type 0 = ToldOf (seen e) (a .asked) (rows e) (a .n) in
     ⊎-elim
-    (λ w. (subst Deep (sym (w .6)) (λ l. w .2 .ensures .0), subst True (sym (w .5)) (w .2 .ensures .1)))
-    (λ w. (subst Deep (sym (w .2)) (λ l. absurd (omega (arith, l, w .0 .left))), subst True (sym (w .1)) (after-next-place known-told .before .loop .inv .truth)))
+    (λ w. (subst Deep (sym (w .6)) ((λ l. w .2 .ensures .0), λ l. absurd (omega (arith, l, w .0 .taken))), subst True (sym (w .5)) (w .2 .ensures .1)))
+    (λ w. (subst Deep (sym (w .2)) ((λ l. absurd (omega (arith, l, w .0 .left))), λ l. refl), subst True (sym (w .1)) (after-next-place known-told .before .loop .inv .truth)))
     (c .if3 .came)
 
 long : (c : tie.Joined3 Inv-loop μ-loop) → length (c .if3 .told) ≡ length (after-next-place (c .before .before) .before .loop .told)
