@@ -3,7 +3,7 @@
 ghost use mathlib.Core.Path.{_≡_};
 ghost use Prim.Native.Nat.{_≤_};
 ghost use Rattle.image.specs.View.{stretchesIn, view};
-ghost use Rattle.search.specs.depth.Depths.{Told, HoldsSo, FailsAt, FailsAmong, FailsTo, KeepsOut};
+ghost use Rattle.search.specs.depth.Depths.{Told, HoldsSo, FailsAt, FailsAmong, Carries, FailsTo, KeepsOut};
 use crate::failed::failed_by;
 use crate::failed::is_failed;
 use crate::targets::is_match;
@@ -187,14 +187,15 @@ pub fn failed_among(
     Failed::Nothing
 }
 
-// Whether a match at `position`, with the references in a part of the rows, does not hold to a depth above 0. It is a function
-// of its own so that the search copies the slices for it only where it asks. The other parameters are those of
-// `failed_among`.
+// Whether the match of the segment `number` at `position`, whose references are a part of the rows, does not hold to a depth
+// above 0. If it holds, that is remembered, for those who lead there. It is a function of its own so that the search copies
+// the slices for it only where it asks. The other parameters are those of `failed_among`.
 pub fn fails_deep(
     image: &[u8],
     s: &[u64],
     rules: Rules,
     depth: u64,
+    number: SegmentNumber,
     position: usize,
     segments: &[u64],
     n: usize,
@@ -204,11 +205,12 @@ pub fn fails_deep(
     masks: &[u8],
     told: &mut [u16],
 ) -> bool
-    requires { ⌜ (1 ≤ depth) × Told (view (now image) (stretchesIn (now s))) rules (now segments) n (now references) (now bytes) (now masks) (now told) ⌝ }
+    requires { ⌜ (1 ≤ depth) × Told (view (now image) (stretchesIn (now s))) rules (now segments) n (now references) (now bytes) (now masks) (now told)
+        × Carries (view (now image) (stretchesIn (now s))) rules (now segments) n (now references) (now bytes) (now masks) number part ⌝ }
     ensures { λ r. ⌜ KeepsOut (view (now (image .entry)) (stretchesIn (now (s .entry)))) rules (now (segments .entry)) n (now (references .entry)) (now (bytes .entry)) (now (masks .entry)) depth position part r
         × Told (view (now (image .entry)) (stretchesIn (now (s .entry)))) rules (now (segments .entry)) n (now (references .entry)) (now (bytes .entry)) (now (masks .entry)) (now (told .exit)) ⌝ }
 {
-    is_failed(failed_among(
+    if is_failed(failed_among(
         image,
         s,
         rules,
@@ -221,7 +223,15 @@ pub fn fails_deep(
         bytes,
         masks,
         told,
-    ))
+    )) {
+        return true;
+    }
+    let i = number.0;
+    if n <= i {
+        return false;
+    }
+    remember(told, i, position as u64, depth - 1, true);
+    false
 }
 
 // The first reference in a part of the rows that fails at a depth, for a match at `position`, and why; at depth 0 none does.

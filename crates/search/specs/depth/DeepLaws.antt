@@ -31,7 +31,7 @@ use Rattle.search_rules.specs.FailedLaws.{isNothing, holds-exactly}
 use Rattle.search_rules.specs.DepthLaws.{holds-every-less}
 use Rattle.search.specs.targets.Seats.{IsMatch}
 use Rattle.search.specs.failed.Failures.{FailsBy, FirstToFail}
-use Rattle.search.specs.depth.Depths.{whyTo, among, HoldsSo, FailsAt, FailsAmong, Refers, FailsTo, KeepsOut}
+use Rattle.search.specs.depth.Depths.{whyTo, among, HoldsSo, FailsAt, FailsAmong, Refers, Carries, FailsTo, KeepsOut}
 use Rattle.search.specs.depth.StoredLaws.{segment-there, segment-lacks}
 
 -- a segment without references holds to every depth
@@ -87,6 +87,21 @@ module _ (cells : List ℕ) (rules : Rules) (segments : List ℕ) (n : ℕ) (ref
         ∙ to-holds depth at (row .references) q (among-to below depth at (row .references) q d h) symbols (recalledAt segments references symbols bytes masks (number .0))
         (ap (λ r. rowsOf referenceLayout references (r .references)) (sym e))
         ∙ ap (λ g. holdsTo cells rules (In symbols) depth g at) (sym (segment-there segments references symbols bytes masks n number l))
+
+  -- the segment of a row has the row's references
+  pub carries-row : (number : SegmentNumber) (row : SegmentRow) → row ≡ segmentRowAt segments (number .0) → Carries cells rules segments n references bytes masks number (row .references)
+  unfolding recalledBy
+  carries-row number row e symbols l =
+      ap (λ g. g .references) (segment-there segments references symbols bytes masks n number l) ∙ ap (λ r. rowsOf referenceLayout references (r .references)) (sym e)
+
+  -- a match that is not kept out at a depth holds at every smaller one
+  pub held-less : (depth position : ℕ) (part : Part) (out : Bool) → KeepsOut cells rules segments n references bytes masks depth position part out → out ≡ false
+      → (number : SegmentNumber) → Carries cells rules segments n references bytes masks number part → number .0 < n → (below : ℕ) → below ≤ depth
+      → HoldsSo cells rules segments n references bytes masks below number position true
+  held-less depth position part out h is number carries l below less symbols =
+      let g = segmentOf (In symbols) number in
+      sym (holds-every-less cells rules (In symbols) depth below less g position
+      (sym (twice (holdsTo cells rules (In symbols) depth g position)) ∙ ap not (sym (h symbols g (carries symbols l)) ∙ is)))
 
   -- ONE REFERENCE, by its goal and target
   module _ (below k : ℕ) (goal : Goal) (target : Target) where

@@ -56,6 +56,10 @@ module _ (cells : List ℕ) (rules : Rules) (segments : List ℕ) (n : ℕ) (ref
   abbrev pub Refers : Part → Collected → Type 0
   Refers part g = g .references ≡ rowsOf referenceLayout references part
 
+  -- the segment of a number, if there is one, has the references in a part of the rows
+  abbrev pub Carries : SegmentNumber → Part → Type 0
+  Carries number part = (symbols : List ℕ) → number .0 < n → Refers part (segmentOf (among symbols) number)
+
   -- the first that fails at a depth, of a match of such a segment; and whether the match holds there
   abbrev pub FailsTo : ℕ → ℕ → Part → Failed → Type 0
   FailsTo depth position part q = (symbols : List ℕ) (g : Collected) → Refers part g → q ≡ failedTo cells rules (among symbols) depth g position

@@ -67,6 +67,7 @@ pub fn search_segment(
                 s,
                 rules,
                 asked.depth,
+                SegmentNumber(i),
                 at,
                 segments,
                 n,

@@ -15,6 +15,7 @@ use Rattle.search.specs.matches.Cursor.{placesLeft, Sound, Reached}
 use Rattle.search.specs.matches.StepLaws.{stepped-at, stepped-done, reached-less}
 use Rattle.search_rules.specs.declared.Asked.{Asked}
 use Rattle.search.specs.declared.visit.Fills.{Fills}
+use Rattle.search.specs.depth.DeepLaws.{carries-row}
 use Rattle.search.specs.visit.Visits.{Stored, stored, segmentsIn, Visits, ToldOf, KnownDeep}
 use Rattle.search.specs.visit.SegmentLaws.{matchAt, segment-matches, known-valid, visits-nothing}
 use Rattle.search.specs.visit.VisitsLeft.{Leading}
@@ -139,7 +140,14 @@ same-length-5 c = at-loop c .loop .inv .goals-long
 fails-deep-requires : tie.Need-fails-deep-requires Inv-loop μ-loop
 fails-deep-requires c κs =
     let known-told = c .before .before .before in
-    (omega (arith, c .before .if3 .taken), after-next-place known-told .before .loop .inv .truth)
+    let reaches = after-reaches known-told in
+    let e = at-entry (after-shared-slice-known5 reaches) in
+    let a = e .args in
+    let row = after-segment-at reaches .segment-at in (
+      omega (arith, c .before .if3 .taken),
+      after-next-place known-told .before .loop .inv .truth,
+      carries-row (seen e) (a .asked .rules) (a .segments .now) (a .n) (a .references .now) (a .bytes .now) (a .masks .now) (record { 0 = a .i }) (row .result) (row .ensures),
+    )
 
 decided : (c : tie.Joined3 Inv-loop μ-loop) → let reaches = after-reaches (c .before .before) in let e = at-entry (after-shared-slice-known5 reaches) in let a = e .args in
     KnownDeep (seen e) (a .asked) (a .library .now) (rows e) (a .n) (after-segment-at reaches .segment-at .result) (c .before .before .before .at .given .0 .0) (c .if3 .deep)
