@@ -52,14 +52,23 @@ fn is_library_next(image: &[u8], edition: u64, depth: u64) -> bool {
     }
 }
 
+// As much of a library as the program takes.
+fn taken(library: &[u8]) -> &[u8] {
+    if library.len() <= LONGEST {
+        return library;
+    }
+    bytes_of(library, LONGEST)
+}
+
 // A run takes longer libraries than the program does. One that is too long for the program is refused in its place in the order: behind an edition that is none,
-// a depth that is too great and an image that is too long, before a stretch that passes the image's end.
+// a depth that is too great and an image that is too long, before a stretch that passes the image's end. Where one of those is due the run does not look at the
+// library. It never gets more of it than the program takes, so that the compiler leaves the tables for longer libraries, which are never needed, off the stack.
 fn find_in(image: &[u8], library: &[u8], settings: Settings) {
     if LONGEST < library.len() && is_library_next(image, settings.edition, settings.depth) {
         say_refused(Refusal::LibraryTooLong, memory::lent());
         return;
     }
-    find(image, library, settings);
+    find(image, taken(library), settings);
 }
 
 // Lists what stands of the library in the image; both are told by the numbers of their words.
