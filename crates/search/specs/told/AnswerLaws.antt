@@ -12,18 +12,15 @@ use lib.ListN.{length, getD, set}
 use lib.Seq.{getD-set-same, getD-set-other}
 use Rattle.lent.specs.Choice.{if_then_else_}
 use Rattle.lent.specs.Rows.{flag}
+use Rattle.lent.specs.RowLaws.{flag-back}
 use Rattle.search.specs.declared.told.Recalled.{Recalled}
 use Rattle.search.specs.declared.told.Recalled.the-variants as Recalled
 use Rattle.search.specs.told.Answers.{answerOf, settles, recallOf, remembered}
 
--- a flag is 0 or 1, and says what it was made of
+-- a flag is 0 or 1
 pub flag-small : (b : Bool) → flag b < 2
 flag-small true = omega arith
 flag-small false = omega arith
-
-flag-read : (b : Bool) → eqb (flag b) 1 ≡ b
-flag-read true = refl
-flag-read false = refl
 
 module _ (number depth : ℕ) (holds : Bool) (shallow : depth < 4) where
   pub its-number : answerOf number depth holds / 8 ≡ number
@@ -33,7 +30,7 @@ module _ (number depth : ℕ) (holds : Bool) (shallow : depth < 4) where
   its-depth = omega (arith, shallow, flag-small holds)
 
   pub its-answer : eqb (answerOf number depth holds % 2) 1 ≡ holds
-  its-answer = let bit : answerOf number depth holds % 2 ≡ flag holds = omega (arith, flag-small holds) in ap (λ k. eqb k 1) bit ∙ flag-read holds
+  its-answer = let bit : answerOf number depth holds % 2 ≡ flag holds = omega (arith, flag-small holds) in ap (λ k. eqb k 1) bit ∙ flag-back holds
 
 -- an answer that settles a question is of its segment, and its own depth is above 0 and does
 pub record Of (answer number depth : ℕ) (holds : Bool) : Type 0 where
