@@ -9,7 +9,7 @@ use native.Mathlib.Omega.{arith}
 use borrow.Author.Tests.{le-leb, lt-leb}
 use lib.Dec.{eqb, leb}
 use Rattle.lent.specs.declared.refusal.Refusal.{Refusal}
-use Rattle.lent.specs.declared.refusal.Refusal.the-variants.{RuleSet, ImageTooLong, LibraryTooLong, StretchPastEnd, NoModule, BodyPastEnd, LengthZero, NamesDiffer, TooFewRows, UnknownKind, UnknownBlock, ContentPastSegment, NoKeptSegment, WrongSum, LeftOver, TooManyStretches, TooDeep, OtherEdition}
+use Rattle.lent.specs.declared.refusal.Refusal.the-variants.{RuleSet, ImageTooLong, LibraryTooLong, StretchPastEnd, NoModule, BodyPastEnd, LengthZero, NamesDiffer, TooFewRows, UnknownKind, UnknownBlock, ContentPastSegment, NoKeptSegment, WrongSum, LeftOver, TooManyStretches, TooDeep, NotBanked, OtherEdition}
 use Rattle.lent.specs.Choice.{if_then_else_}
 use Rattle.lent.specs.Refusals.{refusalNumber, zeroes, stageNumber}
 
@@ -17,7 +17,7 @@ use Rattle.lent.specs.Refusals.{refusalNumber, zeroes, stageNumber}
 abbrev pub everyRefusal : List Refusal
 everyRefusal =
     RuleSet ∷ ImageTooLong ∷ LibraryTooLong ∷ StretchPastEnd ∷ NoModule ∷ BodyPastEnd ∷ LengthZero ∷ NamesDiffer ∷ TooFewRows
-    ∷ UnknownKind ∷ UnknownBlock ∷ ContentPastSegment ∷ NoKeptSegment ∷ WrongSum ∷ LeftOver ∷ TooManyStretches ∷ TooDeep ∷ OtherEdition ∷ []
+    ∷ UnknownKind ∷ UnknownBlock ∷ ContentPastSegment ∷ NoKeptSegment ∷ WrongSum ∷ LeftOver ∷ TooManyStretches ∷ TooDeep ∷ NotBanked ∷ OtherEdition ∷ []
 
 -- the refusal of a number among some refusals, and else the first
 among : List Refusal → ℕ → Refusal
@@ -43,6 +43,7 @@ number-back WrongSum = refl
 number-back LeftOver = refl
 number-back TooManyStretches = refl
 number-back TooDeep = refl
+number-back NotBanked = refl
 number-back OtherEdition = refl
 
 pub number-tells : (a b : Refusal) → refusalNumber a ≡ refusalNumber b → a ≡ b
@@ -70,6 +71,7 @@ numbered WrongSum = omega arith
 numbered LeftOver = omega arith
 numbered TooManyStretches = omega arith
 numbered TooDeep = omega arith
+numbered NotBanked = omega arith
 numbered OtherEdition = omega arith
 
 -- 9 to 13 set lent memory to zero, and all others write nothing

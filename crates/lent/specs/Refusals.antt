@@ -4,7 +4,7 @@ use mathlib.Core.Bool.{Bool, _&&_}
 use mathlib.Core.Option.{Option, none, some}
 use lib.Dec.{leb}
 use Rattle.lent.specs.declared.refusal.Refusal.{Refusal}
-use Rattle.lent.specs.declared.refusal.Refusal.the-variants.{RuleSet, ImageTooLong, LibraryTooLong, StretchPastEnd, NoModule, BodyPastEnd, LengthZero, NamesDiffer, TooFewRows, UnknownKind, UnknownBlock, ContentPastSegment, NoKeptSegment, WrongSum, LeftOver, TooManyStretches, TooDeep, OtherEdition}
+use Rattle.lent.specs.declared.refusal.Refusal.the-variants.{RuleSet, ImageTooLong, LibraryTooLong, StretchPastEnd, NoModule, BodyPastEnd, LengthZero, NamesDiffer, TooFewRows, UnknownKind, UnknownBlock, ContentPastSegment, NoKeptSegment, WrongSum, LeftOver, TooManyStretches, TooDeep, NotBanked, OtherEdition}
 
 abbrev pub refusalNumber : Refusal → ℕ
 refusalNumber RuleSet = 1
@@ -24,6 +24,7 @@ refusalNumber WrongSum = 14
 refusalNumber LeftOver = 15
 refusalNumber TooManyStretches = 16
 refusalNumber TooDeep = 17
+refusalNumber NotBanked = 18
 refusalNumber OtherEdition = 30
 
 -- 9 to 13 come when lent memory is in use already, and set it to zero; every other refusal writes nothing

@@ -22,6 +22,7 @@ pub enum Refusal {
     LeftOver,
     TooManyStretches,
     TooDeep,
+    NotBanked,
     OtherEdition,
 }
 
@@ -47,6 +48,7 @@ pub fn number(r: Refusal) -> u8
         Refusal::LeftOver => 15,
         Refusal::TooManyStretches => 16,
         Refusal::TooDeep => 17,
+        Refusal::NotBanked => 18,
         Refusal::OtherEdition => 30,
     }
 }

@@ -25,7 +25,7 @@ use Rattle.listing_rules.specs.OrderLaws.{in-order}
 use Rattle.run.specs.declared.Settings.{Settings}
 use Rattle.run.specs.Run.{libraryRead, Lent, Yield, Outcome, askedOf, stages, counted, filledWith, runSeen, run, numberOf, countsOf, cover}
 use Rattle.run.specs.Given.{Given, NothingRefused}
-use Rattle.run.specs.Refused.{given-exactly, done-exactly}
+use Rattle.run.specs.Exactly.{given-exactly, done-exactly}
 use Rattle.run.specs.Answers.{SameLengths, Sound, sound, lengths-kept}
 use Rattle.run.specs.Withheld.{Fit, withholding, same-run, same-cover-run, plain-run}
 use Rattle.run.specs.Editions.{inEdition, edition-alone}

@@ -4,7 +4,7 @@ use mathlib.Core.Logic.{_⊎_}
 use mathlib.Core.List.{List}
 use lib.ListN.{length}
 use Rattle.lent.specs.declared.refusal.Refusal.{Refusal}
-use Rattle.lent.specs.declared.refusal.Refusal.the-variants.{RuleSet, ImageTooLong, LibraryTooLong, StretchPastEnd, NoModule, BodyPastEnd, LengthZero, NamesDiffer, TooFewRows, UnknownKind, UnknownBlock, ContentPastSegment, NoKeptSegment, WrongSum, LeftOver, TooManyStretches, TooDeep, OtherEdition}
+use Rattle.lent.specs.declared.refusal.Refusal.the-variants.{RuleSet, ImageTooLong, LibraryTooLong, StretchPastEnd, NoModule, BodyPastEnd, LengthZero, NamesDiffer, TooFewRows, UnknownKind, UnknownBlock, ContentPastSegment, NoKeptSegment, WrongSum, LeftOver, TooManyStretches, TooDeep, NotBanked, OtherEdition}
 use Rattle.lent.specs.FirstOf.{Quiet, First}
 use Rattle.image.specs.View.{view}
 use Rattle.image.specs.CoverLaws.{SomePasses, AllFit}
@@ -43,28 +43,41 @@ ListOver lent c = Over lineWidth (lent .lines) (c .lines)
 abbrev pub NoEdition : ℕ → Type 0
 NoEdition n = (n < 1) ⊎ (2 < n)
 
--- none of refusals 1, 30, 17, 2, 3, 16 and 4 applies
-pub record Accepted (image library : List ℕ) (s : Settings) : Type 0 where
+-- what an image's own refusal is in words, by what is searched: a single image has 2 and never 18, a board of switched banks 18
+-- and never 2; and when neither applies
+pub record Shape : Type 1 where
+  pub size : ℕ
+  pub Long : Type 0
+  pub Unbanked : Type 0
+  pub Fine : Type 0
+
+-- a single image of so many bytes
+abbrev pub single : ℕ → Shape
+single size = record { size = size; Long = 65536 < size; Unbanked = ⊥; Fine = size ≤ 65536 }
+
+-- none of refusals 1, 30, 17, the image's own, 3, 16 and 4 applies
+pub record AcceptedBy (Fine : Type 0) (size : ℕ) (library : List ℕ) (s : Settings) : Type 0 where
   pub rule-set : s .rules ≤ 1
   pub edition : NoEdition (s .edition) → ⊥
   pub shallow : s .depth ≤ 4
-  pub image-fits : length image ≤ 65536
+  pub image-fits : Fine
   pub library-fits : length library ≤ 1048576
   pub few : s .withheld .count ≤ 16
-  pub stretches-fit : AllFit (length image) (cover s)
+  pub stretches-fit : AllFit size (cover s)
 
--- for a run's image, library, settings and lent lists: when each refusal is given, with all earlier ones ruled out
-module _ (image library : List ℕ) (s : Settings) (lent : Lent) where
-  abbrev pub counts : Counts
-  counts = counted (stages (view image (cover s)) library s)
-
+-- for what is searched, a library, settings, lent lists, and the counts of what has to fit into these: when each refusal is given, with all
+-- earlier ones ruled out
+module _ (h : Shape) (library : List ℕ) (s : Settings) (lent : Lent) (counts : Counts) where
   -- the library, in the edition of the settings
   abbrev pub e : Edition
   e = editionOf (s .edition)
 
+  abbrev pub SettingsFine : Type 0
+  SettingsFine = AcceptedBy (h .Fine) (h .size) library s
+
   -- what comes before the tests of 10 to 13: the settings are accepted, the file is read, no 9 for the collection
-  pub record Reached : Type 0 where
-    pub accepted : Accepted image library s
+  pub record ReachedBy : Type 0 where
+    pub accepted : AcceptedBy (h .Fine) (h .size) library s
     pub all-read : FileRead e library
     pub room : CollectionOver lent counts → ⊥
 
@@ -73,38 +86,52 @@ module _ (image library : List ℕ) (s : Settings) (lent : Lent) where
   FirstTest Case = First testRefusal Case (tests (modulesIn (libraryRead library s)))
 
   -- 9 for the collection; or, once none of 10 to 13 applies, for the search or the listing
-  abbrev pub TooLittle : Type 0
-  TooLittle =
-      (Accepted image library s × FileRead e library × CollectionOver lent counts)
-      ⊎ (Reached × Quiet testRefusal (tests (modulesIn (libraryRead library s))) × (SearchOver lent counts ⊎ ListOver lent counts))
+  abbrev pub TooLittleBy : Type 0
+  TooLittleBy =
+      (SettingsFine × FileRead e library × CollectionOver lent counts)
+      ⊎ (ReachedBy × Quiet testRefusal (tests (modulesIn (libraryRead library s))) × (SearchOver lent counts ⊎ ListOver lent counts))
 
   -- DOCUMENT 01'S TABLE, "Given exactly when", with what later requests add
-  abbrev pub Given : Refusal → Type 0
-  Given RuleSet = 1 < s .rules
-  Given OtherEdition = (s .rules ≤ 1) × NoEdition (s .edition)
-  Given TooDeep = (s .rules ≤ 1) × (NoEdition (s .edition) → ⊥) × (4 < s .depth)
-  Given ImageTooLong = (s .rules ≤ 1) × (NoEdition (s .edition) → ⊥) × (s .depth ≤ 4) × (65536 < length image)
-  Given LibraryTooLong = (s .rules ≤ 1) × (NoEdition (s .edition) → ⊥) × (s .depth ≤ 4) × (length image ≤ 65536) × (1048576 < length library)
-  Given TooManyStretches =
-      (s .rules ≤ 1) × (NoEdition (s .edition) → ⊥) × (s .depth ≤ 4) × (length image ≤ 65536) × (length library ≤ 1048576) × (16 < s .withheld .count)
-  Given StretchPastEnd =
-      (s .rules ≤ 1) × (NoEdition (s .edition) → ⊥) × (s .depth ≤ 4) × (length image ≤ 65536) × (length library ≤ 1048576) × (s .withheld .count ≤ 16)
-      × SomePasses (length image) (cover s)
-  Given NoModule = Accepted image library s × NothingRead e library
-  Given BodyPastEnd = Accepted image library s × BodyPasses e library
-  Given LengthZero = Accepted image library s × LengthIsZero e library
-  Given NamesDiffer = Accepted image library s × NamesApart e library
-  Given WrongSum = Accepted image library s × SumIsWrong e library
-  Given LeftOver = Accepted image library s × LeavesOver e library
-  Given TooFewRows = TooLittle
-  Given UnknownKind = Reached × FirstTest KindAbove
-  Given UnknownBlock = Reached × FirstTest BlockAbove
-  Given ContentPastSegment = Reached × FirstTest PastSegment
-  Given NoKeptSegment = Reached × FirstTest NowhereKept
+  abbrev pub GivenBy : Refusal → Type 0
+  GivenBy RuleSet = 1 < s .rules
+  GivenBy OtherEdition = (s .rules ≤ 1) × NoEdition (s .edition)
+  GivenBy TooDeep = (s .rules ≤ 1) × (NoEdition (s .edition) → ⊥) × (4 < s .depth)
+  GivenBy ImageTooLong = (s .rules ≤ 1) × (NoEdition (s .edition) → ⊥) × (s .depth ≤ 4) × h .Long
+  GivenBy NotBanked = (s .rules ≤ 1) × (NoEdition (s .edition) → ⊥) × (s .depth ≤ 4) × h .Unbanked
+  GivenBy LibraryTooLong = (s .rules ≤ 1) × (NoEdition (s .edition) → ⊥) × (s .depth ≤ 4) × h .Fine × (1048576 < length library)
+  GivenBy TooManyStretches =
+      (s .rules ≤ 1) × (NoEdition (s .edition) → ⊥) × (s .depth ≤ 4) × h .Fine × (length library ≤ 1048576) × (16 < s .withheld .count)
+  GivenBy StretchPastEnd =
+      (s .rules ≤ 1) × (NoEdition (s .edition) → ⊥) × (s .depth ≤ 4) × h .Fine × (length library ≤ 1048576) × (s .withheld .count ≤ 16)
+      × SomePasses (h .size) (cover s)
+  GivenBy NoModule = SettingsFine × NothingRead e library
+  GivenBy BodyPastEnd = SettingsFine × BodyPasses e library
+  GivenBy LengthZero = SettingsFine × LengthIsZero e library
+  GivenBy NamesDiffer = SettingsFine × NamesApart e library
+  GivenBy WrongSum = SettingsFine × SumIsWrong e library
+  GivenBy LeftOver = SettingsFine × LeavesOver e library
+  GivenBy TooFewRows = TooLittleBy
+  GivenBy UnknownKind = ReachedBy × FirstTest KindAbove
+  GivenBy UnknownBlock = ReachedBy × FirstTest BlockAbove
+  GivenBy ContentPastSegment = ReachedBy × FirstTest PastSegment
+  GivenBy NoKeptSegment = ReachedBy × FirstTest NowhereKept
 
   -- 0: done, where none of them applies
-  pub record NothingRefused : Type 0 where
-    pub reached : Reached
+  pub record NothingRefusedBy : Type 0 where
+    pub reached : ReachedBy
     pub tested : Quiet testRefusal (tests (modulesIn (libraryRead library s)))
     pub searched : SearchOver lent counts → ⊥
     pub listed : ListOver lent counts → ⊥
+
+-- the same for a run on a single image
+abbrev pub Accepted : List ℕ → List ℕ → Settings → Type 0
+Accepted image library s = AcceptedBy (length image ≤ 65536) (length image) library s
+
+abbrev pub counts : List ℕ → List ℕ → Settings → Counts
+counts image library s = counted (stages (view image (cover s)) library s)
+
+abbrev pub Given : List ℕ → List ℕ → Settings → Lent → Refusal → Type 0
+Given image library s lent = GivenBy (single (length image)) library s lent (counts image library s)
+
+abbrev pub NothingRefused : List ℕ → List ℕ → Settings → Lent → Type 0
+NothingRefused image library s lent = NothingRefusedBy (single (length image)) library s lent (counts image library s)

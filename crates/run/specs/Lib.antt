@@ -6,6 +6,7 @@ pub mod Order
 pub mod Given
 pub mod StageLaws
 pub mod Refused
+pub mod Exactly
 pub mod Answers
 pub mod Own
 pub mod OwnAddress

@@ -116,16 +116,21 @@ otherEdition n = ltb n 1 || ltb 2 n
 abbrev pub tooDeep : ℕ → Bool
 tooDeep depth = ltb 4 depth
 
--- the refusals of a run in their order, of which the first that applies counts; the view is as long as the image
-unfoldable pub refusals : List ℕ → List ℕ → Settings → Lent → Counts → List (Option Refusal)
-refusals cells library s lent c =
+-- an image's own refusal, by its length
+abbrev pub tooLong : ℕ → Option Refusal
+tooLong size = when (ltb 65536 size) ImageTooLong
+
+-- the refusals of a run in their order, of which the first that applies counts: by the refusal that is the image's own, its
+-- length, and the counts of what has to fit into lent memory
+unfoldable pub refusals : Option Refusal → ℕ → List ℕ → Settings → Lent → Counts → List (Option Refusal)
+refusals own size library s lent c =
     when (ltb 1 (s .rules)) RuleSet
     ∷ when (otherEdition (s .edition)) OtherEdition
     ∷ when (tooDeep (s .depth)) TooDeep
-    ∷ when (ltb 65536 (length cells)) ImageTooLong
+    ∷ own
     ∷ when (ltb 1048576 (length library)) LibraryTooLong
     ∷ when (tooManyStretches (s .withheld)) TooManyStretches
-    ∷ when (passesEnd (length cells) (cover s)) StretchPastEnd
+    ∷ when (passesEnd size (cover s)) StretchPastEnd
     ∷ fileRefusal (libraryRead library s)
     ∷ when (collectOver lent c) TooFewRows
     ∷ collectRefusal (modulesIn (libraryRead library s))
@@ -168,11 +173,15 @@ abbrev pub outcomeOf : List ℕ → Option Refusal → Yield → Lent → Outcom
 outcomeOf library none y lent = record { answer = Done (counted y); left = filledWith library y lent }
 outcomeOf library (some r) y lent = record { answer = Refused r; left = leftBy r lent }
 
--- the run on the cells of a view
+-- the outcome of a run by its refusals and by what the stages give
+abbrev pub runBy : Option Refusal → ℕ → List ℕ → Settings → Lent → Counts → Yield → Outcome
+runBy own size library s lent c y = outcomeOf library (leading (refusals own size library s lent c)) y lent
+
+-- the run on the cells of a view, which is as long as the image
 unfoldable pub runSeen : List ℕ → List ℕ → Settings → Lent → Outcome
 runSeen cells library s lent =
     let y = stages cells library s in
-    outcomeOf library (leading (refusals cells library s lent (counted y))) y lent
+    runBy (tooLong (length cells)) (length cells) library s lent (counted y) y
 
 -- THE RUN on an image: it sees only the view, in which the stretches are withheld
 unfoldable pub run : List ℕ → List ℕ → Settings → Lent → Outcome

@@ -10,13 +10,14 @@ use borrow.Author.Tests.{eq-eqb, le-leb, ltb-true, ltb-false, lt-ltb, le-ltb}
 use lib.Dec.{eqb, leb, ltb}
 use lib.ListN.{length}
 use Rattle.lent.specs.declared.refusal.Refusal.{Refusal}
-use Rattle.lent.specs.declared.refusal.Refusal.the-variants.{RuleSet, ImageTooLong, LibraryTooLong, StretchPastEnd, NoModule, BodyPastEnd, LengthZero, NamesDiffer, TooFewRows, UnknownKind, UnknownBlock, ContentPastSegment, NoKeptSegment, WrongSum, LeftOver, TooManyStretches, TooDeep, OtherEdition}
+use Rattle.lent.specs.declared.refusal.Refusal.the-variants.{RuleSet, ImageTooLong, LibraryTooLong, StretchPastEnd, NoModule, BodyPastEnd, LengthZero, NamesDiffer, TooFewRows, UnknownKind, UnknownBlock, ContentPastSegment, NoKeptSegment, WrongSum, LeftOver, TooManyStretches, TooDeep, NotBanked, OtherEdition}
 use Rattle.lent.specs.Choice.{when}
 use Rattle.lent.specs.ChoiceLaws.{either}
 use Rattle.lent.specs.FirstOf.{none≢some}
 use Rattle.lent.specs.Refusals.{refusalNumber}
 use Rattle.lent.specs.RefusalLaws.{same-number}
 use Rattle.lent.specs.Rows.{tooMany}
+use Rattle.image.specs.Cover.{tooManyStretches}
 use Rattle.omf51.specs.declared.Edition.{Edition}
 use Rattle.omf51.specs.Module.{Module}
 use Rattle.omf51.specs.File.{fileBy, fileRefusal}
@@ -26,10 +27,11 @@ use Rattle.segments.specs.Refuse.{collectRefusal}
 use Rattle.segments.specs.RefuseLaws.{collect-late}
 use Rattle.segments.specs.SegmentRows.{segmentWidth, referenceWidth, symbolWidth}
 use Rattle.search_rules.specs.SearchRows.{placedWidth, notedWidth}
+use Rattle.run.specs.declared.Settings.{Settings}
 use Rattle.run.specs.declared.Counts.{Counts}
-use Rattle.run.specs.Run.{Lent, collectOver, searchOver}
+use Rattle.run.specs.Run.{Lent, collectOver, searchOver, otherEdition, tooDeep}
 use Rattle.run.specs.Order.{Stage}
-use Rattle.run.specs.Given.{Over, CollectionOver, SearchOver}
+use Rattle.run.specs.Given.{Over, CollectionOver, SearchOver, NoEdition}
 
 -- a test that refuses: with one refusal, exactly if it passes
 pub when-some : (t : Bool) (r : Refusal) → (when t r ≡ some r) ↔ (t ≡ true)
@@ -72,6 +74,7 @@ reading-stage e library = record { out = fileRefusal (fileBy e library); can = r
     go LeftOver h = refl
     go TooManyStretches h = absurd h
     go TooDeep h = absurd h
+    go NotBanked h = absurd h
     go OtherEdition h = absurd h
 
 abbrev pub collecting-stage : List Module → Stage
@@ -115,3 +118,32 @@ less a b r = Iff·trans (when-some (ltb a b) r) (ltb-true a b, lt-ltb a b)
 
 pub not-less : (a b : ℕ) (r : Refusal) → (when (ltb a b) r ≡ none) ↔ (b ≤ a)
 not-less a b r = Iff·trans (when-none (ltb a b) r) (ltb-false a b, le-ltb a b)
+
+-- the stages that look at the settings alone: each, and when it does not refuse, in words
+module _ (s : Settings) where
+  abbrev pub rules-stage : Stage
+  rules-stage = when-stage (ltb 1 (s .rules)) RuleSet
+
+  abbrev pub edition-stage : Stage
+  edition-stage = when-stage (otherEdition (s .edition)) OtherEdition
+
+  abbrev pub depth-stage : Stage
+  depth-stage = when-stage (tooDeep (s .depth)) TooDeep
+
+  abbrev pub count-stage : Stage
+  count-stage = when-stage (tooManyStretches (s .withheld)) TooManyStretches
+
+  pub rules-fine : (rules-stage .out ≡ none) ↔ (s .rules ≤ 1)
+  rules-fine = not-less 1 (s .rules) RuleSet
+
+  pub edition-other : (otherEdition (s .edition) ≡ true) ↔ NoEdition (s .edition)
+  edition-other = or-true-iff (ltb (s .edition) 1) (ltb 2 (s .edition)) (ltb-true (s .edition) 1, lt-ltb (s .edition) 1) (ltb-true 2 (s .edition), lt-ltb 2 (s .edition))
+
+  pub edition-fine : (edition-stage .out ≡ none) ↔ (NoEdition (s .edition) → ⊥)
+  edition-fine = Iff·trans (when-none (otherEdition (s .edition)) OtherEdition) (not-over (otherEdition (s .edition)) edition-other)
+
+  pub depth-fine : (depth-stage .out ≡ none) ↔ (s .depth ≤ 4)
+  depth-fine = not-less 4 (s .depth) TooDeep
+
+  pub count-fine : (count-stage .out ≡ none) ↔ (s .withheld .count ≤ 16)
+  count-fine = not-less 16 (s .withheld .count) TooManyStretches

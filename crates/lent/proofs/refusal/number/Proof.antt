@@ -1,4 +1,4 @@
--- `number`, case by case: eighteen of them are more than the search proves by itself. Assumes nothing.
+-- `number`, case by case: nineteen of them are more than the search proves by itself. Assumes nothing.
 use mathlib.Core.Path.{sym, ap}
 use borrow.Author.Needs.{needs}
 use Rattle.lent.specs.Refusals.{refusalNumber}
@@ -9,6 +9,7 @@ pub number-spec : {M : Type 1} → statement M
 number-spec =
     tie.close
     (tie.spec
+    (λ c. search needs)
     (λ c. search needs)
     (λ c. search needs)
     (λ c. search needs)
@@ -44,4 +45,5 @@ number-spec =
     (λ c. ap refusalNumber (sym (c .enum-told15 .given .1)))
     (λ c. ap refusalNumber (sym (c .enum-told16 .given .1)))
     (λ c. ap refusalNumber (sym (c .enum-told17 .given .1)))
-    (λ c. ap refusalNumber (sym (c .enum-told18 .given .1))))
+    (λ c. ap refusalNumber (sym (c .enum-told18 .given .1)))
+    (λ c. ap refusalNumber (sym (c .enum-told19 .given .1))))
