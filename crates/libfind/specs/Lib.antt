@@ -3,6 +3,8 @@ pub mod Begin
 pub mod BeginLaws
 pub mod Ends
 pub mod EndLaws
+pub mod FoundLaws
+pub mod SingleLaws
 pub mod FlowLaws
 pub mod StageNumbers
 pub mod OneOutcome

@@ -59,11 +59,11 @@ begin-of : (first : ℕ) (o : Option Refusal) → beginningNumber (beginsAt firs
 begin-of first none = refl
 begin-of first (some r) = refl
 
-pub begin-number : (image library : List ℕ) (s : Settings) (r : Beginning) → r ≡ beginning image library s
-    → beginningNumber r ≡ stageNumber (orElse (settingsRefusal (length image) (length library) s) (fileRefusal (libraryRead library s)))
+pub begin-number : (own : Option Refusal) (size : ℕ) (library : List ℕ) (s : Settings) (r : Beginning) → r ≡ beginning own size library s
+    → beginningNumber r ≡ stageNumber (orElse (settingsRefusal own size (length library) s) (fileRefusal (libraryRead library s)))
 unfolding beginning
-begin-number image library s r c =
-    ap beginningNumber c ∙ begin-of (firstAt library) (orElse (settingsRefusal (length image) (length library) s) (fileRefusal (libraryRead library s)))
+begin-number own size library s r c =
+    ap beginningNumber c ∙ begin-of (firstAt library) (orElse (settingsRefusal own size (length library) s) (fileRefusal (libraryRead library s)))
 
 collect-of : (o : Option Refusal) (gs : List Collected) (l : CollectLists) → collectionNumber (collectOutcomeOf o gs l .answer) ≡ stageNumber o
 collect-of none gs l = refl

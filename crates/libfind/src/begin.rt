@@ -1,7 +1,7 @@
 // The beginning of a run, before anything is written: the settings, the lengths, and whether the library can be read.
 ghost use mathlib.Core.Path.{_≡_};
-ghost use Rattle.run.specs.Run.{otherEdition};
-ghost use Rattle.libfind.specs.Begin.{settingsRefusal, checked, beginning};
+ghost use Rattle.run.specs.Run.{otherEdition, tooLong};
+ghost use Rattle.libfind.specs.Begin.{settingsRefusal, checked, refusalIn, beginning};
 use image::LONGEST_IMAGE;
 use image::cover::MOST_STRETCHES;
 use image::cover::first_pairs;
@@ -16,7 +16,8 @@ use run::Settings;
 // The greatest depth to which references are checked.
 const DEEPEST: u64 = 4;
 
-// Whether the settings and lengths are accepted, or the first of refusals 1, 30, 17, 2, 3, 16 and 4 that applies.
+// Whether something is accepted, or a refusal: of an image for itself, or the first of refusals 1, 30, 17, the image's own, 3,
+// 16 and 4 that applies.
 pub enum Checked {
     Accepted,
     Refused(Refusal),
@@ -38,9 +39,20 @@ fn is_other_edition(number: u64) -> bool
     2 < number
 }
 
-// Checks the settings, and the lengths of the image and of the library.
-fn check(image: usize, library: usize, settings: Settings) -> Checked
-    ensures { λ r. ⌜ r ≡ checked (settingsRefusal image library settings) ⌝ }
+// Whether an image of this length is accepted for itself: as a single image it has 65,536 bytes at most.
+pub fn single(size: usize) -> Checked
+    ensures { λ r. ⌜ r ≡ checked (tooLong size) ⌝ }
+{
+    if LONGEST_IMAGE < size {
+        return Checked::Refused(Refusal::ImageTooLong);
+    }
+    Checked::Accepted
+}
+
+// Checks the settings, and the lengths of the library and of the stretches. The image was checked for itself; `size` is its
+// length.
+fn check(own: Checked, size: usize, library: usize, settings: Settings) -> Checked
+    ensures { λ r. ⌜ r ≡ checked (settingsRefusal (refusalIn own) size library settings) ⌝ }
 {
     if 1 < settings.rules {
         return Checked::Refused(Refusal::RuleSet);
@@ -51,9 +63,9 @@ fn check(image: usize, library: usize, settings: Settings) -> Checked
     if DEEPEST < settings.depth {
         return Checked::Refused(Refusal::TooDeep);
     }
-    if LONGEST_IMAGE < image {
-        return Checked::Refused(Refusal::ImageTooLong);
-    }
+    let Checked::Accepted = own else {
+        return own;
+    };
     if LONGEST_LIBRARY < library {
         return Checked::Refused(Refusal::LibraryTooLong);
     }
@@ -62,17 +74,17 @@ fn check(image: usize, library: usize, settings: Settings) -> Checked
         return Checked::Refused(Refusal::TooManyStretches);
     }
     let pairs = withheld.pairs;
-    if passes_end(first_pairs(&pairs, withheld.count), image) {
+    if passes_end(first_pairs(&pairs, withheld.count), size) {
         return Checked::Refused(Refusal::StretchPastEnd);
     }
     Checked::Accepted
 }
 
-// Checks the settings and lengths, and then reads the library.
-pub fn begin(image: &[u8], library: &[u8], settings: Settings) -> Beginning
-    ensures { λ r. ⌜ r ≡ beginning (now (image .entry)) (now (library .entry)) settings ⌝ }
+// Checks the settings and lengths, and then reads the library. The image was checked for itself; `size` is its length.
+pub fn begin(own: Checked, size: usize, library: &[u8], settings: Settings) -> Beginning
+    ensures { λ r. ⌜ r ≡ beginning (refusalIn own) size (now (library .entry)) settings ⌝ }
 {
-    match check(image.len(), library.len(), settings) {
+    match check(own, size, library.len(), settings) {
         Checked::Accepted => match read(library, edition_of(settings.edition)) {
             Reading::Modules { first, count } => Beginning::At(first),
             Reading::Refused(r) => Beginning::Refused(r),

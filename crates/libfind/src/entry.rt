@@ -5,6 +5,7 @@ ghost use Rattle.run.specs.Run.{lentLists, run};
 ghost use Rattle.libfind.specs.Ends.{FindsFrom};
 use crate::begin::Beginning;
 use crate::begin::begin;
+use crate::begin::single;
 use crate::collected::find_collected;
 use crate::collected::rules_of;
 use collect::Collection;
@@ -33,7 +34,7 @@ pub fn find_names(
         ≡ run (now (image .entry)) (now (library .entry)) settings
         (lentLists (now (segments .entry)) (now (references .entry)) (now (symbols .entry)) (now (bytes .entry)) (now (masks .entry)) (now (placed .entry)) (now (noted .entry)) (now (lines .entry))) ⌝ }
 {
-    match begin(image, library, settings) {
+    match begin(single(image.len()), image.len(), library, settings) {
         Beginning::At(first) => find_from(
             image,
             library,

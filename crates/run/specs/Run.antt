@@ -72,26 +72,34 @@ askedOf s = record { rules = rulesOf (s .rules); depth = s .depth; minimum = s .
 abbrev pub libraryRead : List ℕ → Settings → ReadOutcome (List Module)
 libraryRead library s = fileBy (editionOf (s .edition)) library
 
+-- its segments
+abbrev pub segmentsOf : List ℕ → Settings → List Collected
+segmentsOf library s = collect (rulesOf (s .rules)) library (modulesIn (libraryRead library s))
+
 -- the stages, one after another, on the cells of a view: reading and collecting, searching, listing
 unfoldable pub stages : List ℕ → List ℕ → Settings → Yield
 stages cells library s =
     let a : Asked = askedOf s in
-    let segments = collect (a .rules) library (modulesIn (libraryRead library s)) in
+    let segments = segmentsOf library s in
     let p = placed library cells a segments in
     let n = noted library cells a segments in
     record { segments = segments; placed = p; noted = n; lines = listing library cells a (s .skip) segments p n }
 
--- the seven counts: rows of each stage, and pattern bytes
-unfoldable pub counted : Yield → Counts
-counted y = record {
-  segments = length (y .segments);
-  references = total (λ g. length (g .references)) (y .segments);
-  symbols = total (λ g. length (g .symbols)) (y .segments);
-  pattern = total (λ g. length (g .bytes)) (y .segments);
-  placed = length (y .placed);
-  noted = length (y .noted);
-  lines = length (y .lines);
+-- the seven counts: rows and pattern bytes of the segments, and so many rows and lines of the later stages
+abbrev pub countsWith : List Collected → ℕ → ℕ → ℕ → Counts
+countsWith gs placed noted lines = record {
+  segments = length gs;
+  references = total (λ g. length (g .references)) gs;
+  symbols = total (λ g. length (g .symbols)) gs;
+  pattern = total (λ g. length (g .bytes)) gs;
+  placed = placed;
+  noted = noted;
+  lines = lines;
 }
+
+-- the counts of what the stages give
+unfoldable pub counted : Yield → Counts
+counted y = countsWith (y .segments) (length (y .placed)) (length (y .noted)) (length (y .lines))
 
 -- refusal 9 for the collection: it gives more rows or pattern bytes than were lent; each pattern byte takes a byte and a mask
 abbrev pub collectOver : Lent → Counts → Bool

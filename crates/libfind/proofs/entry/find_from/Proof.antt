@@ -11,7 +11,7 @@ use Rattle.collect.specs.stored.Segments.{lists}
 use Rattle.collect.specs.Outcome.{CollectOutcome, collection}
 use Rattle.run.specs.Run.{Lent, lentLists}
 use Rattle.libfind.specs.Ends.{collectable}
-use Rattle.libfind.specs.EndLaws.{refused-collecting, collected-then}
+use Rattle.libfind.specs.SingleLaws.{image-short, refused-collecting, collected-then}
 
 -- The ladder: places of the code that the answers cite, each as it is seen from a later place.
 abbrev after-symbols : tie.After-slice-known13 → tie.After-symbols
@@ -82,7 +82,7 @@ returns c =
     let a = entry .args in
     let q = after-segments slice-known13 .before .collect in
     let left : CollectLists = lists (q .last .1 .1 .1 .0) (q .last .1 .1 .1 .1 .0) (q .last .1 .1 .1 .1 .1 .0) (q .last .1 .1 .1 .1 .1 .1 .0) (q .last .1 .1 .1 .1 .1 .1 .1 .0) in
-    after-symbols2 c .before .before .before .before .before .find-collected .ensures (b .accepted .image-fits)
+    after-symbols2 c .before .before .before .before .before .find-collected .ensures (image-short (a .image .now) (a .library .now) (a .settings) (lent entry) b)
     ∙ collected-then (a .image .now) (a .library .now) (a .settings) (lent entry) b
     (ap (λ r. record { answer = r; left = left }) (sym (after-collected (after-symbols2 c) .collected .given .1)) ∙ q .ensures ∙ ap (collected entry) (after-rules-of slice-known13 .rules-of .ensures))
 
