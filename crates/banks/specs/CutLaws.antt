@@ -1,0 +1,138 @@
+-- A BANK'S VIEW OF WHAT IS WITHHELD: the view of a board's cells is that of the bank's bytes under the stretches that are cut. Assumes nothing.
+use Prim.Native.Nat.{ℕ, zero, suc, _+_, _-_, _*_, _≤_, _<_, min}
+use mathlib.Core.Path.{_≡_, refl, sym, ap, _∙_}
+use mathlib.Core.Bool.{Bool, true, false, _&&_, _||_}
+use mathlib.Core.List.{List, [], _∷_, _++_, map}
+use native.Mathlib.Decide.{decLt}
+use native.Mathlib.Omega.{arith}
+use borrow.Author.Tests.{ltb-true, ltb-false, lt-ltb, le-ltb, le-leb, lt-leb}
+use lib.Dec.{leb, ltb}
+use lib.ListN.{length, getD, take, drop, length-append, length-drop, List·getD-append}
+use lib.Seq.{ext-getD, getD-take, getD-drop, getD-append-add, length-take-le}
+use Rattle.lent.specs.Choice.{if_then_else_}
+use Rattle.lent.specs.Lists.{any}
+use Rattle.image.specs.declared.Stretch.{Stretch}
+use Rattle.image.specs.View.{inOne, within, stretchesIn, seen, view, cellAt}
+use Rattle.image.specs.ViewLaws.{view-length, view-cell}
+use Rattle.banks.specs.Banks.{bankCells}
+use Rattle.banks.specs.Cut.{place, cutOne, cutNumbers}
+
+-- a place in the view stands for one of the file: of the common part, or of the bank
+pub record Stands (k x i : ℕ) : Type 0 where
+  pub below : i < 65536
+  pub common : i < 32768 → x ≡ i
+  pub bank : 32768 ≤ i → x ≡ i + 32768 * k
+
+-- from a place on, up to another
+before-end : (i from upTo : ℕ) → from ≤ i → i < upTo → i < from + (upTo - from)
+before-end i from upTo a b = omega (arith, a, b)
+
+behind-end : (i from upTo : ℕ) → from ≤ i → upTo ≤ i → from + (upTo - from) ≤ i
+behind-end i from upTo a b = omega (arith, a, b)
+
+module _ (k x i : ℕ) (h : Stands k x i) where
+  -- up to such a place as many bytes of the view lie as of the file that it shows
+  place-at-most : (y : ℕ) → y ≤ x → place k y ≤ i
+  place-at-most y l = go (decLt i 32768)
+    where
+      go : Dec (i < 32768) → place k y ≤ i
+      go (yes c) = omega (arith, h .common c)
+      go (no c) = omega (arith, h .bank (omega arith))
+
+  place-above : (y : ℕ) → x < y → i < place k y
+  place-above y l = go (decLt i 32768)
+    where
+      go : Dec (i < 32768) → i < place k y
+      go (yes c) = omega (arith, h .common c)
+      go (no c) = omega (arith, h .bank (omega arith), h .below)
+
+  -- so it lies in a stretch of the file exactly if it lies in what is cut of it
+  one-same : (s : Stretch) → inOne (cutOne k s) i ≡ inOne s x
+  one-same s = go (decLt x (s .start)) (decLt x (s .start + s .len))
+    where
+      from : ℕ
+      from = place k (s .start)
+
+      upTo : ℕ
+      upTo = place k (s .start + s .len)
+
+      go : Dec (x < s .start) → Dec (x < s .start + s .len) → inOne (cutOne k s) i ≡ inOne s x
+      go (yes l) d = rw (lt-leb from i (place-above (s .start) l), lt-leb (s .start) x l) refl
+      go (no l) (yes d) =
+          let a = place-at-most (s .start) (omega arith) in
+          let e = before-end i from upTo a (place-above (s .start + s .len) d) in
+          rw (le-leb from i a, le-leb (s .start) x (omega arith), lt-ltb i (from + (upTo - from)) e, lt-ltb x (s .start + s .len) d) refl
+      go (no l) (no d) =
+          let a = place-at-most (s .start) (omega arith) in
+          let e = behind-end i from upTo a (place-at-most (s .start + s .len) (omega arith)) in
+          rw (le-leb from i a, le-leb (s .start) x (omega arith), le-ltb i (from + (upTo - from)) e, le-ltb x (s .start + s .len) (omega arith)) refl
+
+  pub within-same : (cover : List Stretch) → within (map (cutOne k) cover) i ≡ within cover x
+  unfolding any
+  within-same [] = refl
+  within-same (s ∷ rest) = rw (one-same s, within-same rest) refl
+
+-- the numbers of a cover, cut
+pub cut-stretches : (k : ℕ) (xs : List ℕ) → stretchesIn (cutNumbers k xs) ≡ map (cutOne k) (stretchesIn xs)
+unfolding stretchesIn cutNumbers
+cut-stretches k [] = refl
+cut-stretches k (start ∷ []) = refl
+cut-stretches k (start ∷ len ∷ rest) = ap (λ r. record { start = place k start; len = place k (start + len) - place k start } ∷ r) (cut-stretches k rest)
+
+-- every place of the view stands for one of the file
+stands-at : (k i : ℕ) → i < 65536 → (x : ℕ) × Stands k x i
+stands-at k i h = go (decLt i 32768)
+  where
+    go : Dec (i < 32768) → (x : ℕ) × Stands k x i
+    go (yes c) = (i, record { below = h; common = λ _. refl; bank = λ l. absurd (omega arith) })
+    go (no c) = (i + 32768 * k, record { below = h; common = λ l. absurd (omega arith); bank = λ _. refl })
+
+-- a board has bank k
+module _ (k : ℕ) where
+  abbrev pub Has : List ℕ → Type 0
+  Has cells = 32768 * (k + 2) ≤ length cells
+
+  bank-length : (cells : List ℕ) → Has cells → length (take 32768 (drop (32768 * (k + 1)) cells)) ≡ 32768
+  bank-length cells h = length-take-le 32768 (drop (32768 * (k + 1)) cells) (omega (arith, h, length-drop (32768 * (k + 1)) cells))
+
+  common-length : (cells : List ℕ) → Has cells → length (take 32768 cells) ≡ 32768
+  common-length cells h = length-take-le 32768 cells (omega (arith, h))
+
+  pub cells-length : (cells : List ℕ) → Has cells → length (bankCells k cells) ≡ 65536
+  unfolding bankCells
+  cells-length cells h =
+      omega (arith, length-append (take 32768 cells) (take 32768 (drop (32768 * (k + 1)) cells)), common-length cells h, bank-length cells h)
+
+  cell-at : (cells : List ℕ) → Has cells → (x i : ℕ) → Stands k x i → getD (bankCells k cells) i 0 ≡ getD cells x 0
+  unfolding bankCells
+  cell-at cells h x i at = go (decLt i 32768)
+    where
+      go : Dec (i < 32768) → getD (take 32768 cells ++ take 32768 (drop (32768 * (k + 1)) cells)) i 0 ≡ getD cells x 0
+      go (yes c) =
+          List·getD-append (take 32768 cells) (take 32768 (drop (32768 * (k + 1)) cells)) 0 i (omega (arith, common-length cells h, c))
+          ∙ getD-take 32768 cells i 0 c ∙ ap (λ n. getD cells n 0) (sym (at .common c))
+      go (no c) =
+          ap (λ n. getD (take 32768 cells ++ take 32768 (drop (32768 * (k + 1)) cells)) n 0) (omega (arith, common-length cells h))
+          ∙ getD-append-add (take 32768 cells) (take 32768 (drop (32768 * (k + 1)) cells)) (i - 32768) 0
+          ∙ getD-take 32768 (drop (32768 * (k + 1)) cells) (i - 32768) 0 (omega (arith, at .below))
+          ∙ getD-drop (32768 * (k + 1)) cells (i - 32768) 0
+          ∙ ap (λ n. getD cells n 0) (omega (arith, at .bank (omega arith)))
+
+  pub bank-view : (file : List ℕ) (cover : List Stretch) → Has file → bankCells k (view file cover) ≡ view (bankCells k file) (map (cutOne k) cover)
+  bank-view file cover h =
+      ext-getD 0 (bankCells k (view file cover)) (view (bankCells k file) (map (cutOne k) cover))
+      (cells-length (view file cover) seen-long ∙ sym (view-length (bankCells k file) (map (cutOne k) cover) ∙ cells-length file h))
+      (λ i l. let z = cells-length (view file cover) seen-long in cell i (omega (arith, l, z)) (stands-at k i (omega (arith, l, z))))
+    where
+      seen-long : Has (view file cover)
+      seen-long = omega (arith, h, view-length file cover)
+
+      cell : (i : ℕ) → i < 65536 → (x : ℕ) × Stands k x i → cellAt (bankCells k (view file cover)) i ≡ cellAt (view (bankCells k file) (map (cutOne k) cover)) i
+      cell i l (x, at) =
+          cell-at (view file cover) seen-long x i at
+          ∙ view-cell file cover x (there (decLt i 32768))
+          ∙ sym (view-cell (bankCells k file) (map (cutOne k) cover) i (omega (arith, l, cells-length file h)) ∙ rw (within-same k x i at cover, cell-at file h x i at) refl)
+        where
+          there : Dec (i < 32768) → x < length file
+          there (yes c) = omega (arith, at .common c, h)
+          there (no c) = omega (arith, at .bank (omega arith), h, l)

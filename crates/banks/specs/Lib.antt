@@ -1,0 +1,4 @@
+-- Boards with switched banks: what a run on one is, and what is proved of it.
+pub mod Banks
+pub mod Cut
+pub mod CutLaws
