@@ -1,10 +1,10 @@
 -- What a stretch of a board's file withholds in a bank's view: a stretch of the view.
 use Prim.Native.Nat.{ℕ, _+_, _-_, _*_, min}
-use mathlib.Core.List.{List, [], _∷_, _++_}
-use lib.ListN.{take, drop}
+use mathlib.Core.List.{List, [], _∷_}
 use Rattle.image.specs.declared.Stretch.{Stretch}
 use Rattle.image.specs.declared.cover.Stretches.{Stretches}
 use Rattle.run.specs.declared.Settings.{Settings}
+use Rattle.run.specs.Withheld.{withholding}
 
 -- how many bytes of the first x of the file bank k's view shows: those of the common part, and those of the bank
 abbrev pub place : ℕ → ℕ → ℕ
@@ -20,13 +20,10 @@ cutNumbers k [] = []
 cutNumbers k (start ∷ []) = start ∷ []
 cutNumbers k (start ∷ len ∷ rest) = place k start ∷ (place k (start + len) - place k start) ∷ cutNumbers k rest
 
--- the stretches of settings, of which the first `count` pairs are cut
+-- the stretches of settings, each cut
 abbrev pub cutStretches : ℕ → Stretches → Stretches
-cutStretches k w = record {
-  count = w .count;
-  pairs = cutNumbers k (take (2 * min (w .count) 16) (w .pairs)) ++ drop (2 * min (w .count) 16) (w .pairs);
-}
+cutStretches k w = record { count = w .count; pairs = cutNumbers k (w .pairs) }
 
 -- the settings for bank k's view: only what is withheld differs
 abbrev pub cutSettings : ℕ → Settings → Settings
-cutSettings k s = record { rules = s .rules; edition = s .edition; depth = s .depth; minimum = s .minimum; skip = s .skip; withheld = cutStretches k (s .withheld) }
+cutSettings k s = withholding s (cutStretches k (s .withheld))

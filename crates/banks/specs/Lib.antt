@@ -2,3 +2,5 @@
 pub mod Banks
 pub mod Cut
 pub mod CutLaws
+pub mod ShowLaws
+pub mod Turns

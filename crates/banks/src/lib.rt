@@ -1,12 +1,11 @@
 // A board with switched banks: 32 KiB of common code and 1 to 16 banks of 32 KiB, which its file has one after another. The
 // part sees the common code and one bank at a time, as one image of 64 KiB: bank k's view.
+pub mod board;
+pub mod cut;
+mod one_view;
+pub mod view;
+
 use run::Answer;
-
-// The size of the common part, and of each bank.
-pub const BANK: usize = 32768;
-
-// A file has so many bytes at most: the common part and 16 banks.
-pub const LONGEST_BOARD: usize = 557056;
 
 // What is found on a board: the answer of the run, of which the lines are those of all banks, how many banks there are, and how
 // many lines each has. A refusal has no bank and no line.
