@@ -4,3 +4,4 @@ pub mod Cut
 pub mod CutLaws
 pub mod ShowLaws
 pub mod Turns
+pub mod FoundLaws
