@@ -5,3 +5,4 @@ pub mod CutLaws
 pub mod ShowLaws
 pub mod Turns
 pub mod FoundLaws
+pub mod OverLaws

@@ -1,18 +1,12 @@
 -- Once the segments are collected, search and list come to what the stages give on the cells of a view. Assumes nothing.
 use Prim.Native.Nat.{ℕ, _≤_}
 use mathlib.Core.Path.{_≡_, refl, ap, _∙_}
-use mathlib.Core.Bool.{Bool, true, false}
-use mathlib.Core.List.{List, [], _∷_}
+use mathlib.Core.List.{List}
 use mathlib.Core.Option.{Option, none, some}
-use native.Mathlib.Omega.{arith}
 use borrow.Author.Tests.{le-ltb}
 use lib.ListN.{length}
 use Rattle.lent.specs.declared.refusal.Refusal.{Refusal}
-use Rattle.lent.specs.declared.refusal.Refusal.the-variants.{TooFewRows}
-use Rattle.lent.specs.Choice.{when, leading}
-use Rattle.lent.specs.FirstOf.{none≢some}
-use Rattle.lent.specs.Refusals.{zeroes}
-use Rattle.lent.specs.RefusalLaws.{same-number, zeroes-late}
+use Rattle.lent.specs.Choice.{leading}
 use Rattle.image.specs.fixup.Target.{rulesOf}
 use Rattle.omf51.specs.File.{modulesIn}
 use Rattle.segments.specs.Collect.{Collected}
@@ -24,23 +18,10 @@ use Rattle.search.specs.visit.Visits.{segmentsIn}
 use Rattle.search.specs.Outcome.{searchZeroed, searchFilled}
 use Rattle.listing.specs.Outcome.{Yield as Findings, yields, refusalOf, findOutcomeOf, findOutcome}
 use Rattle.run.specs.declared.Settings.{Settings}
-use Rattle.run.specs.declared.Counts.{Counts}
 use Rattle.run.specs.declared.Answer.the-variants.{Refused}
-use Rattle.run.specs.Run.{Lent, Yield, askedOf, libraryRead, segmentsOf, stages, counted, searchOver, listOver, zeroed, filledWith, outcomeOf}
+use Rattle.run.specs.Run.{Lent, Yield, askedOf, libraryRead, segmentsOf, stages, counted, zeroed, filledWith, outcomeOf}
 use Rattle.libfind.specs.Ends.{collectable, findable, allOf, concluded, findingBy, Filled}
-
--- 9 for what is found sets all to zero
-pub finding-late : (lent : Lent) (c : Counts) {r : Refusal} → findingBy lent c ≡ some r → zeroes r ≡ true
-unfolding findingBy leading
-finding-late lent c {r} q = go (searchOver lent c) (listOver lent c) q
-  where
-    nine : some TooFewRows ≡ some r → zeroes r ≡ true
-    nine p = let n = same-number p in zeroes-late r (omega (arith, n)) (omega (arith, n))
-
-    go : (t u : Bool) → leading (when t TooFewRows ∷ when u TooFewRows ∷ []) ≡ some r → zeroes r ≡ true
-    go true u p = nine p
-    go false true p = nine p
-    go false false p = absurd (none≢some p)
+use Rattle.libfind.specs.FindingLaws.{finding-late}
 
 module _ (cells : List ℕ) (short : length cells ≤ 65536) (library : List ℕ) (s : Settings) (lent : Lent) {c : Stored} {left : Collectable} (f : Filled library s lent c left) where
   abbrev gs : List Collected

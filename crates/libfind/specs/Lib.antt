@@ -3,6 +3,7 @@ pub mod Begin
 pub mod BeginLaws
 pub mod Ends
 pub mod EndLaws
+pub mod FindingLaws
 pub mod FoundLaws
 pub mod SingleLaws
 pub mod FlowLaws
