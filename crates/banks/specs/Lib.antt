@@ -6,3 +6,6 @@ pub mod ShowLaws
 pub mod Turns
 pub mod FoundLaws
 pub mod OverLaws
+pub mod TurnLaws
+pub mod BoardLaws
+pub mod EntryLaws

@@ -2,8 +2,10 @@
 // part sees the common code and one bank at a time, as one image of 64 KiB: bank k's view.
 pub mod board;
 pub mod cut;
+pub mod entry;
 mod one_view;
 pub mod view;
+mod views;
 
 use run::Answer;
 
