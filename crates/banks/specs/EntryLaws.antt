@@ -28,6 +28,7 @@ use Rattle.collect.specs.stored.Stores.{CollectLists as Collectable}
 use Rattle.collect.specs.declared.Collection.the-variants as Collection
 use Rattle.collect.specs.Outcome.{collectFilled, collection}
 use Rattle.run.specs.declared.Settings.{Settings}
+use Rattle.run.specs.declared.Counts.{Counts}
 use Rattle.run.specs.declared.Answer.the-variants.{Refused}
 use Rattle.run.specs.Run.{Lent, lentLists, Outcome, libraryRead, zeroed, filledWith, outcomeOf, runBy, cover}
 use Rattle.run.specs.Answers.{SameLengths}
@@ -69,7 +70,7 @@ pub begun-banks : (file library : List ℕ) (s : Settings) (first : ℕ) → Beg
 begun-banks file library s first b = has-banks (length file) (not-false (isBanked (length file)) (when-none (not (isBanked (length file))) NotBanked .0 (b .accepted .image-fits)))
 
 -- lists that are as long as those that were lent, of which the last three are the same
-module _ (library : List ℕ) (s : Settings) (lent : Lent) {c : Stored} {left : Collectable} where
+module _ (library : List ℕ) (s : Settings) (lent : Lent) (c : Stored) (left : Collectable) where
   abbrev before : Lent
   before = lentLists (left .segments) (left .references) (left .symbols) (left .bytes) (left .masks) (lent .placed) (lent .noted) (lent .lines)
 
@@ -82,13 +83,17 @@ module _ (library : List ℕ) (s : Settings) (lent : Lent) {c : Stored} {left : 
     tested = f .tested;
   }
 
+  finding-same : (c : Counts) → findingBy before c ≡ findingBy lent c
+  unfolding findingBy
+  finding-same c = refl
+
   pub same-board : (cells : List ℕ) (n : ℕ) → SameLengths before lent → boardBy cells library s n before ≡ boardBy cells library s n lent
   unfolding filledWith zeroed
   same-board cells n h = go (findingBy lent (neededTo cells library s n)) refl
     where
       go : (o : Option Refusal) → findingBy lent (neededTo cells library s n) ≡ o → boardBy cells library s n before ≡ boardBy cells library s n lent
-      go none q = ?
-      go (some r) q = ?
+      go none q = rw (finding-same (neededTo cells library s n), q, h .segments, h .references, h .symbols, h .bytes, h .masks) refl
+      go (some r) q = rw (finding-same (neededTo cells library s n), q, finding-late lent (neededTo cells library s n) q, h .segments, h .references, h .symbols, h .bytes, h .masks) refl
 
 module _ (file library : List ℕ) (s : Settings) (lent : Lent) where
   abbrev size : ℕ
@@ -106,7 +111,9 @@ module _ (file library : List ℕ) (s : Settings) (lent : Lent) where
   -- the view of the file is as long as the file
   board-is : banked (runBy (notBanked size) size library s lent (neededTo cells library s n) (givenTo cells library s n)) ≡ findBanks file library s lent
   unfolding findBanks banksSeen
-  board-is = ?
+  board-is =
+      ap (λ m. let k = banksIn m in let o : Outcome = runBy (notBanked m) m library s lent (neededTo cells library s k) (givenTo cells library s k) in record { answer = withBanks k (eachTo cells library s k) (o .answer); left = o .left })
+      (sym (view-length file (cover s)))
 
   -- REFUSED EARLY: nothing is written
   pub refused-early : {r : Refusal} → orElse (settingsRefusal (notBanked size) size (length library) s) (fileRefusal (libraryRead library s)) ≡ some r

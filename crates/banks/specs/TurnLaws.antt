@@ -160,8 +160,7 @@ module _ (cells library : List ℕ) (s : Settings) (lent : Lent) {c : Stored} {l
             → Listed (suc k) after × (n ≡ counted y)
         go (some r) q p = absurd (false≢true (sym (ap (λ o. isDone (o .answer)) p)))
         go none q p =
-            let fits = finding-none lentNow (counted y) q in
-            (
+            let fits = finding-none lentNow (counted y) q in (
               record {
                 lists = ap (λ x. withLines x (after .lines)) (ap (λ o. o .left) p) ∙ filled (lines-after (ap (λ o. o .left .lines) p));
                 long = long;
