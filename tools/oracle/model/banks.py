@@ -1,6 +1,6 @@
-"""Change request W-210 once more, in Python: the file of a board with switched banks, what the view of each bank shows of it, and a whole run on it, put
-together from what a single run is made of. What is withheld is taken out of the file, byte by byte, before a view is taken from that: no stretch is ever cut
-here, as the code does it."""
+"""Change request W-210 once more, in Python: the file of a board with switched banks, what the view of each bank shows of it, and a whole
+run on it, put together from what a single run is made of. What is withheld is taken out of the file, byte by byte, before a view is
+taken from that: no stretch is ever cut here, as the code does it."""
 import re
 from dataclasses import dataclass, replace
 

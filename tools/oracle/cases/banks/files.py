@@ -1,4 +1,5 @@
-"""Files of boards with switched banks, made from parts that stand at addresses of the views: in the common part, in a bank, or over the border between them."""
+"""Files of boards with switched banks, made from parts that stand at addresses of the views: in the common part, in a bank, or over
+the border between them."""
 from dataclasses import dataclass, field
 
 from model.banks import PART
@@ -28,7 +29,8 @@ class Routine:
     def data(self):
         if self.told is not None:
             return self.told
-        return bytes((0xA0 + self.id,)) + b"".join(b"\x11\0" if r.kind == INBLOCK else bytes(SIZES[r.kind]) for r in self.refs) + bytes((0xC0 + self.id,))
+        refs = b"".join(b"\x11\0" if r.kind == INBLOCK else bytes(SIZES[r.kind]) for r in self.refs)
+        return bytes((0xA0 + self.id,)) + refs + bytes((0xC0 + self.id,))
 
     def locations(self):
         """Where the bytes of each reference are: behind one another, from the second byte on."""
@@ -51,7 +53,8 @@ class Absolute:
 
 
 def led(kind, pos, target):
-    """The bytes of a reference at an address that lead to a target; of an AJMP or ACALL the low bits of the page too, which rule set 0 does not look at."""
+    """The bytes of a reference at an address that lead to a target; of an AJMP or ACALL the low bits of the page too, which rule set 0
+    does not look at."""
     if kind == RELATIVE:
         return bytes((target - pos - 1 & 0xFF,))
     return bytes((target >> 3 & 0xE0 | 0x11 if kind == INBLOCK else target >> 8 & 0xFF, target & 0xFF))
@@ -103,10 +106,8 @@ def externals_of(parts):
     return list(dict.fromkeys(r.goal for part in parts for r in part.refs if isinstance(r.goal, bytes)))
 
 
-def fixups_of(part, names):
-    """Those of a routine's references."""
-    return [Fixup(at, r.kind, *((TO_NAME, 1 + names.index(r.goal)) if isinstance(r.goal, bytes) else (TO_SEGMENT, r.goal)))
-            for r, at in zip(part.refs, part.locations())]
+def fixup_of(at, r, names):
+    return Fixup(at, r.kind, *((TO_NAME, 1 + names.index(r.goal)) if isinstance(r.goal, bytes) else (TO_SEGMENT, r.goal)))
 
 
 def library_of(routines, absolutes=(), name=b"M"):
@@ -116,8 +117,6 @@ def library_of(routines, absolutes=(), name=b"M"):
     definitions += [Public(r.id, offset, symbol) for r in routines for offset, symbol in r.symbols]
     definitions += [Public(0, at, symbol) for a in absolutes for at, symbol in a.symbols]
     definitions += [External(i + 1, each) for i, each in enumerate(names)]
-    contents = [Content(r.id, 0, r.data(), fixups_of(r, names)) for r in routines]
-    for a in absolutes:
-        contents.append(Content(0, a.at, a.data, [Fixup(at, r.kind, TO_SEGMENT, r.goal) if isinstance(r.goal, int)
-                                                  else Fixup(at, r.kind, TO_NAME, 1 + names.index(r.goal)) for at, r in a.refs]))
+    contents = [Content(r.id, 0, r.data(), [fixup_of(at, ref, names) for at, ref in zip(r.locations(), r.refs)]) for r in routines]
+    contents += [Content(0, a.at, a.data, [fixup_of(at, ref, names) for at, ref in a.refs]) for a in absolutes]
     return b"".join(plain(Module(definitions, contents, name)))

@@ -1,5 +1,5 @@
-"""Files with banks and libraries for them: names that a bank bears out and another does not, patterns over the border at 8000h, chains that go through a bank and
-back, files of 16 banks, and random ones."""
+"""Files with banks and libraries for them: names that a bank bears out and another does not, patterns over the border at 8000h, chains
+that go through a bank and back, files of 16 banks, and random ones."""
 from dataclasses import dataclass
 
 from model import collection, reader
@@ -25,7 +25,8 @@ def scene(kind, file, library):
 
 
 def told():
-    """The common part calls `work` at 8010h. Bank 0 has it there, bank 1 has it at 8020h, bank 2 has nothing. What each list has, by hand, is in runs.py."""
+    """The common part calls `work` at 8010h. Bank 0 has it there, bank 1 has it at 8020h, bank 2 has nothing. What each list has, by hand,
+    is in runs.py."""
     main, work = Routine(1, [Ref(WORD, b"work")], [(0, b"main")]), Routine(2, [], [(0, b"work")])
     file = File(3)
     file.lay(None, 0x100, main)
@@ -36,8 +37,9 @@ def told():
 
 
 def border():
-    """Patterns of the common part's last bytes and of a bank's first ones: each in the views of its bank alone. Some of a bank's end and the next one's start, which
-    are neighbours in the file and in no view. Some that end before the border and at the end, and begin behind it."""
+    """Patterns of the common part's last bytes and of a bank's first ones: each in the views of its bank alone. Some of a bank's end and
+    the next one's start, which are neighbours in the file and in no view. Some that end at the border or a view's end, or begin at the
+    border."""
     tail, heads = bytes(range(0x51, 0x59)), [bytes(range(first, first + 8)) for first in (0x61, 0x71, 0x81)]
     ends = [bytes(range(first, first + 4)) for first in (0x91, 0xE1)]
     file, routines = File(3), []
@@ -63,9 +65,10 @@ def border():
 
 
 def chain(kinds, links, spoilt, banks=3):
-    """Routines that refer to the next one, by turns in the common part and in the banks, about the border; a bank lacks some of its own. The last one has a
-    symbol too, and the first ones of them names that come and go with it."""
-    routines = [Routine(i + 1, [Ref(kinds[i % len(kinds)], i + 2)] if i + 1 < links else [], [(0, b"link%d" % (i + 1)), (0, b"any")]) for i in range(links)]
+    """Routines that refer to the next one, by turns in the common part and in the banks, about the border; a bank lacks some of its own.
+    Another one notes names of the second, which come and go with it."""
+    refs = [[Ref(kinds[i % len(kinds)], i + 2)] if i + 1 < links else [] for i in range(links)]
+    routines = [Routine(i + 1, refs[i], [(0, b"link%d" % (i + 1)), (0, b"any")]) for i in range(links)]
     file = File(banks)
     places = [BORDER - 0x30 + 6 * i if i % 2 == 0 else BORDER + 6 * i for i in range(links)]
     for i, (routine, at) in enumerate(zip(routines, places)):
@@ -81,12 +84,13 @@ def chain(kinds, links, spoilt, banks=3):
 
 
 def chains():
-    """Of words; of distances; of both, and the first by an ACALL that ends the common part's page."""
+    """Of words; of distances; of both."""
     return [chain((WORD,), 6, {1: (1,), 2: (3,)}), chain((RELATIVE,), 6, {0: (3,), 2: (1, 5)}), chain((WORD, RELATIVE), 5, {0: (1,), 1: (3,)}, 2)]
 
 
 def page():
-    """An ACALL whose bytes are the common part's last ones leads into the bank's page; one in the bank that is first in it too. And the same by a distance, back too."""
+    """An ACALL whose bytes are the common part's last ones leads into the bank's page, and so does one in the bank; distances lead over the
+    border, both ways."""
     ahead = Routine(1, [Ref(INBLOCK, 3)], [(0, b"ahead")], b"\xa1\x11\0")
     near = Routine(2, [Ref(RELATIVE, b"back"), Ref(INBLOCK, b"deep")], [(0, b"near")])
     deep = Routine(3, [Ref(RELATIVE, b"ahead")], [(0, b"deep"), (1, b"deeper")])
@@ -157,21 +161,24 @@ def sixteen_front():
 
 
 def bare(banks, with_bank=True):
-    """Nothing but the start of the common part, so that a file takes few bytes here; but absolute contents of zeros stand in the banks, where nothing of them is
-    withheld, and the common part refers to them. By rule set 0 the symbols of those in a bank lie past the end."""
-    caller, other = Routine(1, [Ref(WORD, b"bank"), Ref(WORD, b"low")], [(0, b"caller")]), Routine(2, [Ref(WORD, b"caller")], [(0, b"other")])
+    """Nothing but the start of the common part, so that a file takes few bytes here; but absolute contents of zeros stand in the banks, where
+    nothing of them is withheld, and the common part refers to them. By rule set 0 the symbols of those in a bank lie past the end."""
+    caller = Routine(1, [Ref(WORD, b"bank"), Ref(WORD, b"low")], [(0, b"caller")])
+    other = Routine(2, [Ref(WORD, b"caller")], [(0, b"other")])
     file = File(banks)
     file.lay(None, 8, caller)
     file.aim(None, 8, caller, 0, 0x8100)
     file.aim(None, 8, caller, 1, 0x6000)
     file.lay(None, 0x18, other)
     file.aim(None, 0x18, other, 0, 8)
-    absolutes = [Absolute(0x3000, bytes(4), [(0x3000, b"low"), (0x3002, b"lower")]), Absolute(0x18, b"\xa2\0\0", [(0x18, b"at_18")], [(1, Ref(WORD, b"caller"))]),
-                 Absolute(0x7FFE, bytes(4), [(0x7FFE, b"over"), (0x8000, b"over_end")] if with_bank else [(0x7FFE, b"over")])]
+    absolutes = [Absolute(0x3000, bytes(4), [(0x3000, b"low"), (0x3002, b"lower")]),
+                 Absolute(0x18, b"\xa2\0\0", [(0x18, b"at_18")], [(1, Ref(WORD, b"caller"))]),
+                 Absolute(0x7FFE, bytes(4), [(0x7FFE, b"over")] + [(0x8000, b"over_end")] * with_bank)]
     if with_bank:
         absolutes += [Absolute(0x8100, bytes(3), [(0x8100, b"bank"), (0x8102, b"banks")]), Absolute(0xFFFC, bytes(4), [(0xFFFF, b"last")])]
     found = scene("bare", file, library_of([caller, other], absolutes))
-    found.spots += [file.offset(k, at) for k in range(banks) for at in (0x8000, 0x8001, 0x8100, 0x8102, 0xFFFC, 0xFFFF)] + [0x3000, 0x3003, 0x7FFE, 0x7FFF]
+    found.spots += [file.offset(k, at) for k in range(banks) for at in (0x8000, 0x8001, 0x8100, 0x8102, 0xFFFC, 0xFFFF)]
+    found.spots += [0x3000, 0x3003, 0x7FFE, 0x7FFF]
     return found
 
 
@@ -183,14 +190,18 @@ def some_refs(rng, count):
     return refs
 
 
+def some_symbols(rng):
+    return [(rng.choice((0, 0, 0, 1, 2)), rng.choice(NAMES)) for _ in range(rng.choice((0, 1, 1, 1, 2)))]
+
+
 def some_routines(rng):
     """Some that refer to one another and to few names, so that symbols meet; two of them may have the same bytes."""
     count = rng.randrange(2, 7)
-    found = [Routine(i + 1, some_refs(rng, count), [(rng.choice((0, 0, 0, 1, 2)), rng.choice(NAMES)) for _ in range(rng.choice((0, 1, 1, 1, 2)))])
-             for i in range(count)]
+    found = [Routine(i + 1, some_refs(rng, count), some_symbols(rng)) for i in range(count)]
     if rng.random() < 0.3:
         twin = rng.choice(found)
-        found.append(Routine(count + 1, [Ref(r.kind, rng.choice((r.goal, rng.choice(NAMES)))) for r in twin.refs], [(0, rng.choice(NAMES))], twin.data()))
+        refs = [Ref(r.kind, rng.choice((r.goal, rng.choice(NAMES)))) for r in twin.refs]
+        found.append(Routine(count + 1, refs, [(0, rng.choice(NAMES))], twin.data()))
     return found
 
 
