@@ -32,16 +32,21 @@ def of_banks(result):
     return (result.banks, digest(result.each)) if result.number == 0 else (0, 0)
 
 
-def with_each_view(run):
-    """The single runs on the views of a file, nothing withheld."""
-    return [replace(run, image=view_of(run.image, k)) for k in range(banks_in(run.image))]
+def withheld(run):
+    """The stretches that are not empty."""
+    return [stretch for stretch in (run.stretch, *run.more) if stretch[1]]
+
+
+def single_runs(run):
+    """Those on the views of a file, nothing withheld."""
+    return [replace(run, image=view_of(run.image, k), stretch=(0, 0), more=()) for k in range(banks_in(run.image))]
 
 
 def views_to_ask(banked):
     """What the Rust can be asked about: the views of a run, or the single runs on them if it is refused for its library; else nothing."""
-    if at_once(banked.run, not_banked) or not all(map(is_askable, with_each_view(banked.run))):
+    if at_once(banked.run, not_banked) or withheld(banked.run) or not is_askable(single_runs(banked.run)[0]):
         return []
-    return banked.views or [Stages(run) for run in with_each_view(banked.run)]
+    return banked.views or [Stages(run) for run in single_runs(banked.run)]
 
 
 class OnBanks(Recorded):
@@ -66,10 +71,9 @@ def confirmed(folder, found):
 def hides(rng, banked):
     """Whether a run is the same on another file that differs within the stretches alone."""
     run, file = banked.run, banked.run.image
-    stretches = [each for each in (run.stretch, *run.more) if each[1]]
-    if not stretches or not banked.views:
+    if not withheld(run) or not banked.views:
         return True
-    for start, length in stretches:
+    for start, length in withheld(run):
         file = file[:start] + rng.randbytes(length) + file[start + length:]
     other = Banked(replace(run, image=file))
     return [view.rows for view in other.views] == [view.rows for view in banked.views]
@@ -132,10 +136,43 @@ def recorded(rng, found):
     return [OnBanks(banked, lent, banked.outcome(lent)) for banked in found for lent in dict.fromkeys(amounts(rng, banked))]
 
 
-def differ_in_common(banked):
-    """Whether views list something else below the border."""
-    common = [[line for line in lines if line[0] < PART] for lines in banked.lines()]
-    return any(lines != common[0] for lines in common)
+def differ_below(banked, end):
+    """Whether the lists of views differ below an address."""
+    below = [[line for line in lines if line[0] < end] for lines in banked.lines()]
+    return any(lines != below[0] for lines in below)
+
+
+def not_first_to_lack(c, i):
+    """Whether the first and the last view have room for their rows of a list, and one between them has not."""
+    each = [view.needed[i] for view in c.stages.views]
+    return bool(each) and max(each[0], each[-1]) <= c.lent[i] < max(each)
+
+
+def lacks_for_all(c):
+    """Whether each list alone has room for its lines, and all together have not."""
+    each = [view.needed[LINES] for view in c.stages.views]
+    return bool(each) and max(each) <= c.lent[LINES] < sum(each)
+
+
+def report_done(done):
+    grades = Counter(line[1] for c in done for lines in c.stages.lines() for line in lines)
+    lines = [c.outcome.counts[-1] for c in done]
+    several = [c for c in done if c.outcome.banks > 1]
+    print(f"\ndone by banks {dict(sorted(Counter(c.outcome.banks for c in done).items()))}, views {sum(c.outcome.banks for c in done)}, "
+          f"lines {sum(lines)}, most {max(lines)}, by grade {[grades[g] for g in range(4)]}")
+    print(f"of {len(several)} with several banks the lists differ in {sum(differ_below(c.stages, 2 * PART) for c in several)}, "
+          f"in the common part in {sum(differ_below(c.stages, PART) for c in several)}")
+
+
+def report_settings(cases):
+    print(f"rule set 1 {sum(c.run.rules == 1 for c in cases)}, edition 2 {sum(c.run.edition == 2 for c in cases)}, "
+          f"depths {dict(sorted(Counter(min(c.run.depth, 5) for c in cases).items()))} (5: above), "
+          f"a skip amount {sum(c.run.skip is not None for c in cases)}, something withheld {sum(bool(withheld(c.run)) for c in cases)}, "
+          f"several stretches {sum(bool(c.run.more) for c in cases)}, 2Ch libraries {sum(c.run.library[:1] == b',' for c in cases)}")
+    print(f"9 for a view between the first and the last alone: placed {sum(not_first_to_lack(c, PLACED) for c in cases)}, "
+          f"noted {sum(not_first_to_lack(c, NOTED) for c in cases)}; for the lines of all together {sum(map(lacks_for_all, cases))}")
+    print("most lent", [max(column) for column in zip(*(c.lent for c in cases))], "longest file", max(len(c.run.image) for c in cases),
+          "longest library", max(len(c.run.library) for c in cases))
 
 
 def report(cases):
@@ -143,19 +180,9 @@ def report(cases):
     for some, words in ((own, "the Rust's own"), ([c for c in cases if not c.own], "computed")):
         print(f"\n{words}: {len(some)} cases")
         table(some)
-    done = [c for c in cases if c.outcome.number == 0]
-    grades = Counter(line[1] for c in done for lines in c.stages.lines() for line in lines)
-    several = [c for c in done if c.outcome.banks > 1]
-    print(f"\ndone by banks {dict(sorted(Counter(c.outcome.banks for c in done).items()))}, views {sum(c.outcome.banks for c in done)}, "
-          f"lines {sum(c.outcome.counts[-1] for c in done)}, most {max(c.outcome.counts[-1] for c in done)}, by grade {[grades[g] for g in range(4)]}")
-    print(f"of {len(several)} with several banks the lists differ in {sum(len(set(map(str, c.stages.lines()))) > 1 for c in several)}, "
-          f"in the common part in {sum(differ_in_common(c.stages) for c in several)}")
-    print(f"rule set 1 {sum(c.run.rules == 1 for c in cases)}, edition 2 {sum(c.run.edition == 2 for c in cases)}, "
-          f"depths {dict(sorted(Counter(min(c.run.depth, 5) for c in cases).items()))} (5: above), a skip amount {sum(c.run.skip is not None for c in cases)}, "
-          f"withheld {sum(any(n for _, n in (c.run.stretch, *c.run.more)) for c in cases)}, several stretches {sum(bool(c.run.more) for c in cases)}, "
-          f"2Ch libraries {sum(c.run.library[:1] == b',' for c in cases)}")
-    print("most lent", [max(column) for column in zip(*(c.lent for c in cases))], "longest file", max(len(c.run.image) for c in cases),
-          "longest library", max(len(c.run.library) for c in cases))
+    report_done([c for c in cases if c.outcome.number == 0])
+    report_settings(cases)
+    # what the program has to say
     by_number = Counter(c.outcome.number for c in cases)
     refused = "".join(f", refused with {n} {by_number[n]}" for n in sorted(by_number) if n)
     print(f"{len(cases)} of {len(cases)} recorded runs agree: done {by_number[0]}{refused}; {len(own)} are the Rust's own; "

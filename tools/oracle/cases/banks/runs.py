@@ -66,7 +66,7 @@ def withheld(rng, scene):
     """Of each sort, by any settings; mostly with a low minimum, so that lists have lines."""
     found = []
     for stretches in covers(rng, scene):
-        run = replace(run_of(rng, scene), kind="withheld, " + scene.kind, minimum=rng.choice((0, 1, 1, 2)), skip=None)
+        run = replace(run_of(rng, scene), kind="withheld", minimum=rng.choice((0, 1, 1, 2)), skip=None)
         found.append(with_stretches(changed(rng, run) if rng.random() < 0.7 else run, stretches))
     return found
 
@@ -93,10 +93,9 @@ def by_hand(rng):
         found += depths(rng, scene) + asked(rng, scene, 6, 6) + withheld(rng, scene) + lent(rng, scene, "lent, about")
     scene = scenes.middle()
     found += asked(rng, scene, 8, 6) + withheld(rng, scene) + lent(rng, scene, "lent, all amounts")
-    for banks in (1, 2, 3, MOST_BANKS):
-        for with_bank in (False, True):
-            scene = scenes.bare(banks, with_bank)
-            found += asked(rng, scene, 6, 6) + withheld(rng, scene) + (lent(rng, scene, "lent, about") if banks == 3 else [])
+    for banks, with_bank in ((1, True), (1, False), (2, True), (2, False), (3, True), (3, False), (MOST_BANKS, True)):
+        scene = scenes.bare(banks, with_bank)
+        found += asked(rng, scene, 6, 6) + withheld(rng, scene) + (lent(rng, scene, "lent, about") if banks == 3 else [])
     return found
 
 
@@ -111,12 +110,12 @@ def of_sixteen(rng):
 RANDOM = ((1, 1, 16), (2, 1, 5), (3, 1, 4), (2, 2, 6), (3, 3, 5), (3, 2, 2))
 
 
-def at_random(rng, own=7, others=7):
+def at_random(rng, own=7, others=7, covered=6):
     found = []
     for banks, filled, count in RANDOM:
         for _ in range(count):
             scene = scenes.random_scene(rng, banks, filled)
-            found += asked(rng, scene, own, others) + rng.sample(withheld(rng, scene), 6)
+            found += asked(rng, scene, own, others) + rng.sample(withheld(rng, scene), covered)
     return found
 
 
@@ -203,7 +202,7 @@ def ends(rng):
         found += [with_stretches(run, fine[:k % 6] + [each] + fine[:9], must=(4,)) for k, each in enumerate(past[:4])]
         found += [with_stretches(run, fine * 2 + fine[:4], must=(0,)), with_stretches(run, fine * 2 + fine[:5], must=(16,)),
                   with_stretches(run, [(0, 0)] * 17, must=(16,)), with_stretches(run, past[:1] + fine * 3, must=(16,))]
-    return [replace(run, kind="refused, ends") for run in found if len(run.more) <= MOST_STRETCHES]
+    return [replace(run, kind="ends") for run in found if len(run.more) <= MOST_STRETCHES]
 
 
 def lengths(rng):
@@ -234,4 +233,4 @@ def made(rng):
 
 def made_to_compare(rng):
     """More of the random ones that the Rust can be asked about."""
-    return different(at_random(rng, 16, 0) + of_single_runs(rng, 60) + of_libraries(rng, 100))
+    return different(at_random(rng, 16, 0, 0) + of_single_runs(rng, 60) + of_libraries(rng, 100))

@@ -143,7 +143,7 @@ def sixteen_full():
         if k % 4 != 1:
             file.lay(k, BORDER + 8, shared)
             file.aim(k, BORDER + 8, shared, 0, BORDER + k % 2)
-    return scene("sixteen, full", file, library_of(own + [shared, caller, over]))
+    return scene("sixteen", file, library_of(own + [shared, caller, over]))
 
 
 def sixteen_front():
@@ -157,7 +157,7 @@ def sixteen_front():
     file.aim(0, 0x8004, second, 0, 0x7FF0)
     file.lay(0, 0x8010, second)
     file.aim(0, 0x8010, second, 0, 0x7FF0)
-    return scene("sixteen, front", file, library_of([first, second]))
+    return scene("sixteen", file, library_of([first, second]))
 
 
 def bare(banks, with_bank=True):

@@ -90,5 +90,6 @@ def covers(rng, scene):
     found += [some_of(rng, scene, count) for count in (2, 3, MOST_STRETCHES - 1, MOST_STRETCHES)]
     one = rng.choice((over_border, from_common, over_banks))(rng, scene)
     found += [[one], pieces(rng, one)]
-    found.append([(at, 1) for at in rng.sample(scene.spots[:-1], min(MOST_STRETCHES, len(scene.spots) - 1))])
+    inside = [at for at in scene.spots if at < len(scene.file)]
+    found.append([(at, 1) for at in rng.sample(inside, min(MOST_STRETCHES, len(inside)))])
     return found
