@@ -89,8 +89,9 @@ def by_hand(rng):
     found = told() + lent(rng, scenes.told(), "lent, all amounts")
     scene = scenes.border()
     found += asked(rng, scene, 10, 8) + withheld(rng, scene) + withheld(rng, scene)
-    for scene in scenes.chains() + [scenes.page()]:
-        found += depths(rng, scene) + asked(rng, scene, 6, 6) + withheld(rng, scene) + lent(rng, scene, "lent, about")
+    for scene in scenes.chains() + [scenes.page(), scenes.ends()]:
+        found += depths(rng, scene) + asked(rng, scene, 6, 6) + withheld(rng, scene)
+        found += lent(rng, scene, "lent, about") if scene.kind == "chain" else []
     scene = scenes.middle()
     found += asked(rng, scene, 8, 6) + withheld(rng, scene) + lent(rng, scene, "lent, all amounts")
     for banks, with_bank in ((1, True), (1, False), (2, True), (2, False), (3, True), (3, False), (MOST_BANKS, True)):
@@ -202,7 +203,7 @@ def ends(rng):
         found += [with_stretches(run, fine[:k % 6] + [each] + fine[:9], must=(4,)) for k, each in enumerate(past[:4])]
         found += [with_stretches(run, fine * 2 + fine[:4], must=(0,)), with_stretches(run, fine * 2 + fine[:5], must=(16,)),
                   with_stretches(run, [(0, 0)] * 17, must=(16,)), with_stretches(run, past[:1] + fine * 3, must=(16,))]
-    return [replace(run, kind="ends") for run in found if len(run.more) <= MOST_STRETCHES]
+    return [replace(run, kind="file's end") for run in found if len(run.more) <= MOST_STRETCHES]
 
 
 def lengths(rng):

@@ -111,6 +111,23 @@ def page():
     return scene("page", file, library_of([ahead, near, deep, back]))
 
 
+def ends():
+    """A distance at a view's end leads past it, and one at its start before it: as found to places that are none, as documented from the bank
+    to the common part and back. An ACALL whose bytes are the last ones leads to the common part by both. Bank 1 has nothing of this."""
+    first = Routine(1, [Ref(RELATIVE, b"last")], [(0, b"first")])
+    last = Routine(2, [Ref(RELATIVE, b"first"), Ref(RELATIVE, 1)], [(0, b"last")])
+    call = Routine(3, [Ref(INBLOCK, 1)], [(0, b"call"), (2, b"very_last")], b"\xa3\x11\0")
+    file = File(2)
+    file.lay(None, 2, first)
+    file.aim(None, 2, first, 0, 0xFFF0 - END)
+    file.lay(0, 0xFFF0, last)
+    file.aim(0, 0xFFF0, last, 0, END + 2)
+    file.aim(0, 0xFFF0, last, 1, END + 2)
+    file.lay(0, END - 3, call)
+    file.aim(0, END - 3, call, 0, 2)
+    return scene("view's ends", file, library_of([first, last, call]))
+
+
 def middle():
     """Of three banks the middle one places the most symbols and notes the most names, and its list is the longest."""
     caller, routine = Routine(1, [Ref(WORD, b"f")], [(0, b"g")]), Routine(2, [], [(0, b"f"), (1, b"h")])
