@@ -16,7 +16,7 @@ from pathlib import Path
 from cases.banks import runs
 from cases.whole import capacities
 from confirm import differing, is_askable, is_own
-from model.banks import LINES, NOTED, PART, PLACED, Banked, Quick, banks_in, not_banked, view_of
+from model.banks import LINES, NOTED, PART, PLACED, Banked, Quick, not_banked
 from model.listing import LINE
 from model.run import Stages, at_once
 from record import Recorded, as_bytes, digest, table
@@ -37,15 +37,22 @@ def withheld(run):
     return [stretch for stretch in (run.stretch, *run.more) if stretch[1]]
 
 
+def images(file):
+    """The views of a file as images of their own, apart from the model: the first 32 KiB with each of the others."""
+    common, *banks = [file[at:at + PART] for at in range(0, len(file), PART)]
+    return [common + bank for bank in banks]
+
+
 def single_runs(run):
     """Those on the views of a file, nothing withheld."""
-    return [replace(run, image=view_of(run.image, k), stretch=(0, 0), more=()) for k in range(banks_in(run.image))]
+    return [replace(run, image=image, stretch=(0, 0), more=()) for image in images(run.image)]
 
 
 def views_to_ask(banked):
     """What the Rust can be asked about: the views of a run, or the single runs on them if it is refused for its library; else nothing."""
     if at_once(banked.run, not_banked) or withheld(banked.run) or not is_askable(single_runs(banked.run)[0]):
         return []
+    assert not banked.views or [view.run for view in banked.views] == single_runs(banked.run), "a view shows something else"
     return banked.views or [Stages(run) for run in single_runs(banked.run)]
 
 
@@ -86,7 +93,7 @@ def cut(run, k):
         return min(x, PART) + min(max(x - PART * (k + 1), 0), PART)
 
     first, *more = [(stood(start), stood(start + length) - stood(start)) for start, length in (run.stretch, *run.more)]
-    return replace(run, image=view_of(run.image, k), stretch=first, more=tuple(more))
+    return replace(run, image=images(run.image)[k], stretch=first, more=tuple(more))
 
 
 class QuickStages(Stages):
