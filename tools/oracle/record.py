@@ -158,20 +158,25 @@ def as_scene(run):
     return struct.pack("<4I", *sizes) + stored(run.image) + stored(run.library)
 
 
-def as_case(c, has_scene):
+def of_text(result):
+    """The last two numbers of an answer: the length of the printed form, and its digest."""
+    return len(result.text), digest(result.text)
+
+
+def as_case(c, has_scene, last=of_text):
     run, result = c.run, c.outcome
     flags = CHECK * (run.depth > 0) | DEPTH * (run.depth > 1) | SKIP * (run.skip is not None) | SCENE * has_scene | OWN * c.own
-    answer = (result.number, *result.counts, *map(digest, result.lists), len(result.text), digest(result.text))
+    answer = (result.number, *result.counts, *map(digest, result.lists), *last(result))
     scene = as_scene(run) if has_scene else b""
     return bytes((flags,)) + as_settings(run) + struct.pack("<8I", *c.lent) + struct.pack("<18I", *answer) + scene
 
 
-def as_bytes(cases):
-    """Image and library stand behind the first of the cases that share them."""
+def as_bytes(cases, last=of_text):
+    """Image and library stand behind the first of the cases that share them. `last` gives the last two numbers of an answer."""
     out, before = [struct.pack("<4sI", b"runs", VERSION)], None
     for c in cases:
         scene = c.run.image, c.run.library
-        out.append(as_case(c, scene != before))
+        out.append(as_case(c, scene != before, last))
         before = scene
     return b"".join(out)
 

@@ -71,16 +71,21 @@ class Watched(search.Search):
         super().place(new)
 
 
-def at_once(run):
-    """The first of 1, 30, 17, 2, 3, 16 and 4 that is due, or 0."""
+def too_long(image):
+    """2, or 0."""
+    return 2 if len(image) > search.LONGEST_IMAGE else 0
+
+
+def at_once(run, of_image=too_long):
+    """The first of 1, 30, 17, what is due for the image's length, 3, 16 and 4 that is due, or 0."""
     if run.rules not in (collection.FOUND, collection.DOCUMENTED):
         return 1
     if run.edition not in (reader.FIRST, reader.SECOND):
         return 30
     if run.depth > GREATEST_DEPTH:
         return 17
-    if len(run.image) > search.LONGEST_IMAGE:
-        return 2
+    if of_image(run.image):
+        return of_image(run.image)
     if len(run.library) > LONGEST_LIBRARY:
         return 3
     if 1 + len(run.more) > MOST_STRETCHES:
@@ -90,11 +95,24 @@ def at_once(run):
 
 class Stages:
     """What the stages of a run yield, whatever is lent for it."""
+    # How an image is searched.
+    searched_by = Watched
 
     def __init__(self, run):
-        self.run, self.modules, self.segments, self.fault, self.listing = run, [], [], 0, None
-        # The first of 1 to 8, 14 to 17 and 30, and of 10 to 13.
-        self.number = at_once(run)
+        self.listing = None
+        self.collect(run, at_once(run))
+        if self.final() == 0:
+            asked = search.Asked(run.rules, run.depth, run.minimum, run.stretch, run.more)
+            found = self.searched_by(run.image, asked, run.library, self.segments)
+            self.listing = listing.Listing(found, run.skip)
+        self.rows = self.yielded()
+        self.needed = tuple(map(len, self.rows))
+
+    def collect(self, run, number):
+        """Reads and collects, unless a number is due before."""
+        self.run, self.modules, self.segments, self.fault = run, [], [], 0
+        # The first of 1 to 8, 14 to 18 and 30, and of 10 to 13.
+        self.number = number
         if self.number == 0:
             try:
                 self.modules = reader.read(run.library, run.edition)
@@ -102,12 +120,6 @@ class Stages:
                 self.number = why.args[0]
         if self.number == 0:
             self.segments, self.fault = collection.collected(self.modules, run.rules)
-            if self.fault == 0:
-                asked = search.Asked(run.rules, run.depth, run.minimum, run.stretch, run.more)
-                found = Watched(run.image, asked, run.library, self.segments)
-                self.listing = listing.Listing(found, run.skip)
-        self.rows = self.yielded()
-        self.needed = tuple(map(len, self.rows))
 
     def final(self):
         """The number where enough is lent."""
@@ -154,5 +166,5 @@ class Stages:
             left = (0,) * 8 if number in ZEROING else BEFORE
             return Outcome(number, (0,) * 7, [[each] * n for each, n in zip(left, lent)], b"")
         lists = [rows + [0] * (n - len(rows)) for rows, n in zip(self.rows, lent)]
-        counts = [n // width for n, width in zip(self.needed, WIDTHS)]
+        counts = [len(rows) // width for rows, width in zip(self.rows, WIDTHS)]
         return Outcome(0, (*counts[:4], *counts[5:]), lists, self.text())

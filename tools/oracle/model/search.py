@@ -66,9 +66,13 @@ class Search:
         stretches = (self.asked.stretch, *self.asked.more)
         return any(max(at, start) < min(at + count, start + length) for start, length in stretches)
 
+    def places(self, s):
+        """Where a pattern is looked for: anywhere, or at its address."""
+        return range(len(self.image) + 1) if s.address is None else [s.address]
+
     def matches(self, s):
         """Where all of a pattern fits, shares no byte with a stretch, and agrees with the image on all mask bits."""
-        for at in range(len(self.image) + 1) if s.address is None else [s.address]:
+        for at in self.places(s):
             window = self.image[at:at + len(s.bytes)]
             if at + len(s.bytes) <= len(self.image) and not self.is_withheld(at, len(s.bytes)):
                 if all((x ^ byte) & mask == 0 for x, byte, mask in zip(window, s.bytes, s.masks)):
