@@ -12,6 +12,7 @@ fn settings_words(r: Refusal, lent: Counts) {
         Refusal::OtherEdition => say(b"edition not 1 or 2"),
         Refusal::TooDeep => say(b"references are checked to depth 4 at most"),
         Refusal::ImageTooLong => say(b"image too long (more than 65536 bytes)"),
+        Refusal::NotBanked => say(b"file not 32 KiB and 1 to 16 banks of 32 KiB"),
         Refusal::LibraryTooLong => say(b"library too long (more than 65536 bytes)"),
         Refusal::StretchPastEnd => say(b"withheld start + length passes the image's end"),
         Refusal::TooManyStretches => say(b"more than 16 stretches are withheld"),
