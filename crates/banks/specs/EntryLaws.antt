@@ -109,7 +109,7 @@ module _ (file library : List ℕ) (s : Settings) (lent : Lent) where
   banked o = record { answer = withBanks n (eachTo cells library s n) (o .answer); left = o .left }
 
   -- the view of the file is as long as the file
-  board-is : banked (runBy (notBanked size) size library s lent (neededTo cells library s n) (givenTo cells library s n)) ≡ findBanks file library s lent
+  pub board-is : banked (runBy (notBanked size) size library s lent (neededTo cells library s n) (givenTo cells library s n)) ≡ findBanks file library s lent
   unfolding findBanks banksSeen
   board-is =
       ap (λ m. let k = banksIn m in let o : Outcome = runBy (notBanked m) m library s lent (neededTo cells library s k) (givenTo cells library s k) in record { answer = withBanks k (eachTo cells library s k) (o .answer); left = o .left })

@@ -9,3 +9,4 @@ pub mod OverLaws
 pub mod TurnLaws
 pub mod BoardLaws
 pub mod EntryLaws
+pub mod Exactly
