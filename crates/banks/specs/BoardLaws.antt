@@ -25,7 +25,7 @@ use Rattle.banks.specs.Turns.{withLines, FindsView, withoutRows, joinedC
 use Rattle.banks.specs.OverLaws.{over-grows, lines-next}
 use Rattle.banks.specs.TurnLaws.{place, Listed, leftTo, none-listed, turn-done, Stopped, turn-refused}
 
-each-length : (cells library : List ℕ) (s : Settings) (k : ℕ) → length (eachTo cells library s k) ≡ k
+pub each-length : (cells library : List ℕ) (s : Settings) (k : ℕ) → length (eachTo cells library s k) ≡ k
 unfolding eachTo
 each-length cells library s zero = refl
 each-length cells library s (suc k) = omega (arith, length-append (eachTo cells library s k) (one (length (shown cells library s k .lines))), each-length cells library s k)

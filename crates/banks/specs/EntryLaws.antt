@@ -1,6 +1,6 @@
 -- THE STEPS MAKE UP THE RUN ON A BOARD: the beginning, the collection, and then the banks. Assumes nothing.
 use Prim.Native.Nat.{ℕ, _+_, _-_, _*_, _/_, _%_, _≤_}
-use mathlib.Core.Path.{_≡_, refl, sym, ap, _∙_}
+use mathlib.Core.Path.{_≡_, refl, sym, ap, subst, _∙_}
 use mathlib.Core.Logic.{inr}
 use mathlib.Core.Bool.{Bool, true, false, not, _&&_}
 use mathlib.Core.List.{List}
@@ -29,7 +29,8 @@ use Rattle.collect.specs.declared.Collection.the-variants as Collection
 use Rattle.collect.specs.Outcome.{collectFilled, collection}
 use Rattle.run.specs.declared.Settings.{Settings}
 use Rattle.run.specs.declared.Counts.{Counts}
-use Rattle.run.specs.declared.Answer.the-variants.{Refused}
+use Rattle.run.specs.declared.Answer.{Answer}
+use Rattle.run.specs.declared.Answer.the-variants.{Done, Refused}
 use Rattle.run.specs.Run.{Lent, lentLists, Outcome, libraryRead, zeroed, filledWith, outcomeOf, runBy, cover}
 use Rattle.run.specs.Answers.{SameLengths}
 use Rattle.run.specs.StageLaws.{when-none}
@@ -109,11 +110,32 @@ module _ (file library : List ℕ) (s : Settings) (lent : Lent) where
   banked o = record { answer = withBanks n (eachTo cells library s n) (o .answer); left = o .left }
 
   -- the view of the file is as long as the file
-  pub board-is : banked (runBy (notBanked size) size library s lent (neededTo cells library s n) (givenTo cells library s n)) ≡ findBanks file library s lent
+  board-is : banked (runBy (notBanked size) size library s lent (neededTo cells library s n) (givenTo cells library s n)) ≡ findBanks file library s lent
   unfolding findBanks banksSeen
   board-is =
       ap (λ m. let k = banksIn m in let o : Outcome = runBy (notBanked m) m library s lent (neededTo cells library s k) (givenTo cells library s k) in record { answer = withBanks k (eachTo cells library s k) (o .answer); left = o .left })
       (sym (view-length file (cover s)))
+
+  -- a refusal has no banks
+  pub answer-is : findBanks file library s lent .answer
+      ≡ withBanks (banksIn (length file)) (eachTo (view file (cover s)) library s (banksIn (length file))) (findBanks file library s lent .answer .answer)
+  answer-is = subst (λ o. o .answer ≡ withBanks n (eachTo cells library s n) (o .answer .answer)) board-is (again (runBy (notBanked size) size library s lent (neededTo cells library s n) (givenTo cells library s n) .answer))
+    where
+      again : (a : Answer) → withBanks n (eachTo cells library s n) a ≡ withBanks n (eachTo cells library s n) (withBanks n (eachTo cells library s n) a .answer)
+      again (Done c) = refl
+      again (Refused r) = refl
+
+  -- without its banks it is a run by its refusals
+  pub single-is : record { answer = findBanks file library s lent .answer .answer; left = findBanks file library s lent .left }
+      ≡ runBy (notBanked (length file)) (length file) library s lent (neededTo (view file (cover s)) library s (banksIn (length file))) (givenTo (view file (cover s)) library s (banksIn (length file)))
+  single-is = ap (λ o. record { answer = o .answer .answer; left = o .left }) (sym board-is) ∙ bare (runBy (notBanked size) size library s lent (neededTo cells library s n) (givenTo cells library s n))
+    where
+      bare : (o : Outcome) → record { answer = banked o .answer .answer; left = o .left } ≡ o
+      bare o = go (o .answer) (o .left)
+        where
+          go : (a : Answer) (l : Lent) → _≡_ {A = Outcome} (record { answer = withBanks n (eachTo cells library s n) a .answer; left = l }) (record { answer = a; left = l })
+          go (Done c) l = refl
+          go (Refused r) l = refl
 
   -- REFUSED EARLY: nothing is written
   pub refused-early : {r : Refusal} → orElse (settingsRefusal (notBanked size) size (length library) s) (fileRefusal (libraryRead library s)) ≡ some r

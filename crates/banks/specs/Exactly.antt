@@ -1,13 +1,13 @@
 -- Demand 1 for a board: each refusal exactly in its case, 18 in the place of 2. Assumes nothing.
-use Prim.Native.Nat.{ℕ, _+_, _*_, _/_, _%_, _-_, _≤_}
-use mathlib.Core.Path.{_≡_, refl, sym, ap, subst, _∙_}
+use Prim.Native.Nat.{ℕ, _+_, _*_, _%_, _≤_}
+use mathlib.Core.Path.{_≡_, refl, sym, ap}
 use mathlib.Core.Logic.{_↔_, Iff·trans}
-use mathlib.Core.Bool.{Bool, true, false, not, _&&_, _||_, false≢true}
+use mathlib.Core.Bool.{Bool, true, false, not, _||_}
 use mathlib.Core.List.{List}
 use mathlib.Core.Option.{none, some}
 use native.Mathlib.Omega.{arith}
 use borrow.Author.Tests.{eq-eqb, le-leb}
-use lib.Dec.{eqb, leb}
+use lib.Dec.{eqb}
 use lib.ListN.{length}
 use Rattle.lent.specs.declared.refusal.Refusal.{Refusal}
 use Rattle.lent.specs.declared.refusal.Refusal.the-variants.{ImageTooLong, NotBanked}
@@ -16,17 +16,13 @@ use Rattle.lent.specs.FirstOf.{none≢some}
 use Rattle.lent.specs.Refusals.{refusalNumber}
 use Rattle.lent.specs.RefusalLaws.{same-number}
 use Rattle.image.specs.View.{view}
-use Rattle.image.specs.ViewLaws.{view-length}
 use Rattle.run.specs.declared.Settings.{Settings}
-use Rattle.run.specs.declared.Counts.{Counts}
-use Rattle.run.specs.declared.Answer.{Answer}
-use Rattle.run.specs.declared.Answer.the-variants.{Done, Refused}
-use Rattle.run.specs.Run.{Lent, Yield, runBy, numberOf, cover}
+use Rattle.run.specs.Run.{Lent, runBy, numberOf, cover}
 use Rattle.run.specs.Given.{Shape, GivenBy, NothingRefusedBy}
 use Rattle.run.specs.StageLaws.{when-some, when-none, not-over}
 use Rattle.run.specs.Refused.{Worded, given-by, done-by}
-use Rattle.banks.specs.Banks.{isBanked, banksIn, notBanked, givenTo, neededTo, eachTo, withBanks, banksSeen, findBanks}
-use Rattle.banks.specs.EntryLaws.{has-banks, board-is}
+use Rattle.banks.specs.Banks.{isBanked, banksIn, notBanked, givenTo, neededTo, findBanks}
+use Rattle.banks.specs.EntryLaws.{has-banks, single-is}
 
 -- 32 KiB of common code and 1 to 16 banks of 32 KiB, in words
 pub record Banked (size : ℕ) : Type 0 where
@@ -84,11 +80,7 @@ module _ (file library : List ℕ) (s : Settings) (lent : Lent) where
   NoneGiven = NothingRefusedBy (board (length file)) library s lent (neededTo cells library s n)
 
   number-is : numberOf (findBanks file library s lent .answer .answer) ≡ numberOf (runBy (notBanked (length file)) (length file) library s lent (neededTo cells library s n) (givenTo cells library s n) .answer)
-  number-is = ap (λ o. numberOf (o .answer .answer)) (sym (board-is file library s lent)) ∙ same (runBy (notBanked (length file)) (length file) library s lent (neededTo cells library s n) (givenTo cells library s n) .answer)
-    where
-      same : (a : Answer) → numberOf (withBanks n (eachTo cells library s n) a .answer) ≡ numberOf a
-      same (Done c) = refl
-      same (Refused r) = refl
+  number-is = ap (λ o. numberOf (o .answer)) (single-is file library s lent)
 
   pub given-exactly : (r : Refusal) → (numberOf (findBanks file library s lent .answer .answer) ≡ refusalNumber r) ↔ GivenBoard r
   given-exactly r = rw number-is (given-by (board (length file)) (notBanked (length file)) (board-words (length file)) library s lent (neededTo cells library s n) (givenTo cells library s n) r)

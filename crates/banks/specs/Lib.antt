@@ -10,3 +10,5 @@ pub mod TurnLaws
 pub mod BoardLaws
 pub mod EntryLaws
 pub mod Exactly
+pub mod ListedBanks
+pub mod Demands

@@ -36,7 +36,7 @@ module _ (cells library : List ℕ) (s : Settings) where
       go (yes h) f = let e : k ≡ suc n = omega arith in rw e (omega arith)
       go (no h) f = omega (arith, f (omega arith))
 
-  lines-grow : (k n : ℕ) → k ≤ n → length (linesTo cells library s k) ≤ length (linesTo cells library s n)
+  pub lines-grow : (k n : ℕ) → k ≤ n → length (linesTo cells library s k) ≤ length (linesTo cells library s n)
   unfolding linesTo
   lines-grow k zero l = let e : k ≡ 0 = omega arith in rw e (omega arith)
   lines-grow k (suc n) l = go (decLt n k) (lines-grow k n)
