@@ -12,6 +12,7 @@ use Rattle.lent.specs.OneOutcome.{Determines, by-equation}
 use Rattle.lent.specs.Refusals.{refusalNumber}
 use Rattle.lent.specs.RefusalLaws.{numbered}
 use Rattle.lent.specs.Rows.{zeros}
+use Rattle.lent.specs.RowLaws.{padded-length}
 use Rattle.image.specs.View.{view}
 use Rattle.image.specs.ViewLaws.{Agree, same-view, view-length}
 use Rattle.image.specs.fixup.Target.{rulesOf}
@@ -110,6 +111,15 @@ module _ (file library : List ℕ) (s : Settings) (lent : Lent) where
         go : (a : Answer) → 1 ≤ numberOf a → (withBanks n (eachTo cells library s n) a .banks ≡ 0) × (withBanks n (eachTo cells library s n) a .lines ≡ zeros 16)
         go (Done d) e = absurd (omega arith)
         go (Refused r) e = (refl, refl)
+
+    pub sixteen : length (o .answer .lines) ≡ 16
+    sixteen = ap (λ a. length (a .lines)) told ∙ go (o .answer .answer) refl
+      where
+        go : (a : Answer) → o .answer .answer ≡ a → length (withBanks n (eachTo cells library s n) a .lines) ≡ 16
+        go (Done d) e =
+            let b = has-banks (length file) (is-banked (length file) .1 (answered-exactly .0 (ap numberOf e) .reached .accepted .image-fits)) in
+            padded-length 16 (eachTo cells library s n) (omega (arith, each-length cells library s n, b .few))
+        go (Refused r) e = refl
 
     -- EACH LIST IS THE SINGLE IMAGE'S: for every bank, the run on its bytes as one image, with what is cut for it, lists as many lines, and the same ones
     pub each-list : numberOf (o .answer .answer) ≡ 0 → (k : ℕ) → k < n → (other : Lent) (p : Outcome) → SingleContract (bankCells k file) library (cutSettings k s) other p → numberOf (p .answer) ≡ 0

@@ -14,5 +14,5 @@ use run::Answer;
 pub struct BankAnswer {
     pub answer: Answer,
     pub banks: usize,
-    pub lines: [usize; 16],
+    pub lines: [u64; 16],
 }

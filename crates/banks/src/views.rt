@@ -53,7 +53,7 @@ pub fn no_banks(answer: Answer) -> BankAnswer
     BankAnswer {
         answer,
         banks: 0,
-        lines: [0usize; 16],
+        lines: [0u64; 16],
     }
 }
 
@@ -80,7 +80,7 @@ pub fn find_views(
         ≡ boardBy (view (now (file .entry)) (cover settings)) (now (library .entry)) settings banks
         (lentLists (now (segments .entry)) (now (references .entry)) (now (symbols .entry)) (now (bytes .entry)) (now (masks .entry)) (now (placed .entry)) (now (noted .entry)) (now (lines .entry))) ⌝ }
 {
-    let mut each = [0usize; 16];
+    let mut each = [0u64; 16];
     let mut counts = without_rows(collected);
     let mut k = 0;
     while k < banks {
@@ -105,7 +105,7 @@ pub fn find_views(
             clear(lines);
             return no_banks(came);
         };
-        each[k] = next.lines;
+        each[k] = next.lines as u64;
         counts = joined(counts, next, before + next.lines);
         k += 1;
     }

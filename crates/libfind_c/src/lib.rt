@@ -7,7 +7,7 @@ ghost use Rattle.printing.specs.PrintedText.{fittedText, storedLines};
 ghost use Rattle.run.specs.Run.{lentLists};
 ghost use Rattle.libfind_c.specs.Exported.{settingsOf, handedRun, writtenIn, saidIn, widthOf};
 
-mod numbers;
+pub mod numbers;
 
 use crate::numbers::hand_over;
 use crate::numbers::length_of;
