@@ -1,6 +1,6 @@
 #!/bin/sh
 # run.sh OUT: builds the static libraries and the examples for x86-64, runs them on the files of examples/ and on one that is refused, and compares what they
-# print with what `./sillmarble list`, `hex`, `unhex` and `walk` print. Left: OUT/example-c, OUT/example-rs, OUT/hex-c, OUT/walk-c. The last line is 'N passed, 0 failed', and then the status is 0.
+# print with what `./sillmarble list`, `hex`, `unhex`, `walk` and `banks` print. Left: OUT/example-c, OUT/example-rs, OUT/hex-c, OUT/walk-c, OUT/banks-c. The last line is 'N passed, 0 failed', and then the status is 0.
 # README.md names what has to be installed. On another machine than x86-64 Debian's emulator runs them (a program of Rust's ends that of the kit, QEMU 8.2.2, as it
 # starts), and Rust's standard library for x86-64 is unpacked under OUT; nothing is installed.
 set -eu
@@ -9,17 +9,19 @@ root=$(cd "$(dirname "$0")/.." && pwd)
 mkdir -p "$1"
 out=$(cd "$1" && pwd)
 cd "$root"
-for each in libfind_c hex_c routine_c; do
+for each in libfind_c hex_c routine_c banks_c; do
     rt staticlib "$each" >"$out/staticlib.log" 2>&1 || { cat "$out/staticlib.log"; exit 1; }
 done
 library=$root/target/staticlib/liblibfind_c.a
 hex=$root/target/staticlib/libhex_c.a
 walk=$root/target/staticlib/libroutine_c.a
+banks=$root/target/staticlib/libbanks_c.a
 
 build_here() {
     cc -O2 -std=c99 -Wall -Wextra -o "$out/example-c" callers/example.c "$library"
     cc -O2 -std=c99 -Wall -Wextra -o "$out/hex-c" callers/hex.c "$hex"
     cc -O2 -std=c99 -Wall -Wextra -o "$out/walk-c" callers/walk.c "$walk"
+    cc -O2 -std=c99 -Wall -Wextra -o "$out/banks-c" callers/banks.c "$banks" "$library"
     rustc -O --edition 2021 -o "$out/example-rs" -L "native=$root/target/staticlib" -l static=libfind_c callers/example.rs
 }
 
@@ -29,6 +31,7 @@ build_across() {
     x86_64-linux-gnu-gcc -O2 -std=c99 -Wall -Wextra -static -o "$out/example-c" callers/example.c "$library"
     x86_64-linux-gnu-gcc -O2 -std=c99 -Wall -Wextra -static -o "$out/hex-c" callers/hex.c "$hex"
     x86_64-linux-gnu-gcc -O2 -std=c99 -Wall -Wextra -static -o "$out/walk-c" callers/walk.c "$walk"
+    x86_64-linux-gnu-gcc -O2 -std=c99 -Wall -Wextra -static -o "$out/banks-c" callers/banks.c "$banks" "$library"
     if [ ! -d "$out/std/usr" ]; then
         mkdir -p "$out/std"
         (cd "$out/std" && apt-get download libstd-rust-dev:amd64 && dpkg -x libstd-rust-dev_*_amd64.deb .)
@@ -99,6 +102,32 @@ try_walk() { # IMAGE ADDRESS STRETCHES..
     fi
 }
 
+# The same of the example for boards.
+try_banks() { # IMAGE STRETCHES..
+    was=0 got=0 at=$1
+    shift
+    $emulator "$out/banks-c" "$at" examples/routines.lib "$@" >"$out/got" 2>"$out/got.err" || got=$?
+    for stretch; do
+        shift
+        set -- "$@" --withhold "$stretch"
+    done
+    ./sillmarble banks "$at" examples/routines.lib "$@" >"$out/was" 2>"$out/was.err" || was=$?
+    if [ "$was" -eq "$got" ] && cmp -s "$out/was" "$out/got" && [ "$(sed 's/:.*//' "$out/was.err")" = "$(cat "$out/got.err")" ]; then
+        passed=$((passed + 1))
+    else
+        failed=$((failed + 1))
+        echo "failed: banks-c $at $* (status $got and $was)"
+    fi
+}
+
+# a board whose common part and second bank have the routines, its first bank none; with the common part withheld, with the second bank too; refusals 4 and 18
+{ cat examples/aid.img; head -c 22528 /dev/zero; } >"$out/part"
+{ cat "$out/part"; head -c 32768 /dev/zero; cat "$out/part"; } >"$out/board"
+try_banks "$out/board"
+try_banks "$out/board" 0:32768
+try_banks "$out/board" 0:32768 0x10000:32768
+try_banks "$out/board" 98304:1
+try_banks examples/aid.img
 ./sillmarble list examples/aid.img examples/routines.lib >"$out/was"
 # the first routine of the list, with nothing withheld, with its start and with another byte; a start past the end: refusal 19
 start=$(sed -n '2s/ .*//p' "$out/was")

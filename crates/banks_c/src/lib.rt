@@ -1,5 +1,5 @@
-// The exported function for boards with switched banks, of a static library that has those of libfind_c too.
-// callers/banks.h says for C callers what each parameter is.
+// The exported function for boards with switched banks, of a static library of its own. callers/banks.h says for C callers what
+// each parameter is; the lists are printed by the functions of libfind_c.
 ghost use mathlib.Core.Path.{_≡_};
 ghost use Rattle.run.specs.Run.{lentLists};
 ghost use Rattle.libfind_c.specs.Exported.{settingsOf};
