@@ -31,9 +31,13 @@ banksIn size = size / 32768 - 1
 abbrev pub notBanked : ℕ → Option Refusal
 notBanked size = when (not (isBanked size)) NotBanked
 
--- BANK k'S VIEW: the common part, and behind it the bank; banks count from 0
+-- where bank k begins in the file: behind the common part and the banks before it; banks count from 0
+abbrev pub bankStart : ℕ → ℕ
+bankStart k = 32768 * (k + 1)
+
+-- BANK k'S VIEW: the common part, and behind it the bank
 unfoldable pub bankCells : ℕ → List ℕ → List ℕ
-bankCells k cells = take 32768 cells ++ take 32768 (drop (32768 * (k + 1)) cells)
+bankCells k cells = take 32768 cells ++ take 32768 (drop (bankStart k) cells)
 
 -- a run on the cells of a board, which are those of its file with what is withheld
 module _ (cells library : List ℕ) (s : Settings) where

@@ -1,14 +1,15 @@
 -- What a stretch of a board's file withholds in a bank's view: a stretch of the view.
-use Prim.Native.Nat.{ℕ, _+_, _-_, _*_, min}
+use Prim.Native.Nat.{ℕ, _+_, _-_, min}
 use mathlib.Core.List.{List, [], _∷_}
 use Rattle.image.specs.declared.Stretch.{Stretch}
 use Rattle.image.specs.declared.cover.Stretches.{Stretches}
 use Rattle.run.specs.declared.Settings.{Settings}
 use Rattle.run.specs.Withheld.{withholding}
+use Rattle.banks.specs.Banks.{bankStart}
 
 -- how many bytes of the first x of the file bank k's view shows: those of the common part, and those of the bank
 abbrev pub place : ℕ → ℕ → ℕ
-place k x = min x 32768 + min (x - 32768 * (k + 1)) 32768
+place k x = min x 32768 + min (x - bankStart k) 32768
 
 -- a stretch of the file is one stretch of the view, which is empty where the view shows none of it
 abbrev pub cutOne : ℕ → Stretch → Stretch

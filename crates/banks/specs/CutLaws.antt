@@ -14,7 +14,7 @@ use Rattle.lent.specs.Lists.{any}
 use Rattle.image.specs.declared.Stretch.{Stretch}
 use Rattle.image.specs.View.{inOne, within, stretchesIn, seen, view, cellAt}
 use Rattle.image.specs.ViewLaws.{view-length, view-cell}
-use Rattle.banks.specs.Banks.{bankCells}
+use Rattle.banks.specs.Banks.{bankStart, bankCells}
 use Rattle.image.specs.declared.cover.Stretches.{Stretches}
 use Rattle.image.specs.Cover.{coverOf}
 use Rattle.banks.specs.Cut.{place, cutOne, cutNumbers, cutStretches}
@@ -76,7 +76,7 @@ module _ (k x i : ℕ) (h : Stands k x i) where
 
 -- what is shown of the file grows with it
 pub place-grows : (k x y : ℕ) → x ≤ y → place k x ≤ place k y
-place-grows k x y l = both (min x 32768) (min y 32768) (min (x - 32768 * (k + 1)) 32768) (min (y - 32768 * (k + 1)) 32768) (less x y l) (less (x - 32768 * (k + 1)) (y - 32768 * (k + 1)) (omega (arith, l)))
+place-grows k x y l = both (min x 32768) (min y 32768) (min (x - bankStart k) 32768) (min (y - bankStart k) 32768) (less x y l) (less (x - bankStart k) (y - bankStart k) (omega (arith, l)))
   where
     less : (x y : ℕ) → x ≤ y → min x 32768 ≤ min y 32768
     less x y h = omega (arith, h)
@@ -189,8 +189,8 @@ module _ (k : ℕ) where
   abbrev pub Has : List ℕ → Type 0
   Has cells = 32768 * (k + 2) ≤ length cells
 
-  pub bank-length : (cells : List ℕ) → Has cells → length (take 32768 (drop (32768 * (k + 1)) cells)) ≡ 32768
-  bank-length cells h = length-take-le 32768 (drop (32768 * (k + 1)) cells) (omega (arith, h, length-drop (32768 * (k + 1)) cells))
+  pub bank-length : (cells : List ℕ) → Has cells → length (take 32768 (drop (bankStart k) cells)) ≡ 32768
+  bank-length cells h = length-take-le 32768 (drop (bankStart k) cells) (omega (arith, h, length-drop (bankStart k) cells))
 
   pub common-length : (cells : List ℕ) → Has cells → length (take 32768 cells) ≡ 32768
   common-length cells h = length-take-le 32768 cells (omega (arith, h))
@@ -198,21 +198,21 @@ module _ (k : ℕ) where
   pub cells-length : (cells : List ℕ) → Has cells → length (bankCells k cells) ≡ 65536
   unfolding bankCells
   cells-length cells h =
-      omega (arith, length-append (take 32768 cells) (take 32768 (drop (32768 * (k + 1)) cells)), common-length cells h, bank-length cells h)
+      omega (arith, length-append (take 32768 cells) (take 32768 (drop (bankStart k) cells)), common-length cells h, bank-length cells h)
 
   cell-at : (cells : List ℕ) → Has cells → (x i : ℕ) → Stands k x i → getD (bankCells k cells) i 0 ≡ getD cells x 0
   unfolding bankCells
   cell-at cells h x i at = go (decLt i 32768)
     where
-      go : Dec (i < 32768) → getD (take 32768 cells ++ take 32768 (drop (32768 * (k + 1)) cells)) i 0 ≡ getD cells x 0
+      go : Dec (i < 32768) → getD (take 32768 cells ++ take 32768 (drop (bankStart k) cells)) i 0 ≡ getD cells x 0
       go (yes c) =
-          List·getD-append (take 32768 cells) (take 32768 (drop (32768 * (k + 1)) cells)) 0 i (omega (arith, common-length cells h, c))
+          List·getD-append (take 32768 cells) (take 32768 (drop (bankStart k) cells)) 0 i (omega (arith, common-length cells h, c))
           ∙ getD-take 32768 cells i 0 c ∙ ap (λ n. getD cells n 0) (sym (at .common c))
       go (no c) =
-          ap (λ n. getD (take 32768 cells ++ take 32768 (drop (32768 * (k + 1)) cells)) n 0) (omega (arith, common-length cells h))
-          ∙ getD-append-add (take 32768 cells) (take 32768 (drop (32768 * (k + 1)) cells)) (i - 32768) 0
-          ∙ getD-take 32768 (drop (32768 * (k + 1)) cells) (i - 32768) 0 (omega (arith, at .below))
-          ∙ getD-drop (32768 * (k + 1)) cells (i - 32768) 0
+          ap (λ n. getD (take 32768 cells ++ take 32768 (drop (bankStart k) cells)) n 0) (omega (arith, common-length cells h))
+          ∙ getD-append-add (take 32768 cells) (take 32768 (drop (bankStart k) cells)) (i - 32768) 0
+          ∙ getD-take 32768 (drop (bankStart k) cells) (i - 32768) 0 (omega (arith, at .below))
+          ∙ getD-drop (bankStart k) cells (i - 32768) 0
           ∙ ap (λ n. getD cells n 0) (omega (arith, at .bank (omega arith)))
 
   pub bank-view : (file : List ℕ) (cover : List Stretch) → Has file → bankCells k (view file cover) ≡ view (bankCells k file) (map (cutOne k) cover)

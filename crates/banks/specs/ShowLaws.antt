@@ -6,7 +6,7 @@ use native.Mathlib.Omega.{arith}
 use borrow.Rule.Slice.PartMut.{putMid}
 use lib.ListN.{length, take, drop, length-append, length-drop, length-take, drop-of-length-le}
 use lib.Seq.{take-length, take-at, drop-drop, length-take-le}
-use Rattle.banks.specs.Banks.{bankCells}
+use Rattle.banks.specs.Banks.{bankStart, bankCells}
 use Rattle.banks.specs.CutLaws.{Has, common-length, bank-length}
 
 -- a copy over the whole of a list, or over its front
@@ -23,10 +23,10 @@ module _ (k : ℕ) (file seen one two : List ℕ) (h : Has k file) (room : lengt
   common = take 32768 file
 
   bank : List ℕ
-  bank = take 32768 (drop (32768 * (k + 1)) file)
+  bank = take 32768 (drop (bankStart k) file)
 
   pub show-both : one ≡ take (length (take 32768 file)) (take 32768 file) ++ drop (length (take 32768 file)) seen
-      → let part = take (32768 * (k + 1) + 32768 - 32768 * (k + 1)) (drop (32768 * (k + 1)) file) in
+      → let part = take (bankStart k + 32768 - bankStart k) (drop (bankStart k) file) in
       two ≡ take (length part) part ++ drop (length part) (take (length one - 32768) (drop 32768 one))
       → putMid 32768 (length one - 32768) one two ≡ bankCells k file
   unfolding bankCells common bank
@@ -47,8 +47,8 @@ module _ (k : ℕ) (file seen one two : List ℕ) (h : Has k file) (room : lengt
       front : take 32768 one ≡ common
       front = ap (take 32768) one-is ∙ take-at common (drop 32768 seen) 32768 long
 
-      part-is : take (32768 * (k + 1) + 32768 - 32768 * (k + 1)) (drop (32768 * (k + 1)) file) ≡ bank
-      part-is = let size : 32768 * (k + 1) + 32768 - 32768 * (k + 1) ≡ 32768 = omega arith in ap (λ n. take n (drop (32768 * (k + 1)) file)) size
+      part-is : take (bankStart k + 32768 - bankStart k) (drop (bankStart k) file) ≡ bank
+      part-is = let size : bankStart k + 32768 - bankStart k ≡ 32768 = omega arith in ap (λ n. take n (drop (bankStart k) file)) size
 
       whole : two ≡ bank
       whole =
