@@ -113,13 +113,15 @@ module _ (file library : List ℕ) (s : Settings) (lent : Lent) where
   board-is : banked (runBy (notBanked size) size library s lent (neededTo cells library s n) (givenTo cells library s n)) ≡ findBanks file library s lent
   unfolding findBanks banksSeen
   board-is =
-      ap (λ m. let k = banksIn m in let o : Outcome = runBy (notBanked m) m library s lent (neededTo cells library s k) (givenTo cells library s k) in record { answer = withBanks k (eachTo cells library s k) (o .answer); left = o .left })
+      ap (λ m. let k = banksIn m in let o : Outcome = runBy (notBanked m) m library s lent (neededTo cells library s k)
+      (givenTo cells library s k) in record { answer = withBanks k (eachTo cells library s k) (o .answer); left = o .left })
       (sym (view-length file (cover s)))
 
   -- a refusal has no banks
   pub answer-is : findBanks file library s lent .answer
       ≡ withBanks (banksIn (length file)) (eachTo (view file (cover s)) library s (banksIn (length file))) (findBanks file library s lent .answer .answer)
-  answer-is = subst (λ o. o .answer ≡ withBanks n (eachTo cells library s n) (o .answer .answer)) board-is (again (runBy (notBanked size) size library s lent (neededTo cells library s n) (givenTo cells library s n) .answer))
+  answer-is = subst (λ o. o .answer ≡ withBanks n (eachTo cells library s n) (o .answer .answer)) board-is
+      (again (runBy (notBanked size) size library s lent (neededTo cells library s n) (givenTo cells library s n) .answer))
     where
       again : (a : Answer) → withBanks n (eachTo cells library s n) a ≡ withBanks n (eachTo cells library s n) (withBanks n (eachTo cells library s n) a .answer)
       again (Done c) = refl
@@ -127,8 +129,10 @@ module _ (file library : List ℕ) (s : Settings) (lent : Lent) where
 
   -- without its banks it is a run by its refusals
   pub single-is : record { answer = findBanks file library s lent .answer .answer; left = findBanks file library s lent .left }
-      ≡ runBy (notBanked (length file)) (length file) library s lent (neededTo (view file (cover s)) library s (banksIn (length file))) (givenTo (view file (cover s)) library s (banksIn (length file)))
-  single-is = ap (λ o. record { answer = o .answer .answer; left = o .left }) (sym board-is) ∙ bare (runBy (notBanked size) size library s lent (neededTo cells library s n) (givenTo cells library s n))
+      ≡ runBy (notBanked (length file)) (length file) library s lent (neededTo (view file (cover s)) library s (banksIn (length file)))
+      (givenTo (view file (cover s)) library s (banksIn (length file)))
+  single-is = ap (λ o. record { answer = o .answer .answer; left = o .left }) (sym board-is) ∙ bare
+      (runBy (notBanked size) size library s lent (neededTo cells library s n) (givenTo cells library s n))
     where
       bare : (o : Outcome) → record { answer = banked o .answer .answer; left = o .left } ≡ o
       bare o = go (o .answer) (o .left)
@@ -140,7 +144,8 @@ module _ (file library : List ℕ) (s : Settings) (lent : Lent) where
   -- REFUSED EARLY: nothing is written
   pub refused-early : {r : Refusal} → orElse (settingsRefusal (notBanked size) size (length library) s) (fileRefusal (libraryRead library s)) ≡ some r
       → record { answer = noBanks (Refused r); left = lent } ≡ findBanks file library s lent
-  refused-early e = ap banked (end.refused-early (notBanked size) (mild size) size library s lent (mostTo cells library s (λ y. y .placed) n) (mostTo cells library s (λ y. y .noted) n) (length (linesTo cells library s n)) (givenTo cells library s n) e) ∙ board-is
+  refused-early e = ap banked (end.refused-early (notBanked size) (mild size) size library s lent (mostTo cells library s (λ y. y .placed) n)
+      (mostTo cells library s (λ y. y .noted) n) (length (linesTo cells library s n)) (givenTo cells library s n) e) ∙ board-is
 
   module _ {first : ℕ} (b : BegunBoard file library s first) where
     -- REFUSED BY THE COLLECTION: all that was lent is set to zero
@@ -149,7 +154,8 @@ module _ (file library : List ℕ) (s : Settings) (lent : Lent) where
         → placed ≡ zeros (length (lent .placed)) → noted ≡ zeros (length (lent .noted)) → lines ≡ zeros (length (lent .lines))
         → record { answer = noBanks (Refused r); left = lentLists (left .segments) (left .references) (left .symbols) (left .bytes) (left .masks) placed noted lines } ≡ findBanks file library s lent
     refused-collecting e u v w =
-        ap banked (end.refused-collecting (notBanked size) (mild size) size library s lent (mostTo cells library s (λ y. y .placed) n) (mostTo cells library s (λ y. y .noted) n) (length (linesTo cells library s n)) (givenTo cells library s n) b e u v w) ∙ board-is
+        ap banked (end.refused-collecting (notBanked size) (mild size) size library s lent (mostTo cells library s (λ y. y .placed) n)
+        (mostTo cells library s (λ y. y .noted) n) (length (linesTo cells library s n)) (givenTo cells library s n) b e u v w) ∙ board-is
 
     -- COLLECTED: the rest of the run is the banks
     pub collected-filled : {c : Stored} {left : Collectable}
@@ -158,5 +164,6 @@ module _ (file library : List ℕ) (s : Settings) (lent : Lent) where
 
     pub banks-then : {c : Stored} {left : Collectable} → Filled library s lent c left → boardBy cells library s n lent ≡ findBanks file library s lent
     banks-then f =
-        ap banked (sym (end.run-found (notBanked size) (mild size) size library s lent (mostTo cells library s (λ y. y .placed) n) (mostTo cells library s (λ y. y .noted) n) (length (linesTo cells library s n)) (givenTo cells library s n) b f))
+        ap banked (sym (end.run-found (notBanked size) (mild size) size library s lent (mostTo cells library s (λ y. y .placed) n)
+        (mostTo cells library s (λ y. y .noted) n) (length (linesTo cells library s n)) (givenTo cells library s n) b f))
         ∙ board-is

@@ -19,8 +19,8 @@ use Rattle.image.specs.View.{view}
 use Rattle.run.specs.declared.Settings.{Settings}
 use Rattle.run.specs.Run.{Lent, runBy, numberOf, cover}
 use Rattle.run.specs.Given.{Shape, GivenBy, NothingRefusedBy}
-use Rattle.run.specs.StageLaws.{when-some, when-none, not-over}
-use Rattle.run.specs.Refused.{Worded, given-by, done-by}
+use Rattle.run.specs.StageLaws.{when-some, when-none, not-over, Worded}
+use Rattle.run.specs.Refused.{given-by, done-by}
 use Rattle.banks.specs.Banks.{isBanked, banksIn, notBanked, givenTo, neededTo, findBanks}
 use Rattle.banks.specs.EntryLaws.{has-banks, single-is}
 

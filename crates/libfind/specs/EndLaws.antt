@@ -170,7 +170,11 @@ module _ (own : Option Refusal) (mild : (r : Refusal) → own ≡ some r → zer
 
     pub refused-collecting : {r : Refusal} {left : Collectable} {placed noted lines : List ℕ} → record { answer = Collection.Refused r; left = left } ≡ collected
         → placed ≡ zeros (length (lent .placed)) → noted ≡ zeros (length (lent .noted)) → lines ≡ zeros (length (lent .lines))
-        → record { answer = Refused r; left = lentLists (left .segments) (left .references) (left .symbols) (left .bytes) (left .masks) placed noted lines } ≡ runBy own size library s lent (countsWith (segmentsOf library s) p n l) y
+        → record {
+          answer = Refused r;
+          left = lentLists (left .segments) (left .references) (left .symbols) (left .bytes) (left .masks) placed noted
+              lines;
+        } ≡ runBy own size library s lent (countsWith (segmentsOf library s) p n l) y
     unfolding zeroed zeroedCollection refusalIn isDone
     refused-collecting {r} {left} e u v w = rw (u, v, w) (go collecting refl (e ∙ collected-is))
       where

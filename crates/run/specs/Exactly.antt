@@ -19,8 +19,8 @@ use Rattle.image.specs.ViewLaws.{view-length}
 use Rattle.run.specs.declared.Settings.{Settings}
 use Rattle.run.specs.Run.{Lent, Yield, stages, counted, tooLong, runBy, runSeen, run, numberOf, cover}
 use Rattle.run.specs.Given.{single, Given, NothingRefused}
-use Rattle.run.specs.StageLaws.{less, not-less}
-use Rattle.run.specs.Refused.{Worded, given-by, done-by}
+use Rattle.run.specs.StageLaws.{less, not-less, Worded}
+use Rattle.run.specs.Refused.{given-by, done-by}
 
 -- a single image has 2 for its own refusal
 single-words : (size : ℕ) → Worded (single size) (tooLong size)

@@ -31,14 +31,7 @@ use Rattle.run.specs.declared.Counts.{Counts}
 use Rattle.run.specs.Run.{Lent, Yield, libraryRead, collectOver, searchOver, listOver, otherEdition, tooDeep, refusals, outcomeOf, runBy, numberOf, cover}
 use Rattle.run.specs.Order.{Stage, firstOf, Silent, silent-both, Beyond, or-else, after-none, at-stage}
 use Rattle.run.specs.Given.{CollectionOver, SearchOver, ListOver, NoEdition, Shape, SettingsFine, ReachedBy, FirstTest, TooLittleBy, GivenBy, NothingRefusedBy}
-use Rattle.run.specs.StageLaws.{rules-stage, edition-stage, depth-stage, count-stage, rules-fine, edition-other, edition-fine, depth-fine, count-fine, when-some, when-none, when-stage, reading-stage, collecting-stage, over, or-true-iff, not-over, collection-over, search-over, less, not-less}
-
--- how an image's own refusal is told in words; it is 2 or 18
-pub record Worded (shape : Shape) (own : Option Refusal) : Type 0 where
-  pub long : (own ≡ some ImageTooLong) ↔ shape .Long
-  pub unbanked : (own ≡ some NotBanked) ↔ shape .Unbanked
-  pub fine : (own ≡ none) ↔ shape .Fine
-  pub told : (r : Refusal) → own ≡ some r → (eqb 2 (refusalNumber r) || eqb 18 (refusalNumber r)) ≡ true
+use Rattle.run.specs.StageLaws.{Worded, rules-stage, edition-stage, depth-stage, count-stage, rules-fine, edition-other, edition-fine, depth-fine, count-fine, when-some, when-none, when-stage, reading-stage, collecting-stage, over, or-true-iff, not-over, collection-over, search-over, less, not-less}
 
 -- a run by its refusals: what is searched with its own refusal, and what is needed and given
 module _ (shape : Shape) (own : Option Refusal) (words : Worded shape own) (library : List ℕ) (s : Settings) (lent : Lent) (c : Counts) (y : Yield) where
@@ -208,7 +201,8 @@ module _ (shape : Shape) (own : Option Refusal) (words : Worded shape own) (libr
       → Beyond r (library-stage ∷ count-stage s ∷ stretch-stage ∷ reading-stage edition library ∷ later-stages)
       → (number ≡ refusalNumber r) ↔ ((s .rules ≤ 1) × (NoEdition (s .edition) → ⊥) × (s .depth ≤ 4) × Case)
   by-own r this e f =
-      Iff·trans (by-settings r (rules-stage s ∷ edition-stage s ∷ depth-stage s ∷ []) image-stage (library-stage ∷ count-stage s ∷ stretch-stage ∷ reading-stage edition library ∷ later-stages) refl e f) (
+      Iff·trans (by-settings r (rules-stage s ∷ edition-stage s ∷ depth-stage s ∷ []) image-stage
+      (library-stage ∷ count-stage s ∷ stretch-stage ∷ reading-stage edition library ∷ later-stages) refl e f) (
         (λ h. (rules-fine s .0 (h .0 .0), edition-fine s .0 (h .0 .1 .0), depth-fine s .0 (h .0 .1 .1 .0), this .0 (h .1))),
         λ h. ((rules-fine s .1 (h .0), (edition-fine s .1 (h .1), (depth-fine s .1 (h .2), tt))), this .1 (h .3)),
       )
@@ -230,15 +224,18 @@ module _ (shape : Shape) (own : Option Refusal) (words : Worded shape own) (libr
   unfolding all
   given-by RuleSet =
       let this = less 1 (s .rules) RuleSet in
-      Iff·trans (by-settings RuleSet [] (rules-stage s) (edition-stage s ∷ depth-stage s ∷ image-stage ∷ library-stage ∷ count-stage s ∷ stretch-stage ∷ reading-stage edition library ∷ later-stages) refl refl refl)
+      Iff·trans (by-settings RuleSet [] (rules-stage s)
+      (edition-stage s ∷ depth-stage s ∷ image-stage ∷ library-stage ∷ count-stage s ∷ stretch-stage ∷ reading-stage edition library ∷ later-stages) refl refl refl)
       ((λ h. this .0 (h .1)), λ h. (tt, this .1 h))
   given-by OtherEdition =
       let this = Iff·trans (when-some (otherEdition (s .edition)) OtherEdition) (edition-other s) in
-      Iff·trans (by-settings OtherEdition (rules-stage s ∷ []) (edition-stage s) (depth-stage s ∷ image-stage ∷ library-stage ∷ count-stage s ∷ stretch-stage ∷ reading-stage edition library ∷ later-stages) refl refl refl)
+      Iff·trans (by-settings OtherEdition (rules-stage s ∷ []) (edition-stage s)
+      (depth-stage s ∷ image-stage ∷ library-stage ∷ count-stage s ∷ stretch-stage ∷ reading-stage edition library ∷ later-stages) refl refl refl)
       ((λ h. (rules-fine s .0 (h .0 .0), this .0 (h .1))), λ h. ((rules-fine s .1 (h .0), tt), this .1 (h .1)))
   given-by TooDeep =
       let this = less 4 (s .depth) TooDeep in
-      Iff·trans (by-settings TooDeep (rules-stage s ∷ edition-stage s ∷ []) (depth-stage s) (image-stage ∷ library-stage ∷ count-stage s ∷ stretch-stage ∷ reading-stage edition library ∷ later-stages) refl refl refl) (
+      Iff·trans (by-settings TooDeep (rules-stage s ∷ edition-stage s ∷ []) (depth-stage s)
+      (image-stage ∷ library-stage ∷ count-stage s ∷ stretch-stage ∷ reading-stage edition library ∷ later-stages) refl refl refl) (
         (λ h. (rules-fine s .0 (h .0 .0), edition-fine s .0 (h .0 .1 .0), this .0 (h .1))),
         λ h. ((rules-fine s .1 (h .0), (edition-fine s .1 (h .1), tt)), this .1 (h .2)),
       )
@@ -246,19 +243,22 @@ module _ (shape : Shape) (own : Option Refusal) (words : Worded shape own) (libr
   given-by NotBanked = by-own NotBanked (words .unbanked) refl refl
   given-by LibraryTooLong =
       let this = less 1048576 (length library) LibraryTooLong in
-      Iff·trans (by-settings LibraryTooLong (rules-stage s ∷ edition-stage s ∷ depth-stage s ∷ image-stage ∷ []) library-stage (count-stage s ∷ stretch-stage ∷ reading-stage edition library ∷ later-stages) refl refl refl) (
+      Iff·trans (by-settings LibraryTooLong (rules-stage s ∷ edition-stage s ∷ depth-stage s ∷ image-stage ∷ []) library-stage
+      (count-stage s ∷ stretch-stage ∷ reading-stage edition library ∷ later-stages) refl refl refl) (
         (λ h. (rules-fine s .0 (h .0 .0), edition-fine s .0 (h .0 .1 .0), depth-fine s .0 (h .0 .1 .1 .0), words .fine .0 (h .0 .1 .1 .1 .0), this .0 (h .1))),
         λ h. ((rules-fine s .1 (h .0), (edition-fine s .1 (h .1), (depth-fine s .1 (h .2), (words .fine .1 (h .3), tt)))), this .1 (h .4)),
       )
   given-by TooManyStretches =
       let this = less 16 (s .withheld .count) TooManyStretches in
-      Iff·trans (by-settings TooManyStretches (rules-stage s ∷ edition-stage s ∷ depth-stage s ∷ image-stage ∷ library-stage ∷ []) (count-stage s) (stretch-stage ∷ reading-stage edition library ∷ later-stages) refl refl refl) (
+      Iff·trans (by-settings TooManyStretches (rules-stage s ∷ edition-stage s ∷ depth-stage s ∷ image-stage ∷ library-stage ∷ []) (count-stage s)
+      (stretch-stage ∷ reading-stage edition library ∷ later-stages) refl refl refl) (
         (λ h. (rules-fine s .0 (h .0 .0), edition-fine s .0 (h .0 .1 .0), depth-fine s .0 (h .0 .1 .1 .0), words .fine .0 (h .0 .1 .1 .1 .0), library-fine .0 (h .0 .1 .1 .1 .1 .0), this .0 (h .1))),
         λ h. ((rules-fine s .1 (h .0), (edition-fine s .1 (h .1), (depth-fine s .1 (h .2), (words .fine .1 (h .3), (library-fine .1 (h .4), tt))))), this .1 (h .5)),
       )
   given-by StretchPastEnd =
       let this = Iff·trans (when-some (passesEnd (shape .size) (cover s)) StretchPastEnd) (some-passes (shape .size) (cover s)) in
-      Iff·trans (by-settings StretchPastEnd (rules-stage s ∷ edition-stage s ∷ depth-stage s ∷ image-stage ∷ library-stage ∷ count-stage s ∷ []) stretch-stage (reading-stage edition library ∷ later-stages) refl refl refl) (
+      Iff·trans (by-settings StretchPastEnd (rules-stage s ∷ edition-stage s ∷ depth-stage s ∷ image-stage ∷ library-stage ∷ count-stage s ∷ [])
+      stretch-stage (reading-stage edition library ∷ later-stages) refl refl refl) (
         (λ h. (
           rules-fine s .0 (h .0 .0),
           edition-fine s .0 (h .0 .1 .0),

@@ -4,7 +4,7 @@ use mathlib.Core.Path.{_≡_, refl, sym}
 use mathlib.Core.Logic.{_⊎_, inl, inr, _↔_, Iff·trans}
 use mathlib.Core.Bool.{Bool, true, false, _&&_, _||_, or-true, false≢true}
 use mathlib.Core.List.{List}
-use mathlib.Core.Option.{none, some}
+use mathlib.Core.Option.{Option, none, some}
 use native.Mathlib.Omega.{arith}
 use borrow.Author.Tests.{eq-eqb, le-leb, ltb-true, ltb-false, lt-ltb, le-ltb}
 use lib.Dec.{eqb, leb, ltb}
@@ -31,7 +31,7 @@ use Rattle.run.specs.declared.Settings.{Settings}
 use Rattle.run.specs.declared.Counts.{Counts}
 use Rattle.run.specs.Run.{Lent, collectOver, searchOver, otherEdition, tooDeep}
 use Rattle.run.specs.Order.{Stage}
-use Rattle.run.specs.Given.{Over, CollectionOver, SearchOver, NoEdition}
+use Rattle.run.specs.Given.{Over, CollectionOver, SearchOver, NoEdition, Shape}
 
 -- a test that refuses: with one refusal, exactly if it passes
 pub when-some : (t : Bool) (r : Refusal) → (when t r ≡ some r) ↔ (t ≡ true)
@@ -118,6 +118,13 @@ less a b r = Iff·trans (when-some (ltb a b) r) (ltb-true a b, lt-ltb a b)
 
 pub not-less : (a b : ℕ) (r : Refusal) → (when (ltb a b) r ≡ none) ↔ (b ≤ a)
 not-less a b r = Iff·trans (when-none (ltb a b) r) (ltb-false a b, le-ltb a b)
+
+-- how an image's own refusal is told in words; it is 2 or 18
+pub record Worded (shape : Shape) (own : Option Refusal) : Type 0 where
+  pub long : (own ≡ some ImageTooLong) ↔ shape .Long
+  pub unbanked : (own ≡ some NotBanked) ↔ shape .Unbanked
+  pub fine : (own ≡ none) ↔ shape .Fine
+  pub told : (r : Refusal) → own ≡ some r → (eqb 2 (refusalNumber r) || eqb 18 (refusalNumber r)) ≡ true
 
 -- the stages that look at the settings alone: each, and when it does not refuse, in words
 module _ (s : Settings) where

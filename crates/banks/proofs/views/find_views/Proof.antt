@@ -17,12 +17,14 @@ use Rattle.banks.proofs.views.find_views.Statement.{statement}
 use Rattle.banks.proofs.views.find_views.Tie as tie
 
 abbrev Inv-loop : tie.InvT-loop
-Inv-loop file library settings collected banks segments₀ references₀ symbols₀ bytes₀ masks₀ placed₀ noted₀ lines₀ each₀ counts₀ k₀ segments references symbols bytes masks placed noted lines each counts k =
+Inv-loop file library settings collected banks segments₀ references₀ symbols₀ bytes₀ masks₀ placed₀ noted₀ lines₀ each₀ counts₀ k₀ segments
+    references symbols bytes masks placed noted lines each counts k =
     Shown (view file (cover settings)) library settings banks (lentLists segments₀ references₀ symbols₀ bytes₀ masks₀ placed₀ noted₀ lines₀) collected k
     (lentLists segments references symbols bytes masks placed noted lines) counts each
 
 abbrev μ-loop : tie.MeasureT-loop
-μ-loop file library settings collected banks segments₀ references₀ symbols₀ bytes₀ masks₀ placed₀ noted₀ lines₀ each₀ counts₀ k₀ segments references symbols bytes masks placed noted lines each counts k =
+μ-loop file library settings collected banks segments₀ references₀ symbols₀ bytes₀ masks₀ placed₀ noted₀ lines₀ each₀ counts₀ k₀ segments references
+    symbols bytes masks placed noted lines each counts k =
     banks - k
 
 -- The ladder: places of the code that the answers cite, each as it is seen from a later place.
@@ -140,7 +142,8 @@ returns c =
 -- one bank more
 on : (c : tie.After-known-told Inv-loop μ-loop)
     → let found = c .before .before .before in
-    let in-loop = at-in-loop (after-find-view found .before) in let entry = at-entry (in-loop .before .before) in let a = entry .args in let l = in-loop .before .loop in let next = c .before .came .given .0 .0 in
+    let in-loop = at-in-loop (after-find-view found .before) in let entry = at-entry (in-loop .before .before) in let a = entry .args in let
+    l = in-loop .before .loop in let next = c .before .came .given .0 .0 in
     Shown (seen entry) (a .library .now) (a .settings) (a .banks) (lent entry) (a .collected) (l .k + 1) (after (after-find-view found))
     (joinedCounts (l .counts) next (l .counts .lines + next .lines)) (set (l .each) (l .k) (next .lines))
 on c =
@@ -166,7 +169,8 @@ loop-again c =
     let entry = at-entry (in-loop .before .before) in
     let a = entry .args in
     let l = in-loop .before .loop in
-    subst (λ x. Shown (seen entry) (a .library .now) (a .settings) (a .banks) (lent entry) (a .collected) (l .k + 1) (after (after-find-view found)) x (set (l .each) (l .k) (told .before .came .given .0 .0 .lines)))
+    subst (λ x. Shown (seen entry) (a .library .now) (a .settings) (a .banks) (lent entry) (a .collected) (l .k + 1) (after (after-find-view found))
+    x (set (l .each) (l .k) (told .before .came .given .0 .0 .lines)))
     (sym (c .joined .ensures)) (on told)
 
 -- the place in the array of lines

@@ -78,7 +78,8 @@ returns-6 c =
     let depth = at-else3 (last .before) in
     let edition = depth .before .before in
     let a = at-entry (edition .before) .args in
-    refused-16 (refusalIn (a .own)) (a .size) (a .library) (a .settings) (rules-fine (edition .before)) (edition-fine edition) (depth-fine depth) (own-fine (last .before)) (library-fine last) (omega (arith, c .if5 .taken))
+    refused-16 (refusalIn (a .own)) (a .size) (a .library) (a .settings) (rules-fine (edition .before)) (edition-fine edition) (depth-fine depth)
+    (own-fine (last .before)) (library-fine last) (omega (arith, c .if5 .taken))
 
 -- what is lent of the pairs is the cover
 passing : (c : tie.After-passes-end) → let a = at-entry (at-else3 (at-else4 c .before) .before .before .before) .args in c .passes-end .result ≡ passesEnd (a .size) (cover (a .settings))
