@@ -2,8 +2,8 @@
 use Prim.Native.Nat.{_-_}
 use lib.ListN.{length}
 use borrow.Author.Needs.{needs}
-use Rattle.replay.proofs.compare.same.Statement.{statement}
-use Rattle.replay.proofs.compare.same.Tie as tie
+use Rattle.recorded.proofs.compare.same.Statement.{statement}
+use Rattle.recorded.proofs.compare.same.Tie as tie
 
 abbrev Inv-loop : tie.InvT-loop
 Inv-loop header came i₀ i = Unit
