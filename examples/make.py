@@ -1,12 +1,14 @@
 #!/usr/bin/env python3
-"""Writes aid.img and routines.lib beside this script, and again to crates/list/data, where the gate runs the program on them.
+"""Writes aid.img, board.img and routines.lib beside this script, and again where the gate runs the programs on them: to crates/list/data and
+crates/bank_lists/data.
 
-The image and the library are made up: a hearing aid's code with a start, a routine that multiplies and adds, and two fitting tables. Every byte is told here.
+The images and the library are made up: a hearing aid's code with a start, a routine that multiplies and adds, and two fitting tables; on the board the
+multiplication stands in one of two banks. Every byte is told here.
 """
 import pathlib
 
 HERE = pathlib.Path(__file__).resolve().parent
-AGAIN = HERE.parent / "crates" / "list" / "data"
+CRATES = HERE.parent / "crates"
 
 WORD, INBLOCK = 4, 5
 SEGMENT, EXTERNAL = 1, 2
@@ -23,6 +25,8 @@ OWN = bytes(20 + 3 * (n % 8) + n // 8 for n in range(32))
 STRANGE = bytes(44 - 2 * (n % 8) + n // 8 for n in range(32))
 
 AT_GAIN, AT_MULTIPLY, AT_ADD, AT_TABLE, AT_STRANGE, LENGTH = 0x0140, 0x0200, 0x0780, 0x1200, 0x2400, 0x2800
+# The size of the board's common part and of a bank, which is seen from that address on; where the two routines of the banks stand.
+BANK, AT_BANKED_MULTIPLY, AT_BANKED_SUBTRACT = 0x8000, 0x8200, 0x8300
 
 
 def word(n):
@@ -100,27 +104,48 @@ def library():
     return before + b"".join(parts) + names + places + record(0x2A, b"".join(name(n) + b"\0" for n in publics))
 
 
-def image():
-    cells = bytearray(b"\xFF" * LENGTH)
-
-    def put(at, data):
+def filled(length, *parts):
+    """So many bytes: what stands at some addresses, and FFh elsewhere."""
+    cells = bytearray(b"\xFF" * length)
+    for at, data in parts:
         cells[at : at + len(data)] = data
-
-    put(0x0000, bytes.fromhex("02 01 00"))  # LJMP 0100h
-    put(0x0100, bytes.fromhex("75 81 7F 12 01 40 80 FE"))  # MOV SP,#7Fh; LCALL 0140h; SJMP to itself
-    put(AT_GAIN, bytes.fromhex("7D 40 12 02 00 E1 80"))  # LCALL 0200h; AJMP 0780h, of which the opcode has the top three bits, 111
-    put(AT_MULTIPLY, MULTIPLY)
-    put(AT_ADD, ADD)
-    put(AT_TABLE, OWN)
-    put(AT_STRANGE, STRANGE)
     return bytes(cells)
 
 
+def code(multiply):
+    """What stands in the image, and in the board's common part, but for the multiplication, which is called where it stands."""
+    return [
+        (0x0000, bytes.fromhex("02 01 00")),  # LJMP 0100h
+        (0x0100, bytes.fromhex("75 81 7F 12 01 40 80 FE")),  # MOV SP,#7Fh; LCALL 0140h; SJMP to itself
+        # MOV R5,#40h; LCALL of the multiplication; AJMP 0780h, of which the opcode has the top three bits, 111
+        (AT_GAIN, bytes.fromhex("7D 40 12") + multiply.to_bytes(2, "big") + bytes.fromhex("E1 80")),
+        (AT_ADD, ADD),
+        (AT_TABLE, OWN),
+        (AT_STRANGE, STRANGE),
+    ]
+
+
+def image():
+    return filled(LENGTH, *code(AT_MULTIPLY), (AT_MULTIPLY, MULTIPLY))
+
+
+def board():
+    """A common part and two banks: the multiplication that the common part calls stands in bank 0, and bank 1 has a subtraction elsewhere."""
+    common = filled(BANK, *code(AT_BANKED_MULTIPLY))
+    return common + filled(BANK, (AT_BANKED_MULTIPLY - BANK, MULTIPLY)) + filled(BANK, (AT_BANKED_SUBTRACT - BANK, SUBTRACT))
+
+
+def write(folder, files):
+    folder.mkdir(exist_ok=True)
+    for file, data in files.items():
+        (folder / file).write_bytes(data)
+
+
 def main():
-    for folder in (HERE, AGAIN):
-        folder.mkdir(exist_ok=True)
-        (folder / "aid.img").write_bytes(image())
-        (folder / "routines.lib").write_bytes(library())
+    aid, two_banks, routines = {"aid.img": image()}, {"board.img": board()}, {"routines.lib": library()}
+    write(HERE, aid | two_banks | routines)
+    write(CRATES / "list" / "data", aid | routines)
+    write(CRATES / "bank_lists" / "data", two_banks | routines)
 
 
 if __name__ == "__main__":

@@ -1,7 +1,9 @@
-// What the programs share: the words of the command line and the settings that they ask for, files, what is said where there is no list, and the list on
-// standard output.
+// What the programs share: the words of the command line and the settings that they ask for, files, memory, what is said where there is no list, and the
+// list on standard output.
 pub mod arguments;
 pub mod file;
+pub mod library_room;
+pub mod memory;
 pub mod message;
 pub mod mistake;
 pub mod number;

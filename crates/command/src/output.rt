@@ -28,13 +28,13 @@ fn write_line(library: &[u8], lines: &[u64], i: usize) -> bool {
     written(printed, &room)
 }
 
-// Whether the heading and the first n lines are written.
-fn write_lines(library: &[u8], lines: &[u64], n: usize) -> bool {
+// Whether the heading is written, and the lines from a number on up to another.
+pub fn write_lines(library: &[u8], lines: &[u64], from: usize, to: usize) -> bool {
     if !write_heading() {
         return false;
     }
-    let mut i = 0;
-    while i < n {
+    let mut i = from;
+    while i < to {
         if !write_line(library, lines, i) {
             return false;
         }
@@ -43,8 +43,9 @@ fn write_lines(library: &[u8], lines: &[u64], n: usize) -> bool {
     true
 }
 
+// Prints the first n lines.
 pub fn print(library: &[u8], lines: &[u64], n: usize) {
-    if !write_lines(library, lines, n) {
+    if !write_lines(library, lines, 0, n) {
         say_unwritten();
     }
 }

@@ -1,5 +1,5 @@
 // What a run comes to, as 18 numbers: the refusal's number, or 0; the seven counts, zeros with a refusal; a digest of each of the eight lists as they are left;
-// the length of the printed form, and its digest. With a refusal nothing is printed.
+// and a size with a digest: of an image's list its printed form. With a refusal nothing is printed.
 use crate::digest::of_bytes;
 use crate::digest::of_numbers;
 use lent::names::name;
@@ -32,19 +32,32 @@ pub fn digests_of(
     ]
 }
 
-struct Print {
-    size: usize,
-    digest: u64,
+// The last two numbers.
+pub struct Last {
+    pub size: usize,
+    pub digest: u64,
 }
 
-// The printed form; nothing without room for it.
-fn print_of(library: &[u8], lines: &[u64], n: usize, text: &mut [u8]) -> Print {
+fn no_last() -> Last {
+    Last { size: 0, digest: 0 }
+}
+
+// The printed form of so many lines; nothing without room for it.
+fn print_of(library: &[u8], lines: &[u64], n: usize, text: &mut [u8]) -> Last {
     match print(library, lines, n, text) {
-        Printed::Written(size) => Print {
+        Printed::Written(size) => Last {
             size,
             digest: of_bytes(name(text, Part { at: 0, len: size })),
         },
-        Printed::NoRoom => Print { size: 0, digest: 0 },
+        Printed::NoRoom => no_last(),
+    }
+}
+
+// What is printed of an answer.
+fn printed_of(library: &[u8], lines: &[u64], came: Answer, text: &mut [u8]) -> Last {
+    match came {
+        Answer::Done(c) => print_of(library, lines, c.lines, text),
+        Answer::Refused(_) => no_last(),
     }
 }
 
@@ -60,7 +73,7 @@ fn no_counts() -> Counts {
     }
 }
 
-fn answer(number: u64, c: Counts, left: [u64; 8], text: Print) -> [u64; 18] {
+fn numbers(number: u64, c: Counts, left: [u64; 8], last: Last) -> [u64; 18] {
     [
         number,
         c.segments as u64,
@@ -78,11 +91,19 @@ fn answer(number: u64, c: Counts, left: [u64; 8], text: Print) -> [u64; 18] {
         left[5],
         left[6],
         left[7],
-        text.size as u64,
-        text.digest,
+        last.size as u64,
+        last.digest,
     ]
 }
 
+pub fn numbers_of(came: Answer, left: [u64; 8], last: Last) -> [u64; 18] {
+    match came {
+        Answer::Done(c) => numbers(0, c, left, last),
+        Answer::Refused(r) => numbers(number(r) as u64, no_counts(), left, last),
+    }
+}
+
+// The numbers of a run on an image.
 pub fn answer_of(
     library: &[u8],
     lines: &[u64],
@@ -90,15 +111,5 @@ pub fn answer_of(
     left: [u64; 8],
     text: &mut [u8],
 ) -> [u64; 18] {
-    match came {
-        Answer::Done(c) => answer(0, c, left, print_of(library, lines, c.lines, text)),
-        Answer::Refused(r) => {
-            answer(
-                number(r) as u64,
-                no_counts(),
-                left,
-                Print { size: 0, digest: 0 },
-            )
-        }
-    }
+    numbers_of(came, left, printed_of(library, lines, came, text))
 }

@@ -10,6 +10,10 @@ use crate::header::has_scene;
 use crate::header::told_settings;
 use crate::numbers::eight_at;
 use crate::numbers::four_at;
+use crate::show::cut_short;
+use crate::show::say;
+use lent::names::name;
+use lent::part::Part;
 use lent::rows::clear_bytes;
 
 // How long image and library are.
@@ -24,11 +28,46 @@ pub enum Next {
     CutShort,
 }
 
-// Whether a file starts with the word "runs" and the number of this version, 3.
+// Nothing says that a file ends, so the loop over its cases counts them; no file here has as many.
+pub const LIMIT: u64 = 100000;
+
+// Before the first case.
+pub fn no_scene() -> Scene {
+    Scene {
+        image: 0,
+        library: 0,
+    }
+}
+
+// The bytes of a room that are an image or a library.
+pub fn start(room: &[u8], len: usize) -> &[u8] {
+    name(room, Part { at: 0, len })
+}
+
+// Opens the file of cases that word i of the command line names; below 0, and said so, where that fails.
+pub fn open(i: usize) -> i32 {
+    let mut path = io::buffer();
+    let n = os::arg(i, &mut path);
+    if os::errno() != 0 {
+        os::fail(b"a file of cases");
+        return -1;
+    }
+    let fd = os::open_read(&path[..n]);
+    if fd < 0 {
+        os::fail(&path[..n]);
+    }
+    fd
+}
+
+// Whether a file starts with the word "runs" and the number of this version, 3; says so where it does not.
 pub fn is_known(fd: i32) -> bool {
     let mut start = [0u8; 8];
     let n = io::read_full(fd, &mut start);
-    n == 8 && eight_at(&start, 0) == 0x3_736e_7572
+    if n == 8 && eight_at(&start, 0) == 0x3_736e_7572 {
+        return true;
+    }
+    say(b"the file of cases is of another version\n");
+    false
 }
 
 // Whether so many bytes are there; then they stand in the room from a place on.
@@ -97,7 +136,7 @@ fn fill_header(fd: i32, header: &mut [u8]) -> bool {
 }
 
 // The next case: its header, which is zeros before; image and library begin with what it is run on.
-pub fn next_case(
+fn read_case(
     fd: i32,
     header: &mut [u8],
     image: &mut [u8],
@@ -127,4 +166,20 @@ fn begin(header: &mut [u8], flags: u8, told: u8) {
         header[0] = flags;
         header[1] = told;
     }
+}
+
+// The same; says so where the case, before which so many passed, is cut short.
+pub fn next_case(
+    fd: i32,
+    passed: u64,
+    header: &mut [u8],
+    image: &mut [u8],
+    library: &mut [u8],
+    before: Scene,
+) -> Next {
+    let next = read_case(fd, header, image, library, before);
+    if let Next::CutShort = next {
+        cut_short(passed);
+    }
+    next
 }

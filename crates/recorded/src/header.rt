@@ -1,5 +1,6 @@
 // The header of a case: flags, how many settings are told, room for the settings and for a depth, the lengths of the eight lent lists, and the recorded answer
 // of 18 numbers.
+ghost use Prim.Native.Nat.{_≤_};
 use crate::numbers::eight_at;
 use crate::numbers::four_at;
 use image::cover::Stretches;
@@ -136,11 +137,22 @@ pub fn settings_of(header: &[u8]) -> Settings {
 }
 
 // The length of a lent list, by its number from 0 to 7.
-pub fn lent_length(header: &[u8], i: usize) -> usize {
+fn lent_length(header: &[u8], i: usize) -> usize {
     if 8 <= i {
         return 0;
     }
     four_at(header, LENT_AT + i * 4) as usize
+}
+
+// The same, and no more than there is room for: a case that asks for more gets the room, and differs.
+pub fn lent_within(header: &[u8], i: usize, room: usize) -> usize
+    ensures { λ r. ⌜ r ≤ room ⌝ }
+{
+    let n = lent_length(header, i);
+    if n < room {
+        return n;
+    }
+    room
 }
 
 // A number of the recorded answer.

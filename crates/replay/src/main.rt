@@ -9,15 +9,8 @@ fn library_room() -> [u8; 1048832] {
 }
 
 fn main() {
-    let mut path = io::buffer();
-    let n = os::arg(1, &mut path);
-    if os::errno() != 0 {
-        os::fail(b"the file of cases");
-        return;
-    }
-    let fd = os::open_read(&path[..n]);
+    let fd = recorded::cases::open(1);
     if fd < 0 {
-        os::fail(&path[..n]);
         return;
     }
     let mut image = [0u8; 65792];

@@ -1,12 +1,10 @@
 // A whole run with lent memory that is full of something else before.
-ghost use Prim.Native.Nat.{_≤_};
-use lent::names::name;
-use lent::part::Part;
 use libfind::entry::find_names;
 use recorded::answer::answer_of;
 use recorded::answer::digests_of;
 use recorded::cases::Scene;
-use recorded::header::lent_length;
+use recorded::cases::start;
+use recorded::header::lent_within;
 use recorded::header::settings_of;
 use run::Settings;
 
@@ -51,17 +49,7 @@ fn with_lists(
     answer_of(library, lines, came, left, text)
 }
 
-fn at_most(most: usize, n: usize) -> usize
-    ensures { λ r. ⌜ r ≤ most ⌝ }
-{
-    if n < most {
-        return n;
-    }
-    most
-}
-
-// With as much as is to be lent for what is found. The rooms are full of numbers that no row has, so that what is to be zero afterwards was set to it. A
-// case that asks for more than a room gets the room, and differs.
+// With as much as is to be lent for what is found. The rooms are full of numbers that no row has, so that what is to be zero afterwards was set to it.
 fn with_rows(
     image: &[u8],
     library: &[u8],
@@ -76,9 +64,9 @@ fn with_rows(
     let mut noted = [0xa5a5_a5a5_a5a5_a5a5u64; 4096];
     let mut lines = [0xa5a5_a5a5_a5a5_a5a5u64; 4096];
     let mut text = [0xa5u8; 32768];
-    let p = at_most(8192, lent_length(header, 5));
-    let n = at_most(4096, lent_length(header, 6));
-    let l = at_most(4096, lent_length(header, 7));
+    let p = lent_within(header, 5, 8192);
+    let n = lent_within(header, 6, 4096);
+    let l = lent_within(header, 7, 4096);
     with_lists(
         image,
         library,
@@ -102,11 +90,11 @@ fn with_rooms(image: &[u8], library: &[u8], header: &[u8]) -> [u64; 18] {
     let mut symbols = [0xa5a5_a5a5_a5a5_a5a5u64; 2048];
     let mut bytes = [0xa5u8; 65792];
     let mut masks = [0xa5u8; 65792];
-    let s = at_most(4096, lent_length(header, 0));
-    let r = at_most(8192, lent_length(header, 1));
-    let y = at_most(2048, lent_length(header, 2));
-    let b = at_most(65792, lent_length(header, 3));
-    let m = at_most(65792, lent_length(header, 4));
+    let s = lent_within(header, 0, 4096);
+    let r = lent_within(header, 1, 8192);
+    let y = lent_within(header, 2, 2048);
+    let b = lent_within(header, 3, 65792);
+    let m = lent_within(header, 4, 65792);
     with_rows(
         image,
         library,
@@ -117,10 +105,6 @@ fn with_rooms(image: &[u8], library: &[u8], header: &[u8]) -> [u64; 18] {
         &mut bytes[0..b],
         &mut masks[0..m],
     )
-}
-
-fn start(room: &[u8], len: usize) -> &[u8] {
-    name(room, Part { at: 0, len })
 }
 
 // What a run on what image and library begin with comes to.

@@ -4,20 +4,7 @@ mod compare;
 mod told;
 mod trial;
 
-// Opens the file that word i names; below 0, and said so, where that fails.
-fn open(i: usize) -> i32 {
-    let mut path = io::buffer();
-    let n = os::arg(i, &mut path);
-    if os::errno() != 0 {
-        os::fail(b"a file of cases");
-        return -1;
-    }
-    let fd = os::open_read(&path[..n]);
-    if fd < 0 {
-        os::fail(&path[..n]);
-    }
-    fd
-}
+use recorded::cases::open;
 
 fn main() {
     let cases = open(1);

@@ -5,10 +5,10 @@ use Rattle.command.proofs.output.write_lines.Statement.{statement}
 use Rattle.command.proofs.output.write_lines.Tie as tie
 
 abbrev Inv-loop : tie.InvT-loop
-Inv-loop library lines n i₀ i = Unit
+Inv-loop library lines from to i₀ i = Unit
 
 abbrev μ-loop : tie.MeasureT-loop
-μ-loop library lines n i₀ i = n - i
+μ-loop library lines from to i₀ i = to - i
 
 pub write-lines-spec : {M : Type 1} → statement M
 write-lines-spec =

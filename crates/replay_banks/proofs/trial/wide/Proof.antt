@@ -1,18 +1,17 @@
--- `same` goes along the numbers. Assumes nothing.
+-- `wide` goes along the banks. Assumes nothing.
 use Prim.Native.Nat.{_-_}
-use lib.ListN.{length}
 use borrow.Author.Needs.{needs}
-use Rattle.replay.proofs.compare.same.Statement.{statement}
-use Rattle.replay.proofs.compare.same.Tie as tie
+use Rattle.replay_banks.proofs.trial.wide.Statement.{statement}
+use Rattle.replay_banks.proofs.trial.wide.Tie as tie
 
 abbrev Inv-loop : tie.InvT-loop
-Inv-loop header came i₀ i = Unit
+Inv-loop lines numbers₀ k₀ numbers k = Unit
 
 abbrev μ-loop : tie.MeasureT-loop
-μ-loop header came i₀ i = length came - i
+μ-loop lines numbers₀ k₀ numbers k = 16 - k
 
-pub same-spec : {M : Type 1} → statement M
-same-spec =
+pub wide-spec : {M : Type 1} → statement M
+wide-spec =
     tie.close
     (tie.spec
     Inv-loop
@@ -20,7 +19,7 @@ same-spec =
     (λ c. search needs)
     (λ c. search needs)
     (λ c. search needs)
-    (λ c κs. search needs)
+    (λ c. search needs)
     (λ c. search needs)
     (λ c. search needs)
     (λ c. search needs)
