@@ -34,15 +34,15 @@ fn put_bank(library: &[u8], lines: &[u64], k: usize, from: usize, to: usize) -> 
 }
 
 // How many lines a bank has.
-fn lines_of(each: &[usize], k: usize) -> usize {
+fn lines_of(each: &[u64], k: usize) -> usize {
     if k < each.len() {
-        return each[k];
+        return each[k] as usize;
     }
     0
 }
 
 // Whether all banks are written. Their lines stand one after another.
-fn put_banks(library: &[u8], lines: &[u64], each: &[usize], banks: usize) -> bool {
+fn put_banks(library: &[u8], lines: &[u64], each: &[u64], banks: usize) -> bool {
     let mut from = 0;
     let mut k = 0;
     while k < banks {

@@ -12,17 +12,6 @@ use recorded::header::settings_of;
 use run::Answer;
 use run::Settings;
 
-// How many lines each bank has, as a digest takes them in.
-fn wide(lines: [usize; 16]) -> [u64; 16] {
-    let mut numbers = [0u64; 16];
-    let mut k = 0;
-    while k < 16 {
-        numbers[k] = lines[k] as u64;
-        k += 1;
-    }
-    numbers
-}
-
 // The number of banks, and the digest of how many lines each has. A refusal has no bank, and no digest is recorded.
 fn last_of(came: BankAnswer) -> Last {
     let answer = came.answer;
@@ -30,7 +19,7 @@ fn last_of(came: BankAnswer) -> Last {
     match answer {
         Answer::Done(_) => Last {
             size: came.banks,
-            digest: of_numbers(&wide(lines)),
+            digest: of_numbers(&lines),
         },
         Answer::Refused(_) => Last {
             size: came.banks,
