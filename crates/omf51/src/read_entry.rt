@@ -156,9 +156,8 @@ pub fn named_at(library: &[u8], edition: Edition, kind: u8, more: u8, at: usize)
             if leaves_over(edition, body + need, end) {
                 return Named::Refused(Refusal::LeftOver);
             }
-            let name = name_at(library, body);
             Named::Read {
-                name,
+                name: Part { at: body + 1, len },
                 next: end + 1,
             }
         }
