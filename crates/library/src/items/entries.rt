@@ -2,6 +2,7 @@
 ghost use mathlib.Core.Path.{_≡_};
 ghost use Prim.Native.Nat.{_+_, _<_, _≤_};
 ghost use lib.ListN.{length};
+ghost use Rattle.omf51.specs.declared.entry.Entries.the-variants.{Definitions, Fixups};
 ghost use Rattle.library.specs.items.Walk.{entryIn, enteredAt, nextEntry, startAt};
 use crate::items::Cursor;
 use crate::items::Step;
@@ -61,20 +62,39 @@ fn entered(library: &[u8], what: Entries, at: usize, next: usize) -> Cursor
     }
 }
 
-// The next entry from the cursor on: in the cursor's body, or else in the records that follow.
-pub fn next_entry(library: &[u8], what: Entries, from: Cursor) -> Step
-    ensures { λ r. ⌜ r ≡ nextEntry what (now (library .entry)) from ⌝ }
+// The next definition from the cursor on: in the cursor's body, or else in the records that follow. Definitions and fixups have
+// each their own function, with one caller, so that the compiler puts it there.
+pub fn next_in_definitions(library: &[u8], from: Cursor) -> Step
+    ensures { λ r. ⌜ r ≡ nextEntry Definitions (now (library .entry)) from ⌝ }
 {
     let mut c = from;
     loop {
-        let entry = entry_in(library, what, c);
+        let entry = entry_in(library, Entries::Definitions, c);
         if let End::At(end) = entry {
             return Step::Entry { here: c, end };
         }
         let at = c.next;
-        let End::At(next) = record_end(library, what, at) else {
+        let End::At(next) = record_end(library, Entries::Definitions, at) else {
             return Step::Done;
         };
-        c = entered(library, what, at, next);
+        c = entered(library, Entries::Definitions, at, next);
+    }
+}
+
+// The next fixup from the cursor on: in the cursor's body, or else in the records that follow.
+pub fn next_in_fixups(library: &[u8], from: Cursor) -> Step
+    ensures { λ r. ⌜ r ≡ nextEntry Fixups (now (library .entry)) from ⌝ }
+{
+    let mut c = from;
+    loop {
+        let entry = entry_in(library, Entries::Fixups, c);
+        if let End::At(end) = entry {
+            return Step::Entry { here: c, end };
+        }
+        let at = c.next;
+        let End::At(next) = record_end(library, Entries::Fixups, at) else {
+            return Step::Done;
+        };
+        c = entered(library, Entries::Fixups, at, next);
     }
 }
