@@ -4,17 +4,19 @@ ghost use Prim.Native.Nat.{_+_, _<_};
 ghost use lib.ListN.{length};
 ghost use Rattle.lent.specs.Parts.{byteAt, wordAt};
 ghost use Rattle.omf51.specs.Entry.{idAt, nameOffset};
-ghost use Rattle.library.specs.items.Items.{definitionHere, fixupHere, past as pastEntry, nextDefinition, nextFixup};
+ghost use Rattle.library.specs.items.Items.{definitionHere, fixupHere, nextDefinition, nextFixup};
 use crate::items::Cursor;
 use crate::items::NextDefinition;
 use crate::items::NextFixup;
 use crate::items::Step;
+use crate::items::entries::moved;
+use crate::items::entries::next_entry;
 use crate::items::entries::next_in_definitions;
-use crate::items::entries::next_in_fixups;
 use omf51::Definition;
 use omf51::Fixup;
 use omf51::Frame;
 use omf51::ModuleId;
+use omf51::entry::Entries;
 use omf51::read_entry::id_size;
 use omf51::read_entry::is_public;
 use omf51::read_entry::is_segment;
@@ -86,22 +88,6 @@ fn fixup_of(library: &[u8], f: Frame, at: usize) -> Fixup
     }
 }
 
-// The cursor behind an entry. It is put together of its parts, so that no unused bytes are copied.
-fn past(here: Cursor, end: usize) -> Cursor
-    ensures { λ r. ⌜ r ≡ pastEntry here end ⌝ }
-{
-    let frame = here.frame;
-    Cursor {
-        frame: Frame {
-            kind: frame.kind,
-            body: frame.body,
-            end: frame.end,
-        },
-        at: end,
-        next: here.next,
-    }
-}
-
 // The next definition of a module from a cursor on, and the cursor behind it.
 pub fn next_definition(library: &[u8], from: Cursor) -> NextDefinition
     ensures { λ r. ⌜ r ≡ nextDefinition (now (library .entry)) from ⌝ }
@@ -111,7 +97,7 @@ pub fn next_definition(library: &[u8], from: Cursor) -> NextDefinition
             let definition = definition_of(library, here.frame, here.at);
             NextDefinition::Item {
                 definition,
-                rest: past(here, end),
+                rest: moved(here, end),
             }
         }
         Step::Done => NextDefinition::Done,
@@ -122,12 +108,17 @@ pub fn next_definition(library: &[u8], from: Cursor) -> NextDefinition
 pub fn next_fixup(library: &[u8], from: Cursor) -> NextFixup
     ensures { λ r. ⌜ r ≡ nextFixup (now (library .entry)) from ⌝ }
 {
-    match next_in_fixups(library, from) {
+    match next_entry(library, Entries::Fixups, from) {
         Step::Entry { here, end } => {
-            let fixup = fixup_of(library, here.frame, here.at);
+            let frame = here.frame;
+            let fixup = fixup_of(library, frame, here.at);
             NextFixup::Item {
                 fixup,
-                rest: past(here, end),
+                rest: Cursor {
+                    frame,
+                    at: end,
+                    next: here.next,
+                },
             }
         }
         Step::Done => NextFixup::Done,

@@ -18,7 +18,7 @@ definition-of-requires c κs =
 returns : tie.Need-returns
 returns c =
     let here = c .before .before .before in
-    rw (sym (here .before .before .next-in-definitions .ensures) ∙ here .here .given .1, c .before .definition-of .ensures, c .past .ensures)
+    rw (sym (here .before .before .next-in-definitions .ensures) ∙ here .here .given .1, c .before .definition-of .ensures, c .moved .ensures)
 
 returns-2 : tie.Need-returns-2
 returns-2 c = rw (sym (c .before .before .next-in-definitions .ensures) ∙ c .enum-told .given .1)

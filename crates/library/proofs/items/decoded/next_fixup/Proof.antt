@@ -9,19 +9,17 @@ use Rattle.library.proofs.items.decoded.next_fixup.Tie as tie
 
 fixup-of-requires : tie.Need-fixup-of-requires
 fixup-of-requires c κs =
-    let here = c .before in
+    let here = c .before .before in
     let a = here .before .before .before .before .args in
     let h = here .here .given .0 .0 in
-    let w = step-whole Fixups (a .library .now) (a .from) (sym (here .before .before .next-in-fixups .ensures) ∙ here .here .given .1) in
+    let w = step-whole Fixups (a .library .now) (a .from) (sym (here .before .before .next-entry .ensures) ∙ here .here .given .1) in
     omega (arith, w .inside, fixup-room (a .library .now) (h .frame) (h .at) (w .ends))
 
 returns : tie.Need-returns
-returns c =
-    let here = c .before .before .before in
-    rw (sym (here .before .before .next-in-fixups .ensures) ∙ here .here .given .1, c .before .fixup-of .ensures, c .past .ensures)
+returns c = rw (sym (c .before .before .before .before .before .next-entry .ensures) ∙ c .before .before .before .here .given .1, c .fixup-of .ensures)
 
 returns-2 : tie.Need-returns-2
-returns-2 c = rw (sym (c .before .before .next-in-fixups .ensures) ∙ c .enum-told .given .1)
+returns-2 c = rw (sym (c .before .before .next-entry .ensures) ∙ c .enum-told .given .1)
 
 pub next-fixup-spec : {M : Type 1} → statement M
 next-fixup-spec =
@@ -30,7 +28,6 @@ next-fixup-spec =
     (λ c κs. search needs)
     (λ c. search needs)
     fixup-of-requires
-    (λ c κs. search needs)
     (λ c. search needs)
     returns
     returns-2)

@@ -1,7 +1,7 @@
--- `next_in_definitions` goes from body to body. The invariant: from here the walk comes to what it comes to from the start. Assumes nothing.
-use Prim.Native.Nat.{ℕ, suc, _-_, _<_}
-use mathlib.Core.Path.{_≡_, refl, sym, subst, _∙_}
-use mathlib.Core.List.{List, [], _∷_}
+-- `next_in_definitions`: in the cursor's body, or in the next record, or else as `next_entry` goes on from there. Assumes nothing.
+use Prim.Native.Nat.{suc}
+use mathlib.Core.Path.{_≡_, sym, ap, subst, _∙_}
+use mathlib.Core.List.{[], _∷_}
 use mathlib.Core.Logic.{inl, inr}
 use native.Mathlib.Omega.{arith}
 use lib.ListN.{length}
@@ -15,17 +15,11 @@ use Rattle.omf51.specs.declared.entry.Entries.the-variants.{Definitions}
 use Rattle.omf51.specs.declared.Edition.the-variants.{One}
 use Rattle.library.specs.EndLaws.{Halts}
 use Rattle.library.specs.PassLaws.{record-moved}
-use Rattle.library.specs.declared.items.Cursor.{Cursor}
-use Rattle.library.specs.items.Walk.{entryIn, steps, nextEntry}
-use Rattle.library.specs.items.WalkLaws.{step-item, step-record, step-done}
+use Rattle.library.specs.items.Walk.{entryIn, nextEntry}
+use Rattle.library.specs.items.WalkLaws.{step-item, step-done, next-record}
 use borrow.Author.Needs.{needs}
 use Rattle.library.proofs.items.entries.next_in_definitions.Statement.{statement}
 use Rattle.library.proofs.items.entries.next_in_definitions.Tie as tie
-
-record Inv (library : List ℕ) (from c : Cursor) : Type 0 where
-  count : ℕ
-  enough : length library - c .next < count
-  same : steps count Definitions library c ≡ nextEntry Definitions library from
 
 -- an end that is no place
 halts : (e : End) → OneOf (1 ∷ 2 ∷ []) (tagOf the-type e) → Halts e
@@ -34,68 +28,59 @@ halts (At k) (inr z) = absurd (omega arith)
 halts Stop h = tt
 halts (Refused r) h = tt
 
-abbrev Inv-loop : tie.InvT-loop
-Inv-loop library c₀ c = Inv library c₀ c
-
-abbrev μ-loop : tie.MeasureT-loop
-μ-loop library c₀ c = length library - c .next
-
 -- The ladder: places of the code that the answers cite, each as it is seen from a later place.
-abbrev at-loop : tie.After-known-told2 Inv-loop μ-loop → tie.At-loop Inv-loop μ-loop
-at-loop c = c .before .before .before .before .before .before
+abbrev at-entry : tie.After-entry-in → tie.Start
+at-entry c = c .before .before
 
-no-entry : (c : tie.At-match-keys2 Inv-loop μ-loop) → Halts
-    (entryIn Definitions (now (c .before .before .before .before .args .library)) (c .before .before .loop .c))
+abbrev after-record-end : tie.After-known-told2 → tie.After-record-end
+after-record-end c = c .before .before .before
+
+-- the cursor's body has no further entry
+no-entry : (c : tie.At-match-keys2) → Halts (entryIn Definitions (now (at-entry (c .before) .args .library)) (at-entry (c .before) .args .from))
 no-entry c = subst Halts (c .before .entry-in .ensures) (halts (c .before .entry-in .result) (c .match .keys2))
 
-loop-holds : tie.Need-loop-holds Inv-loop μ-loop
-loop-holds c = record { count = suc (length (c .before .args .library .now)); enough = omega arith; same = refl }
+entered-requires : tie.Need-entered-requires
+entered-requires c κs =
+    let record-end = after-record-end c in
+    let a = at-entry (record-end .before .before) .args in
+    record-moved One Definitions (a .library .now) (a .from .next) (sym (record-end .record-end .ensures) ∙ c .before .next .given .1)
 
-returns : tie.Need-returns Inv-loop μ-loop
+-- the walk goes on in the next record
+entered : (c : tie.After-entered) → let a = at-entry (after-record-end (c .before) .before .before) .args in
+    nextEntry Definitions (a .library .now) (a .from) ≡ nextEntry Definitions (a .library .now) (c .entered .result)
+entered c =
+    let record-end = after-record-end (c .before) in
+    let a = at-entry (record-end .before .before) .args in
+    next-record Definitions (a .library .now) (a .from) (no-entry (record-end .before)) (sym (record-end .record-end .ensures) ∙ c .before .before .next .given .1)
+    ∙ ap (nextEntry Definitions (a .library .now)) (sym (c .entered .ensures))
+
+returns : tie.Need-returns
 returns c =
-    let a = c .before .before .before .before .before .before .args in
-    let l = c .before .before .before .before .loop in
-    sym (step-item (l .inv .count) Definitions (a .library .now) (l .c) (omega (arith, l .inv .enough)) (sym (c .before .before .before .entry-in .ensures) ∙ c .before .entry .given .1)) ∙ l .inv .same
+    let entry-in = c .before .before .before in
+    let a = at-entry entry-in .args in
+    sym (step-item (suc (length (a .library .now))) Definitions (a .library .now) (a .from) (omega arith) (sym (entry-in .entry-in .ensures) ∙ c .before .entry .given .1))
 
-returns-2 : tie.Need-returns-2 Inv-loop μ-loop
+returns-2 : tie.Need-returns-2
 returns-2 c =
-    let a = c .before .before .before .before .before .before .args in
-    let l = c .before .before .before .before .loop in
+    let a = at-entry (c .before .before .before) .args in
     let none = subst Halts (c .before .record-end .ensures) (halts (c .before .record-end .result) (c .match2 .keys2)) in
-    sym (step-done (l .inv .count) Definitions (a .library .now) (l .c) (omega (arith, l .inv .enough)) (no-entry (c .before .before)) none) ∙ l .inv .same
+    sym (step-done (suc (length (a .library .now))) Definitions (a .library .now) (a .from) (omega arith) (no-entry (c .before .before)) none)
 
-entered-requires : tie.Need-entered-requires Inv-loop μ-loop
-entered-requires c κs = let a = at-loop c .before .before .args in record-moved One Definitions (a .library .now) (at-loop c .loop .c .next)
-    (sym (c .before .before .before .record-end .ensures) ∙ c .before .next .given .1)
+returns-3 : tie.Need-returns-3
+returns-3 c =
+    let entry-in = c .before .before .before in
+    let e = entry-in .before in
+    let a = at-entry (after-record-end (e .before) .before .before) .args in
+    sym (entered e ∙ step-item (suc (length (a .library .now))) Definitions (a .library .now) (e .entered .result) (omega arith)
+    (sym (entry-in .entry-in2 .ensures) ∙ c .before .first .given .1))
 
-loop-less : tie.Need-loop-less Inv-loop μ-loop
-loop-less c =
-    let a = at-loop (c .before) .before .before .args in
-    rw (c .entered .ensures) (omega (
-      arith,
-      record-moved One Definitions (a .library .now) (at-loop (c .before) .loop .c .next)
-          (sym (c .before .before .before .before .record-end .ensures) ∙ c .before .before .next .given .1),
-    ))
-
-loop-again : tie.Need-loop-again Inv-loop μ-loop
-loop-again c =
-    let a = at-loop (c .before) .before .before .args in
-    let l = at-loop (c .before) .loop in
-    let e = sym (c .before .before .before .before .record-end .ensures) ∙ c .before .before .next .given .1 in
-    let m = record-moved One Definitions (a .library .now) (l .c .next) e in
-    rw (c .entered .ensures) (record {
-      count = l .inv .count - 1;
-      enough = omega (arith, m, l .inv .enough);
-      same = sym (step-record (l .inv .count) Definitions (a .library .now) (l .c) (omega (arith, l .inv .enough)) (no-entry (c .before .before .before .before .before)) e) ∙ l .inv .same;
-    })
+returns-4 : tie.Need-returns-4
+returns-4 c = c .next-entry .ensures ∙ sym (entered (c .before .before .before))
 
 pub next-in-definitions-spec : {M : Type 1} → statement M
 next-in-definitions-spec =
     tie.close
     (tie.spec
-    Inv-loop
-    μ-loop
-    loop-holds
     (λ c κs. search needs)
     (λ c. search needs)
     returns
@@ -103,5 +88,8 @@ next-in-definitions-spec =
     (λ c. search needs)
     returns-2
     entered-requires
-    loop-less
-    loop-again)
+    (λ c κs. search needs)
+    (λ c. search needs)
+    returns-3
+    (λ c κs. search needs)
+    returns-4)
