@@ -5,12 +5,13 @@ use mathlib.Core.List.{List}
 use Rattle.lent.specs.OneOutcome.{Determines, by-equation, by-map}
 use Rattle.omf51.specs.declared.Edition.{Edition}
 use Rattle.omf51.specs.declared.entry.Entries.{Entries}
-use Rattle.omf51.specs.Module.{sectionsBy}
+use Rattle.omf51.specs.Reader.{many}
+use Rattle.omf51.specs.Module.{sectionsBy, moduleBy}
 use Rattle.omf51.specs.Ends.{endOf}
 use Rattle.library.specs.declared.ModuleAt.{ModuleAt}
 use Rattle.library.specs.declared.ModuleAt.the-variants.{Whole, Stop, Refused}
 use Rattle.library.specs.Passes.{holds, recordEnd, allEndBy, sectionsEndBy, placesBy, placesRead}
-use Rattle.library.specs.Reading.{reading}
+use Rattle.library.specs.Reading.{countOf, reading}
 
 pub holds-one : (what : Entries) (kind : ℕ) → Determines (λ r. r ≡ holds what kind)
 holds-one what kind = by-equation (holds what kind)
@@ -40,6 +41,9 @@ places-apart (Refused r) (Refused s) e = cc
 
 pub module-at-one : (library : List ℕ) (edition : Edition) (at : ℕ) → Determines (λ r. placesRead r ≡ placesBy edition library at)
 module-at-one library edition at = by-map placesRead places-apart (placesBy edition library at)
+
+pub count-one : (library : List ℕ) (edition : Edition) (from : ℕ) → Determines (λ r. r ≡ countOf (many library (moduleBy edition library) from))
+count-one library edition from = by-equation (countOf (many library (moduleBy edition library) from))
 
 pub read-one : (library : List ℕ) (edition : Edition) → Determines (λ r. r ≡ reading edition library)
 read-one library edition = by-equation (reading edition library)

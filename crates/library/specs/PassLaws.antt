@@ -9,7 +9,6 @@ use Rattle.lent.specs.declared.refusal.Refusal.{Refusal}
 use Rattle.lent.specs.declared.refusal.Refusal.the-variants.{LeftOver}
 use Rattle.lent.specs.Choice.{if_then_else_}
 use Rattle.lent.specs.ChoiceLaws.{chosen}
-use Rattle.lent.specs.Parts.{byteAt}
 use Rattle.omf51.specs.declared.Edition.{Edition}
 use Rattle.omf51.specs.declared.Edition.the-variants.{One, Two}
 use Rattle.omf51.specs.declared.Frame.{Frame}
@@ -19,7 +18,7 @@ use Rattle.omf51.specs.declared.entry.Entries.{Entries}
 use Rattle.omf51.specs.declared.entry.Entries.the-variants.{Definitions, Fixups}
 use Rattle.omf51.specs.Reader.{ReadOutcome, read, stop, refused, Reader, andThen, atLeastOne}
 use Rattle.omf51.specs.Record.{leavesOver, expectedBy, usedUp, whole, recordBy}
-use Rattle.omf51.specs.RecordLaws.{FrameFits, fits-by, record-framed, used-all, not-allowed}
+use Rattle.omf51.specs.RecordLaws.{FrameFits, fits-by, record-framed, used-all}
 use Rattle.omf51.specs.Entry.{definitionAt, fixupAt}
 use Rattle.omf51.specs.Module.{fixupsBy, definitionsBy}
 use Rattle.omf51.specs.Expected.{allows}
@@ -107,12 +106,6 @@ record-end One Fixups library at q =
     entries-end One library _ (holds Fixups) (fixupAt library) (bodyEnd One Fixups library) (λ f next. least-end library _ (fixup-gave library f) (f .body) (f .end) next) at q
 record-end Two Definitions library at q = entries-end Two library _ (holds Definitions) (definitionAt library) (bodyEnd Two Definitions library) (λ f next. refl) at q
 record-end Two Fixups library at q = entries-end Two library _ (holds Fixups) (fixupAt library) (bodyEnd Two Fixups library) (λ f next. refl) at q
-
--- a record of another type, whatever else it has
-pub record-absent : (e : Edition) (what : Entries) (library : List ℕ) (at : ℕ) → allows (allowedFor what) (byteAt library at) ≡ false → recordEndBy e what library at ≡ Stop
-unfolding definitionsBy fixupsBy
-record-absent e Definitions library at n = ap endOf (not-allowed e library _ _ at n)
-record-absent e Fixups library at n = ap endOf (not-allowed e library _ _ at n)
 
 -- the cases that the code tells apart
 module _ (e : Edition) (what : Entries) (library : List ℕ) (at : ℕ) where

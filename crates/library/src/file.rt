@@ -3,11 +3,9 @@ ghost use mathlib.Core.Path.{_≡_};
 ghost use Rattle.omf51.specs.Reader.{many};
 ghost use Rattle.omf51.specs.Module.{moduleBy};
 ghost use Rattle.omf51.specs.File.{modulesBy};
-ghost use Rattle.library.specs.Passes.{placesRead, placesBy};
 ghost use Rattle.library.specs.Reading.{countOf, reading, typeEnd};
 ghost use Rattle.library.specs.ReadingLaws.{closingEnd, usedReading, libraryReading};
 use crate::Counted;
-use crate::ModuleAt;
 use crate::Reading;
 use lent::refusal::Refusal;
 use omf51::Edition;
@@ -18,35 +16,14 @@ use omf51::read_record::byte_at;
 use omf51::record::Framed;
 use omf51::types::Allowed;
 
-// Where the parts of the module at a place stand, read in an edition, or why there is none.
-fn module_by(library: &[u8], edition: Edition, at: usize) -> ModuleAt
-    ensures { λ r. ⌜ placesRead r ≡ placesBy edition (now (library .entry)) at ⌝ }
-{
-    match edition {
-        Edition::One => crate::module::module_at(library, at),
-        Edition::Two => crate::sound::module_at(library, at),
-    }
-}
-
-// Counts the modules from a place on, as many as can be read.
-fn count(library: &[u8], edition: Edition, from: usize) -> Counted
+// Counts the modules from a place on, as many as can be read in an edition. The edition is asked for once, and not at each
+// module.
+fn count_by(library: &[u8], edition: Edition, from: usize) -> Counted
     ensures { λ r. ⌜ r ≡ countOf (many (now (library .entry)) (moduleBy edition (now (library .entry))) from) ⌝ }
 {
-    let mut at = from;
-    let mut count = 0;
-    loop {
-        match module_by(library, edition, at) {
-            ModuleAt::Whole(places) => {
-                at = places.next;
-                count += 1;
-            }
-            ModuleAt::Stop => {
-                return Counted::Modules { count, next: at };
-            }
-            ModuleAt::Refused(r) => {
-                return Counted::Refused(r);
-            }
-        }
+    match edition {
+        Edition::One => crate::module::count(library, from),
+        Edition::Two => crate::sound::count(library, from),
     }
 }
 
@@ -54,7 +31,7 @@ fn count(library: &[u8], edition: Edition, from: usize) -> Counted
 fn modules_at(library: &[u8], edition: Edition, from: usize) -> Counted
     ensures { λ r. ⌜ r ≡ countOf (modulesBy edition (now (library .entry)) from) ⌝ }
 {
-    match count(library, edition, from) {
+    match count_by(library, edition, from) {
         Counted::Modules { count, next } => {
             if count == 0 {
                 return Counted::Refused(Refusal::NoModule);

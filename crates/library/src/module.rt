@@ -1,13 +1,17 @@
-// The module at a place in edition 1: where its parts stand, if it is whole. What goes over modules again calls these, whatever
-// edition they were read in.
+// The module at a place in edition 1: where its parts stand, if it is whole; and how many stand in a row. What goes over modules
+// again calls `module_at`, whatever edition they were read in.
 ghost use mathlib.Core.Path.{_≡_};
 ghost use Prim.Native.Nat.{_≤_};
 ghost use Rattle.omf51.specs.declared.Edition.the-variants.{One};
+ghost use Rattle.omf51.specs.Reader.{many};
 ghost use Rattle.omf51.specs.Record.{recordBy};
+ghost use Rattle.omf51.specs.Module.{moduleBy};
 ghost use Rattle.omf51.specs.Entry.{nameWith};
 ghost use Rattle.omf51.specs.Expected.{oneType};
 ghost use Rattle.omf51.specs.Ends.{nameRead};
 ghost use Rattle.library.specs.Passes.{placesRead, placesBy, restPlaces, lastPlaces};
+ghost use Rattle.library.specs.Reading.{countOf};
+use crate::Counted;
 use crate::ModuleAt;
 use crate::Places;
 use crate::repeat::skip;
@@ -18,7 +22,6 @@ use lent::refusal::Refusal;
 use omf51::End;
 use omf51::entry::Entries;
 use omf51::entry::Named;
-use omf51::read_entry::name_at;
 use omf51::read_record::byte_at;
 use omf51::read_record::record_at;
 use omf51::record::Framed;
@@ -44,9 +47,8 @@ fn named_at(library: &[u8], kind: u8, more: u8, at: usize) -> Named
             if end - body < need {
                 return Named::Stop;
             }
-            let name = name_at(library, body);
             Named::Read {
-                name,
+                name: Part { at: body + 1, len },
                 next: end + 1,
             }
         }
@@ -104,5 +106,27 @@ pub fn module_at(library: &[u8], at: usize) -> ModuleAt
         Named::Read { name, next } => rest_places(library, name, next),
         Named::Stop => ModuleAt::Stop,
         Named::Refused(r) => ModuleAt::Refused(r),
+    }
+}
+
+// Counts the modules from a place on, as many as can be read.
+pub fn count(library: &[u8], from: usize) -> Counted
+    ensures { λ r. ⌜ r ≡ countOf (many (now (library .entry)) (moduleBy One (now (library .entry))) from) ⌝ }
+{
+    let mut at = from;
+    let mut count = 0;
+    loop {
+        match module_at(library, at) {
+            ModuleAt::Whole(places) => {
+                at = places.next;
+                count += 1;
+            }
+            ModuleAt::Stop => {
+                return Counted::Modules { count, next: at };
+            }
+            ModuleAt::Refused(r) => {
+                return Counted::Refused(r);
+            }
+        }
     }
 }

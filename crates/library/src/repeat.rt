@@ -19,7 +19,7 @@ use omf51::record::Framed;
 use omf51::types::Allowed;
 
 // What may stand among the records that hold such entries.
-pub fn allowed_for(what: Entries) -> Allowed
+fn allowed_for(what: Entries) -> Allowed
     ensures { λ r. ⌜ r ≡ allowedFor what ⌝ }
 {
     match what {

@@ -1,17 +1,19 @@
 // Records and modules in edition 2, without keeping what they say: each record sums to 0 (14), and its entries use up its body
-// (15).
+// (15). Each function has one caller or is small, so that the compiler puts them all into the loop over modules and calls none.
 ghost use mathlib.Core.Path.{_≡_};
 ghost use Prim.Native.Nat.{_≤_};
 ghost use lib.ListN.{length};
-ghost use Rattle.omf51.specs.Module.{sectionBy, sectionsBy};
+ghost use Rattle.omf51.specs.Module.{sectionBy, sectionsBy, moduleBy};
 ghost use Rattle.omf51.specs.declared.Edition.the-variants.{Two};
+ghost use Rattle.omf51.specs.declared.entry.Entries.the-variants.{Definitions, Fixups};
+ghost use Rattle.omf51.specs.Reader.{many};
 ghost use Rattle.omf51.specs.Ends.{endOf, restEnd, entriesEnd};
 ghost use Rattle.library.specs.Passes.{recordEndBy, allEndBy, sectionsEndBy, placesRead, placesBy, restPlaces, lastPlaces};
 ghost use Rattle.library.specs.EndLaws.{usedEnd};
+ghost use Rattle.library.specs.Reading.{countOf};
+use crate::Counted;
 use crate::ModuleAt;
 use crate::Places;
-use crate::repeat::allowed_for;
-use crate::repeat::holds;
 use lent::names::name;
 use lent::names::same;
 use lent::part::Part;
@@ -19,7 +21,7 @@ use lent::refusal::Refusal;
 use omf51::Edition;
 use omf51::End;
 use omf51::Frame;
-use omf51::allowed_types::allows;
+use omf51::allowed_types::defines;
 use omf51::allowed_types::fills;
 use omf51::by_edition::leaves_over;
 use omf51::by_edition::record_by;
@@ -32,13 +34,13 @@ use omf51::read_record::byte_at;
 use omf51::record::Framed;
 use omf51::types::Allowed;
 
-// Where the entries of a body end from a place on: before the first that is not whole.
+// Where the entries of a body end from a place on: at its end, or before the first that is not whole.
 fn rest_end(library: &[u8], what: Entries, f: Frame, from: usize) -> End
     requires { ⌜ f .end ≤ length (now library) ⌝ }
     ensures { λ r. ⌜ r ≡ restEnd what (now (library .entry)) f from ⌝ }
 {
     let mut at = from;
-    loop {
+    while at < f.end {
         match entry_end(library, what, f, at) {
             End::At(next) => {
                 at = next;
@@ -51,6 +53,7 @@ fn rest_end(library: &[u8], what: Entries, f: Frame, from: usize) -> End
             }
         }
     }
+    End::At(at)
 }
 
 // Where the entries of a body end, of which it has one at least.
@@ -81,20 +84,15 @@ fn used_end(end: usize, next: usize, last: End) -> End
     }
 }
 
-// Where the record at a place ends: a record of such entries, or a record that is skipped among them. Its type is asked for
-// before the rest, since every repetition ends at a record of another type.
-fn record_end(library: &[u8], what: Entries, at: usize) -> End
-    ensures { λ r. ⌜ r ≡ recordEndBy Two what (now (library .entry)) at ⌝ }
+// Where the record at a place ends: a record of definitions, or a record that is skipped among them.
+fn definitions_end(library: &[u8], at: usize) -> End
+    ensures { λ r. ⌜ r ≡ recordEndBy Two Definitions (now (library .entry)) at ⌝ }
 {
-    let allowed = allowed_for(what);
-    if !allows(allowed, byte_at(library, at)) {
-        return End::Stop;
-    }
-    match record_by(library, Edition::Two, allowed, at) {
+    match record_by(library, Edition::Two, Allowed::Definitions, at) {
         Framed::Read(f) => {
             let next = f.end + 1;
-            if holds(what, f.kind) {
-                return used_end(f.end, next, entries_end(library, what, f));
+            if defines(f.kind) {
+                return used_end(f.end, next, entries_end(library, Entries::Definitions, f));
             }
             End::At(next)
         }
@@ -103,13 +101,44 @@ fn record_end(library: &[u8], what: Entries, at: usize) -> End
     }
 }
 
-// Where all records of such entries from a place on end, one after another.
-fn skip(library: &[u8], what: Entries, from: usize) -> End
-    ensures { λ r. ⌜ r ≡ allEndBy Two what (now (library .entry)) from ⌝ }
+// Where all records of definitions from a place on end, one after another.
+fn skip_definitions(library: &[u8], from: usize) -> End
+    ensures { λ r. ⌜ r ≡ allEndBy Two Definitions (now (library .entry)) from ⌝ }
 {
     let mut at = from;
     loop {
-        match record_end(library, what, at) {
+        match definitions_end(library, at) {
+            End::At(next) => {
+                at = next;
+            }
+            End::Stop => {
+                return End::At(at);
+            }
+            End::Refused(r) => {
+                return End::Refused(r);
+            }
+        }
+    }
+}
+
+// Where the record of fixups at a place ends.
+fn fixups_end(library: &[u8], at: usize) -> End
+    ensures { λ r. ⌜ r ≡ recordEndBy Two Fixups (now (library .entry)) at ⌝ }
+{
+    match record_by(library, Edition::Two, Allowed::Fixups, at) {
+        Framed::Read(f) => used_end(f.end, f.end + 1, entries_end(library, Entries::Fixups, f)),
+        Framed::Stop => End::Stop,
+        Framed::Refused(r) => End::Refused(r),
+    }
+}
+
+// Where all records of fixups from a place on end, one after another.
+fn skip_fixups(library: &[u8], from: usize) -> End
+    ensures { λ r. ⌜ r ≡ allEndBy Two Fixups (now (library .entry)) from ⌝ }
+{
+    let mut at = from;
+    loop {
+        match fixups_end(library, at) {
             End::At(next) => {
                 at = next;
             }
@@ -134,7 +163,7 @@ fn content_end(library: &[u8], at: usize) -> End
             if end - body < id_size(f) + 2 {
                 return End::Stop;
             }
-            skip(library, Entries::Fixups, end + 1)
+            skip_fixups(library, end + 1)
         }
         Framed::Stop => End::Stop,
         Framed::Refused(r) => End::Refused(r),
@@ -206,7 +235,7 @@ fn last_places(
 fn rest_places(library: &[u8], name: Part, definitions: usize) -> ModuleAt
     ensures { λ r. ⌜ placesRead r ≡ restPlaces Two (now (library .entry)) name definitions ⌝ }
 {
-    match skip(library, Entries::Definitions, definitions) {
+    match skip_definitions(library, definitions) {
         End::At(contents) => match skip_sections(library, contents) {
             End::At(at) => last_places(library, name, definitions, contents, at),
             End::Stop => ModuleAt::Stop,
@@ -218,12 +247,34 @@ fn rest_places(library: &[u8], name: Part, definitions: usize) -> ModuleAt
 }
 
 // Where the parts of the module at a place stand, or why there is none.
-pub fn module_at(library: &[u8], at: usize) -> ModuleAt
+fn module_at(library: &[u8], at: usize) -> ModuleAt
     ensures { λ r. ⌜ placesRead r ≡ placesBy Two (now (library .entry)) at ⌝ }
 {
     match named_at(library, Edition::Two, 0x02, 2, at) {
         Named::Read { name, next } => rest_places(library, name, next),
         Named::Stop => ModuleAt::Stop,
         Named::Refused(r) => ModuleAt::Refused(r),
+    }
+}
+
+// Counts the modules from a place on, as many as can be read.
+pub fn count(library: &[u8], from: usize) -> Counted
+    ensures { λ r. ⌜ r ≡ countOf (many (now (library .entry)) (moduleBy Two (now (library .entry))) from) ⌝ }
+{
+    let mut at = from;
+    let mut count = 0;
+    loop {
+        match module_at(library, at) {
+            ModuleAt::Whole(places) => {
+                at = places.next;
+                count += 1;
+            }
+            ModuleAt::Stop => {
+                return Counted::Modules { count, next: at };
+            }
+            ModuleAt::Refused(r) => {
+                return Counted::Refused(r);
+            }
+        }
     }
 }

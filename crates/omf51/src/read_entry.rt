@@ -18,7 +18,6 @@ use crate::entry::Named;
 use crate::read_record::byte_at;
 use crate::record::Framed;
 use crate::types::Allowed;
-use lent::names::name;
 use lent::part::Part;
 use lent::refusal::Refusal;
 
@@ -29,16 +28,15 @@ fn wide(x: u8) -> usize
     x as usize
 }
 
-// The name whose length byte stands at a place: that many bytes behind it, lent as that very part of the library. A name
-// that passes the library's end has none.
+// The name whose length byte stands at a place, if all of it stands within the library: that many bytes behind it, lent as that
+// very part of the library.
 pub fn read_name<'a>(library: &'a [u8], at: usize) -> &'a [u8]
+    requires { ⌜ at + byteAt (now library) at < length (now library) ⌝ }
     ensures { λ r. ⌜ now r ≡ bytesOf (now (library .entry)) (namePart (now (library .entry)) at) ⌝ }
 {
-    if library.len() <= at {
-        return &library[0..0];
-    }
-    let len = wide(byte_at(library, at));
-    name(library, Part { at: at + 1, len })
+    let from = at + 1;
+    let end = from + wide(byte_at(library, at));
+    &library[from..end]
 }
 
 // Where the name whose length byte stands at a place is, if all of it stands within the library.
@@ -156,9 +154,8 @@ pub fn named_at(library: &[u8], edition: Edition, kind: u8, more: u8, at: usize)
             if leaves_over(edition, body + need, end) {
                 return Named::Refused(Refusal::LeftOver);
             }
-            let name = name_at(library, body);
             Named::Read {
-                name,
+                name: Part { at: body + 1, len },
                 next: end + 1,
             }
         }

@@ -2,7 +2,7 @@
 ghost use Rattle.image.specs.View.{stretchesIn};
 ghost use Rattle.search.specs.byte_index.Index.{Heads};
 ghost use Rattle.search.specs.matches.Cursor.{Walk, Search, Started, Stepped};
-ghost use Rattle.search.specs.declared.matches.MatchCursor.the-variants.{Along};
+ghost use Rattle.search.specs.declared.matches.MatchCursor.the-variants.{Along, Once};
 use crate::byte_index::anchor::anchor;
 use image::FirstPlace;
 use image::Seat;
@@ -84,6 +84,20 @@ fn step_along(
     Next::Done
 }
 
+// The match at the one address where a pattern may stand. It is a function of its own so that the other steps of
+// `next_place` copy no slices for it.
+fn step_once(image: &[u8], s: &[u64], bytes: &[u8], masks: &[u8], at: usize) -> Next
+    ensures { λ r. ⌜ Stepped (now (image .entry)) (stretchesIn (now (s .entry))) (now (bytes .entry)) (now (masks .entry)) (Once at) r ⌝ }
+{
+    if match_at(image, s, bytes, masks, at) {
+        return Next::At {
+            at,
+            rest: MatchCursor::Over,
+        };
+    }
+    Next::Done
+}
+
 // The next match of a pattern from a cursor on, with the stretches `s` of the image withheld.
 pub fn next_place(
     image: &[u8],
@@ -113,15 +127,7 @@ pub fn next_place(
             },
             FirstPlace::Nothing => Next::Done,
         },
-        MatchCursor::Once(at) => {
-            if match_at(image, s, bytes, masks, at) {
-                return Next::At {
-                    at,
-                    rest: MatchCursor::Over,
-                };
-            }
-            Next::Done
-        }
+        MatchCursor::Once(at) => step_once(image, s, bytes, masks, at),
         MatchCursor::Over => Next::Done,
     }
 }

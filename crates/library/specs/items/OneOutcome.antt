@@ -9,11 +9,14 @@ use Rattle.omf51.specs.declared.entry.Entries.{Entries}
 use Rattle.omf51.specs.Entry.{idAt}
 use Rattle.library.specs.declared.items.Cursor.{Cursor}
 use Rattle.library.specs.items.Walk.{startAt, nextEntry}
-use Rattle.library.specs.items.Items.{nextDefinition, nextFixup}
+use Rattle.library.specs.items.Items.{past, nextDefinition, nextFixup}
 use Rattle.library.specs.items.Contents.{nextContent}
 
 pub start-one : (at : ℕ) → Determines (λ r. r ≡ startAt at)
 start-one at = by-equation (startAt at)
+
+pub moved-one : (c : Cursor) (at : ℕ) → Determines (λ r. r ≡ past c at)
+moved-one c at = by-equation (past c at)
 
 pub next-entry-one : (library : List ℕ) (what : Entries) (from : Cursor) → Determines (λ r. r ≡ nextEntry what library from)
 next-entry-one library what from = by-equation (nextEntry what library from)

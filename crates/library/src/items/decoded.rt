@@ -9,7 +9,9 @@ use crate::items::Cursor;
 use crate::items::NextDefinition;
 use crate::items::NextFixup;
 use crate::items::Step;
+use crate::items::entries::moved;
 use crate::items::entries::next_entry;
+use crate::items::entries::next_in_definitions;
 use omf51::Definition;
 use omf51::Fixup;
 use omf51::Frame;
@@ -90,17 +92,12 @@ fn fixup_of(library: &[u8], f: Frame, at: usize) -> Fixup
 pub fn next_definition(library: &[u8], from: Cursor) -> NextDefinition
     ensures { λ r. ⌜ r ≡ nextDefinition (now (library .entry)) from ⌝ }
 {
-    match next_entry(library, Entries::Definitions, from) {
+    match next_in_definitions(library, from) {
         Step::Entry { here, end } => {
-            let frame = here.frame;
-            let definition = definition_of(library, frame, here.at);
+            let definition = definition_of(library, here.frame, here.at);
             NextDefinition::Item {
                 definition,
-                rest: Cursor {
-                    frame,
-                    at: end,
-                    next: here.next,
-                },
+                rest: moved(here, end),
             }
         }
         Step::Done => NextDefinition::Done,

@@ -2,7 +2,9 @@
 ghost use mathlib.Core.Path.{_≡_};
 ghost use Prim.Native.Nat.{_+_, _<_, _≤_};
 ghost use lib.ListN.{length};
+ghost use Rattle.omf51.specs.declared.entry.Entries.the-variants.{Definitions};
 ghost use Rattle.library.specs.items.Walk.{entryIn, enteredAt, nextEntry, startAt};
+ghost use Rattle.library.specs.items.Items.{past};
 use crate::items::Cursor;
 use crate::items::Step;
 use crate::repeat::holds;
@@ -25,6 +27,22 @@ pub fn start(at: usize) -> Cursor
         },
         at: 0,
         next: at,
+    }
+}
+
+// The cursor at a place of its body. It is put together of its parts, so that no unused bytes are copied.
+pub fn moved(c: Cursor, at: usize) -> Cursor
+    ensures { λ r. ⌜ r ≡ past c at ⌝ }
+{
+    let frame = c.frame;
+    Cursor {
+        frame: Frame {
+            kind: frame.kind,
+            body: frame.body,
+            end: frame.end,
+        },
+        at,
+        next: c.next,
     }
 }
 
@@ -69,7 +87,10 @@ pub fn next_entry(library: &[u8], what: Entries, from: Cursor) -> Step
     loop {
         let entry = entry_in(library, what, c);
         if let End::At(end) = entry {
-            return Step::Entry { here: c, end };
+            return Step::Entry {
+                here: moved(c, c.at),
+                end,
+            };
         }
         let at = c.next;
         let End::At(next) = record_end(library, what, at) else {
@@ -77,4 +98,25 @@ pub fn next_entry(library: &[u8], what: Entries, from: Cursor) -> Step
         };
         c = entered(library, what, at, next);
     }
+}
+
+// The next definition from the cursor on. It mostly stands in the cursor's body or in the record that follows, so that these are
+// tried without a loop, and other records by a call.
+pub fn next_in_definitions(library: &[u8], from: Cursor) -> Step
+    ensures { λ r. ⌜ r ≡ nextEntry Definitions (now (library .entry)) from ⌝ }
+{
+    let entry = entry_in(library, Entries::Definitions, from);
+    if let End::At(end) = entry {
+        return Step::Entry { here: from, end };
+    }
+    let at = from.next;
+    let End::At(next) = record_end(library, Entries::Definitions, at) else {
+        return Step::Done;
+    };
+    let c = entered(library, Entries::Definitions, at, next);
+    let first = entry_in(library, Entries::Definitions, c);
+    if let End::At(end) = first {
+        return Step::Entry { here: c, end };
+    }
+    next_entry(library, Entries::Definitions, c)
 }

@@ -24,11 +24,18 @@ fn keeps_out(depth: u64, failed: bool, deep: bool) -> bool
     0 < depth && failed
 }
 
-// How far the two lists of the search are filled.
+// How far the two lists of the search are filled. What is placed is put together of its parts: copied as a whole it would
+// take the unused bytes behind `over` along, at every match.
 fn fills(placed: Fill, noted: Fill) -> Fills
     ensures { λ r. ⌜ r ≡ record { placed = placed; noted = noted } ⌝ }
 {
-    Fills { placed, noted }
+    Fills {
+        placed: Fill {
+            rows: placed.rows,
+            over: placed.over,
+        },
+        noted,
+    }
 }
 
 // Goes over one match, of the segment `number`, whose row is `row`, at the place `at`. Where it does not hold to the depth

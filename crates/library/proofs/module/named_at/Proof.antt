@@ -52,21 +52,20 @@ returns c =
     let a = at-entry record-at .args in
     sym (named-cut One (a .library .now) (oneType (a .kind)) (a .more) (a .at) (framed record-at (told .before .f .given .1)) (len (c .before)) (omega (arith, c .before .wide2 .ensures .0, fits told)))
 
-name-at-requires : tie.Need-name-at-requires
-name-at-requires c κs = omega (arith, len (c .before), fits (after-known-told (c .before)))
+add-t16 : tie.Need-add-t16
+add-t16 c = omega (arith, fits (after-known-told (c .before)))
 
-add-t17 : tie.Need-add-t17
-add-t17 c = omega (arith, fits (after-known-told (c .before .before)))
+add-t15 : tie.Need-add-t15
+add-t15 c = omega (arith, fits (after-known-told (c .before)))
 
 returns-2 : tie.Need-returns-2
 returns-2 c =
-    let wide2 = c .before .before in
+    let wide2 = c .before in
     let told = after-known-told wide2 in
     let record-at = after-record-at told in
     let a = at-entry record-at .args in
-    rw (c .name-at .ensures)
-    (sym (named-whole One (a .library .now) (oneType (a .kind)) (a .more) (a .at) (framed record-at (told .before .f .given .1)) refl {left = frame told .body + 1 + wide2 .before .wide .result + a .more}
-    (omega (arith, len wide2)) (omega (arith, wide2 .wide2 .ensures .0, fits told)) refl))
+    sym (named-whole One (a .library .now) (oneType (a .kind)) (a .more) (a .at) (framed record-at (told .before .f .given .1)) (len wide2) {left = frame told .body + 1 + wide2 .before .wide .result + a .more}
+    refl (omega (arith, wide2 .wide2 .ensures .0, fits told)) refl)
 
 returns-3 : tie.Need-returns-3
 returns-3 c =
@@ -91,8 +90,8 @@ named-at-spec =
     (λ c. search needs)
     sub-if1
     returns
-    name-at-requires
-    add-t17
+    add-t16
+    add-t15
     (λ c. search needs)
     (λ c. search needs)
     returns-2

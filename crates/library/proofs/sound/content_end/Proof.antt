@@ -35,14 +35,14 @@ returns c =
     let a = record-by .before .before .args in
     sym (content-cut Two (a .library .now) (a .at) (framed record-by (c .before .before .before .f .given .1)) (c .before .id-size .ensures .0) (omega (arith, fits (c .before .before))))
 
-add-skip : tie.Need-add-skip
-add-skip c = omega (arith, fits (c .before .before))
+add-skip-fixups : tie.Need-add-skip-fixups
+add-skip-fixups c = omega (arith, fits (c .before .before))
 
 returns-2 : tie.Need-returns-2
 returns-2 c =
     let record-by = after-record-by (c .before .before .before) in
     let a = record-by .before .before .args in
-    c .skip .ensures ∙ sym (content-whole Two (a .library .now) (a .at) (framed record-by (c .before .before .before .before .f .given .1))
+    c .skip-fixups .ensures ∙ sym (content-whole Two (a .library .now) (a .at) (framed record-by (c .before .before .before .before .f .given .1))
     (c .before .before .id-size .ensures .0) (omega (arith, fits (c .before .before .before))))
 
 returns-3 : tie.Need-returns-3
@@ -61,7 +61,7 @@ content-end-spec =
     (λ c κs. search needs)
     (λ c. search needs)
     returns
-    add-skip
+    add-skip-fixups
     (λ c κs. search needs)
     (λ c. search needs)
     (λ c. search needs)

@@ -11,12 +11,12 @@ use Rattle.library.proofs.sound.rest_places.Statement.{statement}
 use Rattle.library.proofs.sound.rest_places.Tie as tie
 
 -- The ladder: places of the code that the answers cite, each as it is seen from a later place.
-abbrev after-skip : tie.After-skip-sections → tie.After-skip
+abbrev after-skip : tie.After-skip-sections → tie.After-skip-definitions
 after-skip c = c .before .before .before .before
 
 -- where the definitions end, once it is known
-defined : (c : tie.After-skip) {e : End} → c .skip .result ≡ e → allEndBy Two Definitions (now (c .before .before .args .library)) (c .before .before .args .definitions) ≡ e
-defined c e = sym (c .skip .ensures) ∙ e
+defined : (c : tie.After-skip-definitions) {e : End} → c .skip-definitions .result ≡ e → allEndBy Two Definitions (now (c .before .before .args .library)) (c .before .before .args .definitions) ≡ e
+defined c e = sym (c .skip-definitions .ensures) ∙ e
 
 returns : tie.Need-returns
 returns c =

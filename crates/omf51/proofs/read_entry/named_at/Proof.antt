@@ -1,7 +1,7 @@
 -- `named_at`: the record, then room in its body for the name and what follows it, then that nothing is left over. Assumes
 -- nothing.
 use Prim.Native.Nat.{_+_, _≤_}
-use mathlib.Core.Path.{_≡_, refl, sym, ap, _∙_}
+use mathlib.Core.Path.{_≡_, sym, ap, _∙_}
 use native.Mathlib.Omega.{arith}
 use denote.Ref.{now}
 use Rattle.lent.specs.Parts.{byteAt}
@@ -63,23 +63,19 @@ returns-2 c =
     sym (named-over (a .edition) (a .library .now) (oneType (a .kind)) (a .more) (a .at) (framed told) (len wide2) (omega (arith, wide2 .wide2 .ensures .0)) (omega (arith, fits told))
     (sym (c .before .leaves-over .ensures) ∙ c .if2 .taken))
 
-name-at-requires : tie.Need-name-at-requires
-name-at-requires c κs =
-    let wide2 = after-wide2 (c .before) in
-    omega (arith, len wide2, fits (after-known-told wide2))
+add-t16 : tie.Need-add-t16
+add-t16 c = omega (arith, fits (after-known-told (after-wide2 (c .before))))
 
 add-t17 : tie.Need-add-t17
-add-t17 c = omega (arith, fits (after-known-told (after-wide2 (c .before .before))))
+add-t17 c = omega (arith, fits (after-known-told (after-wide2 (c .before))))
 
 returns-3 : tie.Need-returns-3
 returns-3 c =
-    let e = c .before in
-    let wide2 = after-wide2 (e .before) in
+    let wide2 = after-wide2 (c .before) in
     let told = after-known-told wide2 in
     let a = at-entry (after-record-by told) .args in
-    rw (c .name-at .ensures)
-    (sym (named-whole (a .edition) (a .library .now) (oneType (a .kind)) (a .more) (a .at) (framed told) refl (omega (arith, len wide2, wide2 .wide2 .ensures .0)) (omega (arith, fits told))
-    (sym (e .before .leaves-over .ensures) ∙ e .if2 .left)))
+    sym (named-whole (a .edition) (a .library .now) (oneType (a .kind)) (a .more) (a .at) (framed told) (len wide2) (omega (arith, wide2 .wide2 .ensures .0)) (omega (arith, fits told))
+    (sym (c .before .leaves-over .ensures) ∙ c .if2 .left))
 
 returns-4 : tie.Need-returns-4
 returns-4 c =
@@ -109,7 +105,7 @@ named-at-spec =
     add-leaves-over
     (λ c κs. search needs)
     returns-2
-    name-at-requires
+    add-t16
     add-t17
     (λ c. search needs)
     (λ c. search needs)

@@ -5,10 +5,10 @@ use mathlib.Core.Path.{sym, subst, _∙_}
 use native.Mathlib.Omega.{arith}
 use denote.Ref.{now}
 use Rattle.search.specs.declared.matches.MatchCursor.{MatchCursor}
-use Rattle.search.specs.declared.matches.MatchCursor.the-variants.{Plain, Over}
+use Rattle.search.specs.declared.matches.MatchCursor.the-variants.{Plain}
 use Rattle.search.specs.declared.matches.Next.the-variants.{Done}
 use Rattle.search.specs.matches.Cursor.{Sound, Reached, Stepped}
-use Rattle.search.specs.matches.StepLaws.{plain-at, plain-done, once-at, once-done, reached-fits}
+use Rattle.search.specs.matches.StepLaws.{plain-at, plain-done, reached-fits}
 use borrow.Author.Needs.{needs}
 use Rattle.search.proofs.matches.next_place.Statement.{statement}
 use Rattle.search.proofs.matches.next_place.Tie as tie
@@ -45,39 +45,29 @@ add-t15 c =
 
 returns : tie.Need-returns
 returns c =
-    let c3 = c .before .before .before in
-    let a = at-entry (c3 .before .before) .args in
-    let at = c3 .c3 .given .0 .0 in
-    subst (λ (x : MatchCursor). Reached (a .image .now) (stretchesIn (a .s .now)) (a .bytes .now) (a .masks .now) x at Over) (sym (c3 .c3 .given .1))
-    (once-at (a .image .now) (stretchesIn (a .s .now)) (a .bytes .now) (a .masks .now) at (sym (c .before .match-at .ensures) ∙ c .if1 .taken))
-
-returns-2 : tie.Need-returns-2
-returns-2 c =
     let a = at-entry (c .before .before .before .before) .args in
     subst (λ (x : MatchCursor). Stepped (a .image .now) (stretchesIn (a .s .now)) (a .bytes .now) (a .masks .now) x (c .step-along .result))
     (sym (c .before .before .c .given .1)) (c .step-along .ensures)
 
-returns-3 : tie.Need-returns-3
-returns-3 c =
+returns-2 : tie.Need-returns-2
+returns-2 c =
     let a = at-entry (c .before .before .before .before .before .before .before) .args in
     let at = c .before .at .given .0 .0 in
     subst (λ (x : MatchCursor). Reached (a .image .now) (stretchesIn (a .s .now)) (a .bytes .now) (a .masks .now) x at (Plain (at + 1)))
     (sym (c .before .before .before .before .before .c2 .given .1)) (plain (c .before))
 
-returns-4 : tie.Need-returns-4
-returns-4 c =
+returns-3 : tie.Need-returns-3
+returns-3 c =
     let c2 = c .before .before .before .before in
     let a = at-entry (c2 .before .before) .args in
     subst (λ (x : MatchCursor). Stepped (a .image .now) (stretchesIn (a .s .now)) (a .bytes .now) (a .masks .now) x Done) (sym (c2 .c2 .given .1))
     (plain-done (a .image .now) (stretchesIn (a .s .now)) (a .bytes .now) (a .masks .now) (c2 .c2 .given .0 .0) (sym (c .before .before .next-match .ensures) ∙ c .enum-told .given .1))
 
-returns-5 : tie.Need-returns-5
-returns-5 c =
-    let c3 = c .before .before .before in
-    let a = at-entry (c3 .before .before) .args in
-    let at = c3 .c3 .given .0 .0 in
-    subst (λ (x : MatchCursor). Stepped (a .image .now) (stretchesIn (a .s .now)) (a .bytes .now) (a .masks .now) x Done) (sym (c3 .c3 .given .1))
-    (once-done (a .image .now) (stretchesIn (a .s .now)) (a .bytes .now) (a .masks .now) at (sym (c .before .match-at .ensures) ∙ c .if1 .left))
+returns-4 : tie.Need-returns-4
+returns-4 c =
+    let a = at-entry (c .before .before .before .before) .args in
+    subst (λ (x : MatchCursor). Stepped (a .image .now) (stretchesIn (a .s .now)) (a .bytes .now) (a .masks .now) x (c .step-once .result))
+    (sym (c .before .before .c3 .given .1)) (c .step-once .ensures)
 
 pub next-place-spec : {M : Type 1} → statement M
 next-place-spec =
@@ -92,10 +82,9 @@ next-place-spec =
     (λ c. search needs)
     (λ c. search needs)
     (λ c κs. search needs)
-    returns
     (λ c. search needs)
+    returns
     returns-2
     returns-3
     returns-4
-    returns-5
     (λ c. search needs))

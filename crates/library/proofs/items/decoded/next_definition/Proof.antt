@@ -9,17 +9,19 @@ use Rattle.library.proofs.items.decoded.next_definition.Tie as tie
 
 definition-of-requires : tie.Need-definition-of-requires
 definition-of-requires c κs =
-    let here = c .before .before in
+    let here = c .before in
     let a = here .before .before .before .before .args in
     let h = here .here .given .0 .0 in
-    let w = step-whole Definitions (a .library .now) (a .from) (sym (here .before .before .next-entry .ensures) ∙ here .here .given .1) in
+    let w = step-whole Definitions (a .library .now) (a .from) (sym (here .before .before .next-in-definitions .ensures) ∙ here .here .given .1) in
     omega (arith, w .inside, definition-room (a .library .now) (h .frame) (h .at) (w .ends))
 
 returns : tie.Need-returns
-returns c = rw (sym (c .before .before .before .before .before .next-entry .ensures) ∙ c .before .before .before .here .given .1, c .definition-of .ensures)
+returns c =
+    let here = c .before .before .before in
+    rw (sym (here .before .before .next-in-definitions .ensures) ∙ here .here .given .1, c .before .definition-of .ensures, c .moved .ensures)
 
 returns-2 : tie.Need-returns-2
-returns-2 c = rw (sym (c .before .before .next-entry .ensures) ∙ c .enum-told .given .1)
+returns-2 c = rw (sym (c .before .before .next-in-definitions .ensures) ∙ c .enum-told .given .1)
 
 pub next-definition-spec : {M : Type 1} → statement M
 next-definition-spec =
@@ -28,6 +30,7 @@ next-definition-spec =
     (λ c κs. search needs)
     (λ c. search needs)
     definition-of-requires
+    (λ c κs. search needs)
     (λ c. search needs)
     returns
     returns-2)

@@ -53,9 +53,11 @@ loop-holds c = record { count = suc (length (c .before .args .library .now)); en
 
 returns : tie.Need-returns Inv-loop μ-loop
 returns c =
-    let a = c .before .before .before .before .before .before .args in
-    let l = c .before .before .before .before .loop in
-    sym (step-item (l .inv .count) (a .what) (a .library .now) (l .c) (omega (arith, l .inv .enough)) (sym (c .before .before .before .entry-in .ensures) ∙ c .before .entry .given .1)) ∙ l .inv .same
+    let entry-in = c .before .before .before .before in
+    let a = entry-in .before .before .before .args in
+    let l = entry-in .before .loop in
+    rw (c .moved .ensures)
+    (sym (step-item (l .inv .count) (a .what) (a .library .now) (l .c) (omega (arith, l .inv .enough)) (sym (entry-in .entry-in .ensures) ∙ c .before .before .entry .given .1)) ∙ l .inv .same)
 
 returns-2 : tie.Need-returns-2 Inv-loop μ-loop
 returns-2 c =
@@ -98,6 +100,7 @@ next-entry-spec =
     loop-holds
     (λ c κs. search needs)
     (λ c. search needs)
+    (λ c κs. search needs)
     returns
     (λ c κs. search needs)
     (λ c. search needs)
