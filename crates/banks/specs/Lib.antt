@@ -12,3 +12,4 @@ pub mod EntryLaws
 pub mod Exactly
 pub mod ListedBanks
 pub mod Demands
+pub mod OneOutcome

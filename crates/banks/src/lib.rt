@@ -1,10 +1,10 @@
 // A board with switched banks: 32 KiB of common code and 1 to 16 banks of 32 KiB, which its file has one after another. The
 // part sees the common code and one bank at a time, as one image of 64 KiB: bank k's view.
 pub mod board;
-pub mod cut;
+mod cut;
 pub mod entry;
 mod one_view;
-pub mod view;
+mod view;
 mod views;
 
 use run::Answer;
