@@ -36,13 +36,10 @@ unfolding fixupAt
 fixup-gave library f at = ending-is Gave f _ _ (λ l. tt) tt
 
 -- no entry stands at a body's end or behind it
-definition-none : (library : List ℕ) (f : Frame) (at : ℕ) → f .end ≤ at → endOf (definitionAt library f at) ≡ Stop
-unfolding definitionAt
-definition-none library f at h = ending-shows (λ o. endOf o ≡ Stop) f _ _ _ (λ l. absurd (omega (arith, l, h))) refl
-
-fixup-none : (library : List ℕ) (f : Frame) (at : ℕ) → f .end ≤ at → endOf (fixupAt library f at) ≡ Stop
-unfolding fixupAt
-fixup-none library f at h = ending-is (λ o. endOf o ≡ Stop) f _ _ (λ l. absurd (omega (arith, l, h))) refl
+pub entry-none : (what : Entries) (library : List ℕ) (f : Frame) (at : ℕ) → f .end ≤ at → entryEnd what library f at ≡ Stop
+unfolding definitionAt fixupAt
+entry-none Definitions library f at h = ending-shows (λ o. endOf o ≡ Stop) f _ _ _ (λ l. absurd (omega (arith, l, h))) refl
+entry-none Fixups library f at h = ending-is (λ o. endOf o ≡ Stop) f _ _ (λ l. absurd (omega (arith, l, h))) refl
 
 -- of a body within the library
 module _ (library : List ℕ) (f : Frame) (h : f .end ≤ length library) where
@@ -60,8 +57,7 @@ module _ (library : List ℕ) (f : Frame) (h : f .end ≤ length library) where
   rest-turn Fixups at q = end-turn library (fixupAt library f) fixup-moves at q
 
   pub rest-used : (what : Entries) (at : ℕ) → f .end ≤ at → restEnd what library f at ≡ At at
-  rest-used Definitions at l = rest-turn Definitions at (definition-none library f at l)
-  rest-used Fixups at l = rest-turn Fixups at (fixup-none library f at l)
+  rest-used what at l = rest-turn what at (entry-none what library f at l)
 
   pub entry-moved : (what : Entries) (at : ℕ) {x : End} → entryEnd what library f at ≡ x → MovedEnd library at x
   entry-moved Definitions at q = subst (MovedEnd library at) q (moved-end library at (definitionAt library f at) (definition-moves at))

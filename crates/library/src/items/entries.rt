@@ -46,12 +46,16 @@ pub fn moved(c: Cursor, at: usize) -> Cursor
     }
 }
 
-// Where the entry at the cursor ends, if it is whole; a body that passes the library's end has no entry.
+// Where the entry at the cursor ends, if it is whole; a body that passes the library's end has no entry. Most often a walk stands
+// at its body's end, where none begins: that is asked here, so that the entry's kind is not looked at.
 fn entry_in(library: &[u8], what: Entries, c: Cursor) -> End
     ensures { λ r. ⌜ r ≡ entryIn what (now (library .entry)) c ⌝ }
 {
     let frame = c.frame;
     if library.len() < frame.end {
+        return End::Stop;
+    }
+    if frame.end <= c.at {
         return End::Stop;
     }
     entry_end(library, what, frame, c.at)
