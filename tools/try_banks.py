@@ -4,21 +4,14 @@ against what they must be. The list of each bank must be what `./sillmarble list
 here byte by byte, and so is what is withheld of it; some lists are told by hand. The last line is 'N passed, 0 failed', and
 then the status is 0. Another program than ./sillmarble is tried by SILLMARBLE=PATH."""
 import functools
-import os
-import pathlib
 import re
-import resource
-import subprocess
 import sys
-import tempfile
 
+from trial import ROOT, TELLS, count, main, put, run, try_ as try_command, try_full, try_help
 from try_list_files import HEADING, libraries, line, make
 
-ROOT = pathlib.Path(__file__).resolve().parent.parent
-PROGRAM = os.environ.get("SILLMARBLE", str(ROOT / "sillmarble"))
 BANK = 0x8000
 LARGEST = 2**64 - 1
-TELLS = " (--help tells all)"
 LENT = "9362 segments, 9362 references, 10922 symbols, 131072 pattern bytes, 4096 symbols placed, 4096 names noted, 12288 lines"
 WORDS = {
     3: "library too long (more than 65536 bytes)",
@@ -39,31 +32,10 @@ WORDS = {
     18: "file not 32 KiB and 1 to 16 banks of 32 KiB",
     30: "edition not 1 or 2",
 }
-passed, failed = 0, 0
-
-
-def limited():
-    """The program has to do with 6 MiB of stack, three quarters of what it usually has."""
-    resource.setrlimit(resource.RLIMIT_STACK, (6 << 20, resource.getrlimit(resource.RLIMIT_STACK)[1]))
-
-
-def run(command, *words, out=subprocess.PIPE):
-    came = subprocess.run([PROGRAM, command, *map(str, words)], stdout=out, stderr=subprocess.PIPE, preexec_fn=limited)
-    return came.returncode, (came.stdout or b"").decode(), came.stderr.decode()
-
-
-def count(well, label):
-    global passed, failed
-    if well:
-        passed += 1
-    else:
-        failed += 1
-        print("failed:", label)
 
 
 def try_(status, out, err, *words):
-    came = run("banks", *words)
-    count(came == (status, out, err and err + "\n"), f"sillmarble banks {' '.join(map(str, words))}: {came[0]}, {came[1][-200:]}, {came[2]}")
+    try_command(status, out, err, "banks", *words)
 
 
 def refused(number, *words):
@@ -72,11 +44,6 @@ def refused(number, *words):
 
 def wrong(said, *words):
     try_(2, "", f"usage: {said}{TELLS}", *words)
-
-
-def put(path, data):
-    path.write_bytes(data)
-    return path
 
 
 def withholding(stretches):
@@ -101,7 +68,7 @@ def list_of(folder, seen, library, *words):
     """What `list` prints of a view."""
     came = run("list", put(folder / "view", seen), library, *words)
     assert came[0] == 0 and not came[2], came
-    return came[1]
+    return came[1].decode()
 
 
 def listed(folder, board, library, options, stretches):
@@ -267,28 +234,13 @@ def usage(folder):
     try_(2, "", f"unreadable: {absent}: No such file or directory", absent, library)
     try_(2, "", f"unreadable: {absent}: No such file or directory", board, absent)
     try_(2, "", f"unreadable: {folder}: Is a directory", folder, library)
-    came = run("banks", board, "--help", "--rules")
-    count(came[0] == 0 and came[1].startswith("./sillmarble banks IMAGE LIBRARY") and not came[2]
-          and all(word in came[1] for word in ("counted from 0", "--withhold START:LENGTH", "--depth N", "Bank 1", "   18 ", "usage:")) and "--hex" not in came[1], "--help")
-    came = run("help")
-    count(came[0] == 0 and "./sillmarble banks IMAGE LIBRARY" in came[1], "help")
-    if os.path.exists("/dev/full"):
-        with open("/dev/full", "wb") as full:
-            came = run("banks", board, library, out=full)
-        count(came[0] == 2 and came[2] == "unwritten: standard output: No space left on device\n", "a full disk")
-
-
-def main():
-    with tempfile.TemporaryDirectory() as folder:
-        library, image = ROOT / "examples" / "routines.lib", ROOT / "examples" / "board.img"
-        # once more than needed, so that building them first is not taken for their words
-        run("banks", image, library)
-        run("list", image, library)
-        for each in (told, options, stretches, lengths, memory, refusals, usage):
-            each(pathlib.Path(folder))
-    print(f"{passed} passed, {failed} failed")
-    return failed != 0
+    try_help("banks", "./sillmarble banks IMAGE LIBRARY", "counted from 0", "--withhold START:LENGTH", "--depth N", "Bank 1", "   18 ", "usage:")
+    count(b"--hex" not in run("banks", "--help")[1], "no --hex in the help of boards")
+    count(run("banks", board, "--help", "--rules") == run("banks", "--help"), "--help among other words")
+    count(b"./sillmarble banks IMAGE LIBRARY" in run("help")[1], "help")
+    try_full("banks", board, library)
 
 
 if __name__ == "__main__":
-    sys.exit(main())
+    example = ROOT / "examples" / "board.img", ROOT / "examples" / "routines.lib"
+    sys.exit(main(__doc__, [("banks", *example), ("list", *example)], told, options, stretches, lengths, memory, refusals, usage))

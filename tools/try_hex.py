@@ -3,53 +3,19 @@
 output and standard error against what they must be, as tools/oracle/model/hex.py computes it. The last line is
 'N passed, 0 failed', and then the status is 0. Another program than ./sillmarble is tried by SILLMARBLE=PATH."""
 import os
-import pathlib
 import random
-import resource
-import subprocess
 import sys
-import tempfile
 
-ROOT = pathlib.Path(__file__).resolve().parent.parent
+from trial import ROOT, TELLS, count, main, put, run, try_, try_full, try_help
+
 sys.path.insert(0, str(ROOT / "tools" / "oracle"))
 from model.hex import exported, imported, record_line  # noqa: E402
 
-PROGRAM = os.environ.get("SILLMARBLE", str(ROOT / "sillmarble"))
 END = b":00000001FF\n"
 WORDS = {
     20: "bad text: a line is not a colon, as many digits as its length says and the line's ending, or is an end record with data",
     21: "wrong sum: a record's bytes do not sum to 0 modulo 256", 22: "a record of another type than 00 and 01",
     23: "data past FFFFh", 24: "a byte is given twice", 25: "no end record"}
-passed, failed = 0, 0
-
-
-def limited():
-    """The programs have to do with 6 MiB of stack, three quarters of what they usually have."""
-    resource.setrlimit(resource.RLIMIT_STACK, (6 << 20, resource.getrlimit(resource.RLIMIT_STACK)[1]))
-
-
-def run(*words, out=subprocess.PIPE):
-    came = subprocess.run([PROGRAM, *map(str, words)], stdout=out, stderr=subprocess.PIPE, preexec_fn=limited)
-    return came.returncode, came.stdout or b"", came.stderr.decode()
-
-
-def count(well, label):
-    global passed, failed
-    if well:
-        passed += 1
-    else:
-        failed += 1
-        print("failed:", label)
-
-
-def try_(status, out, err, *words):
-    came = run(*words)
-    count(came == (status, out, err and err + "\n"), f"sillmarble {' '.join(map(str, words))}: {came[0]}, {came[2]}")
-
-
-def put(path, bytes_):
-    path.write_bytes(bytes_)
-    return path
 
 
 def both_ways(folder):
@@ -81,48 +47,34 @@ def refusals(folder):
 def usage(folder):
     for job in ("hex", "unhex"):
         for words in ((), ("a", "b")):
-            try_(2, b"", "usage: one file is to be named (--help tells all)", job, *words)
-        try_(2, b"", "usage: there is no option '--x' (--help tells all)", job, "--x")
+            try_(2, b"", "usage: one file is to be named" + TELLS, job, *words)
+        try_(2, b"", "usage: there is no option '--x'" + TELLS, job, "--x")
         try_(2, b"", "unreadable: absent: No such file or directory", job, "absent")
         try_(2, b"", f"unreadable: {folder}: Is a directory", job, folder)
-        status, out, err = run(job, "--help")
-        count(status == 0 and not err and b"refused (" in out and b"Intel HEX" in out, f"{job} --help")
-        put(folder / "text", END)
-        with open("/dev/full", "wb") as full:
-            status, _, err = run(job, folder / "text" if job == "hex" else put(folder / "data", exported(b"x")[1]), out=full)
-        count((status, err) == (2, "unwritten: standard output: No space left on device\n"), f"{job} to a full device")
+        try_help(job, f"./sillmarble {job}", "refused (", "Intel HEX")
+    try_full("hex", put(folder / "text", END))
+    try_full("unhex", put(folder / "text", exported(b"x")[1]))
 
 
 def listing(folder):
     """`list --hex` prints what `list` does of the image, wherever the option stands, and leaves no file behind."""
     image, library = ROOT / "examples" / "aid.img", ROOT / "examples" / "routines.lib"
-    run("list", image, library)
+    (folder / "empty").mkdir()
     text = put(folder / "aid.hex", exported(image.read_bytes())[1])
     for options in ((), ("--rules", "found"), ("--depth", "2"), ("--withhold", "0x1204:8")):
         wanted = run("list", image, library, *options)[1]
         os.environ["TMPDIR"] = str(folder / "empty")
         for words in ((text, library, *options, "--hex"), ("--hex", *options, text, library), (*options, text, "--hex", library)):
             try_(0, wanted, "", "list", *words)
-    try_(2, b"", "usage: the option '--hex' is given twice (--help tells all)", "list", "--hex", text, library, "--hex")
-    try_(2, b"", "usage: an image and a library are to be named (--help tells all)", "list", "--hex")
-    try_(2, b"", "usage: a library is to be named behind the image (--help tells all)", "list", "--hex", text)
+    try_(2, b"", "usage: the option '--hex' is given twice" + TELLS, "list", "--hex", text, library, "--hex")
+    try_(2, b"", "usage: an image and a library are to be named" + TELLS, "list", "--hex")
+    try_(2, b"", "usage: a library is to be named behind the image" + TELLS, "list", "--hex", text)
     try_(2, b"", "unreadable: absent: No such file or directory", "list", "--hex", "absent", library)
-    try_(2, b"", "usage: the option '--rules' lacks its value (--help tells all)", "list", text, library, "--hex", "--rules")
+    try_(2, b"", "usage: the option '--rules' lacks its value" + TELLS, "list", text, library, "--hex", "--rules")
     refusals(folder)
     count(not list((folder / "empty").iterdir()), "a temporary file was left")
 
 
-def main():
-    with tempfile.TemporaryDirectory() as name:
-        folder = pathlib.Path(name)
-        (folder / "empty").mkdir()
-        run("unhex", put(folder / "text", END))     # once more than needed, so that building it first is not taken for its words
-        both_ways(folder)
-        usage(folder)
-        listing(folder)
-    print(f"{passed} passed, {failed} failed")
-    return failed != 0
-
-
 if __name__ == "__main__":
-    sys.exit(main())
+    example = ROOT / "examples" / "aid.img", ROOT / "examples" / "routines.lib"
+    sys.exit(main(__doc__, [("hex", example[0]), ("list", *example)], both_ways, usage, listing))

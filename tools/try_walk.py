@@ -2,50 +2,23 @@
 """try_walk.py: runs `./sillmarble walk` on every outcome that it has, and holds status, standard output and standard error
 against what they must be, as tools/oracle/model/walk.py computes it. The last line is 'N passed, 0 failed', and then the
 status is 0. Another program than ./sillmarble is tried by SILLMARBLE=PATH."""
-import os
-import pathlib
 import random
-import resource
-import subprocess
 import sys
-import tempfile
 
-ROOT = pathlib.Path(__file__).resolve().parent.parent
+from trial import ROOT, TELLS, main, put, try_ as try_command, try_full, try_help
+
 sys.path.insert(0, str(ROOT / "tools" / "oracle"))
 from model.hex import exported  # noqa: E402
 from model.walk import INSTRUCTIONS, length, outcome  # noqa: E402
 
-PROGRAM = os.environ.get("SILLMARBLE", str(ROOT / "sillmarble"))
 HEADING = "Address | Bytes     | Instruction       | Target\n"
 STOPS = ("return", "limit of 256 instructions", "reserved opcode A5", "the image's end", "withheld bytes")
 WORDS = {2: "image too long (more than 65536 bytes)", 16: "more than 16 stretches are withheld",
          4: "a stretch that is withheld passes the image's end", 19: "the address is at or past the image's end"}
-TELLS = " (--help tells all)"
-passed, failed = 0, 0
-
-
-def limited():
-    """The program has to do with 6 MiB of stack, three quarters of what it usually has."""
-    resource.setrlimit(resource.RLIMIT_STACK, (6 << 20, resource.getrlimit(resource.RLIMIT_STACK)[1]))
-
-
-def run(*words, out=subprocess.PIPE):
-    came = subprocess.run([PROGRAM, "walk", *map(str, words)], stdout=out, stderr=subprocess.PIPE, preexec_fn=limited)
-    return came.returncode, (came.stdout or b"").decode(), came.stderr.decode()
-
-
-def count(well, label):
-    global passed, failed
-    if well:
-        passed += 1
-    else:
-        failed += 1
-        print("failed:", label)
 
 
 def try_(status, out, err, *words):
-    came = run(*words)
-    count(came == (status, out, err and err + "\n"), f"sillmarble walk {' '.join(map(str, words))}: {came[0]}, {came[1][-200:]}, {came[2]}")
+    try_command(status, out, err, "walk", *words)
 
 
 def line(image, address, what, target):
@@ -63,11 +36,6 @@ def walked(image, stretches, start):
         return 1, "", f"refused ({number}): {WORDS[number]}"
     lines = "".join(line(image, *rows[3 * i:3 * i + 3]) for i in range(steps))
     return 0, f"{HEADING}{lines}stops: {STOPS[why]}\n", ""
-
-
-def put(path, bytes_):
-    path.write_bytes(bytes_)
-    return path
 
 
 def tried(folder, image, stretches, start, *words):
@@ -121,26 +89,10 @@ def usage(folder):
             ((path, 0, "--other"), "there is no option '--other'")):
         try_(2, "", f"usage: {said}{TELLS}", *words)
     missing = folder / "missing"
-    came = run(missing, 0)
-    count(came[0] == 2 and not came[1] and came[2].startswith("unreadable: ") and str(missing) in came[2], "a file that is not there")
-    came = run(path, "--help")
-    count(came[0] == 0 and came[1].startswith("./sillmarble walk IMAGE ADDRESS") and not came[2], "--help")
-    if os.path.exists("/dev/full"):
-        with open("/dev/full", "wb") as full:
-            came = run(path, 0, out=full)
-        count(came[0] == 2 and came[2].startswith("unwritten: "), "a full disk")
-
-
-def main():
-    with tempfile.TemporaryDirectory() as folder:
-        image = pathlib.Path(folder) / "image"
-        image.write_bytes(b"\x22")
-        run(image, 0)     # once more than needed, so that building it first is not taken for its words
-        for each in (outcomes, as_hex, usage):
-            each(pathlib.Path(folder))
-    print(f"{passed} passed, {failed} failed")
-    return failed != 0
+    try_(2, "", f"unreadable: {missing}: No such file or directory", missing, 0)
+    try_help("walk", "./sillmarble walk IMAGE ADDRESS")
+    try_full("walk", path, 0)
 
 
 if __name__ == "__main__":
-    sys.exit(main())
+    sys.exit(main(__doc__, [("walk", ROOT / "examples" / "aid.img", 0)], outcomes, as_hex, usage))
