@@ -9,7 +9,8 @@ use native.Mathlib.Omega.{arith}
 use borrow.Author.Tests.{le-leb, lt-leb}
 use lib.Dec.{eqb, leb}
 use Rattle.lent.specs.declared.refusal.Refusal.{Refusal}
-use Rattle.lent.specs.declared.refusal.Refusal.the-variants.{RuleSet, ImageTooLong, LibraryTooLong, StretchPastEnd, NoModule, BodyPastEnd, LengthZero, NamesDiffer, TooFewRows, UnknownKind, UnknownBlock, ContentPastSegment, NoKeptSegment, WrongSum, LeftOver, TooManyStretches, TooDeep, NotBanked, OtherEdition}
+use Rattle.lent.specs.declared.refusal.Refusal.the-variants.{RuleSet, ImageTooLong, LibraryTooLong, StretchPastEnd, NoModule, BodyPastEnd, LengthZero, NamesDiffer, TooFewRows, UnknownKind}
+use Rattle.lent.specs.declared.refusal.Refusal.the-variants.{UnknownBlock, ContentPastSegment, NoKeptSegment, WrongSum, LeftOver, TooManyStretches, TooDeep, NotBanked, OtherEdition}
 use Rattle.lent.specs.Choice.{if_then_else_}
 use Rattle.lent.specs.Refusals.{refusalNumber, zeroes, stageNumber}
 

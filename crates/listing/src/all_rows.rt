@@ -58,7 +58,8 @@ pub fn list_rows(
     names: usize,
     lines: &mut [u64],
 ) -> Fill
-    ensures { λ r. ⌜ ListsRows (view (now (image .entry)) (stretchesIn (now (s .entry)))) rules skip (now (library .entry)) (now (segments .entry)) n (now (references .entry)) (now (placed .entry)) (now (positions .entry)) (now (noted .entry)) (now (goals .entry)) names (now (lines .entry)) (now (lines .exit)) r ⌝ }
+    ensures { λ r. ⌜ ListsRows (view (now (image .entry)) (stretchesIn (now (s .entry)))) rules skip (now (library .entry))
+        (now (segments .entry)) n (now (references .entry)) (now (placed .entry)) (now (positions .entry)) (now (noted .entry)) (now (goals .entry)) names (now (lines .entry)) (now (lines .exit)) r ⌝ }
 {
     let inside = list_inside(
         image,

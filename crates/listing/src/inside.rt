@@ -26,7 +26,8 @@ pub fn list_inside(
     m: &mut [u64],
     before: Fill,
 ) -> Fill
-    ensures { λ r. ⌜ ListsInside (view (now (image .entry)) (stretchesIn (now (s .entry)))) rules skip (now (library .entry)) (now (segments .entry)) n (now (references .entry)) (now (placed .entry)) (now (positions .entry)) (now (noted .entry)) (now (goals .entry)) (now (m .entry)) before (now (m .exit)) r ⌝ }
+    ensures { λ r. ⌜ ListsInside (view (now (image .entry)) (stretchesIn (now (s .entry)))) rules skip (now (library .entry))
+        (now (segments .entry)) n (now (references .entry)) (now (placed .entry)) (now (positions .entry)) (now (noted .entry)) (now (goals .entry)) (now (m .entry)) before (now (m .exit)) r ⌝ }
 {
     let mut f = before;
     let mut at = skip_bare(positions, goals, 0, image.len());

@@ -10,7 +10,8 @@ use borrow.Author.Tests.{lt-ltb, le-ltb, eq-eqb, ne-eqb}
 use lib.Dec.{eqb, ltb}
 use lib.ListN.{length}
 use Rattle.lent.specs.declared.refusal.Refusal.{Refusal}
-use Rattle.lent.specs.declared.refusal.Refusal.the-variants.{RuleSet, ImageTooLong, LibraryTooLong, StretchPastEnd, NoModule, BodyPastEnd, LengthZero, NamesDiffer, TooFewRows, UnknownKind, UnknownBlock, ContentPastSegment, NoKeptSegment, WrongSum, LeftOver, TooManyStretches, TooDeep, NotBanked, OtherEdition}
+use Rattle.lent.specs.declared.refusal.Refusal.the-variants.{RuleSet, ImageTooLong, LibraryTooLong, StretchPastEnd, NoModule, BodyPastEnd, LengthZero, NamesDiffer, TooFewRows, UnknownKind}
+use Rattle.lent.specs.declared.refusal.Refusal.the-variants.{UnknownBlock, ContentPastSegment, NoKeptSegment, WrongSum, LeftOver, TooManyStretches, TooDeep, NotBanked, OtherEdition}
 use Rattle.lent.specs.Choice.{if_then_else_}
 use Rattle.lent.specs.Parts.{byteAt, sameName}
 use Rattle.omf51.specs.declared.Edition.{Edition}
@@ -23,8 +24,10 @@ use Rattle.omf51.specs.Entry as Entry
 use Rattle.omf51.specs.EntryLaws.{whole-within, cut-past}
 use Rattle.omf51.specs.Module.{fills}
 use Rattle.omf51.specs.File.{fileBy, fileRefusal}
-use Rattle.omf51.specs.Reaches.{State, opening, header, definitions, contents, fixups, ending, closing28, closing26, closing2A, expects, lengthAt, frameOf, behind, nameIn, least, used, HasLengthZero, HasBodyPastEnd, Whole, Summed, UsedUp, HasWrongSum, HasLeftOver, Taken, Stops, other-type, no-lengths, no-checksum, rejected, ComesTo}
-use Rattle.omf51.specs.Reaches.{is-library, is-bare, opened, headed, defined, all-defined, filled, fixed, all-fixed, skipped, all-filled, ended, no-header, no-end, closed28, closed26, NothingRead, no-opening, no-first-header, no-first-end, lacks-28, lacks-26, lacks-2A, AllRead}
+use Rattle.omf51.specs.Reaches.{State, opening, header, definitions, contents, fixups, ending, closing28, closing26, closing2A, expects, lengthAt, frameOf, behind, nameIn, least}
+use Rattle.omf51.specs.Reaches.{used, HasLengthZero, HasBodyPastEnd, Whole, Summed, UsedUp, HasWrongSum, HasLeftOver, Taken, Stops, other-type, no-lengths, no-checksum, rejected, ComesTo}
+use Rattle.omf51.specs.Reaches.{is-library, is-bare, opened, headed, defined, all-defined, filled, fixed, all-fixed, skipped, all-filled, ended}
+use Rattle.omf51.specs.Reaches.{no-header, no-end, closed28, closed26, NothingRead, no-opening, no-first-header, no-first-end, lacks-28, lacks-26, lacks-2A, AllRead}
 use Rattle.omf51.specs.Reaches.{closed2A, bare-header, bare-end, LeavesOver, in-body, in-file, Ends}
 use Rattle.omf51.specs.ReachesLaws.{reading-ends}
 

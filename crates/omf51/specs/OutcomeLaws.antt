@@ -22,7 +22,8 @@ use Rattle.omf51.specs.Record.{expected, recordSum, summed, expectedBy, 
 use Rattle.omf51.specs.RecordLaws.{Framed, cut, empty, past, unclosed, whole, framed}
 use Rattle.omf51.specs.Entry.{ending, namePart, nameWith, definitionOf, definitionAt, fixupAt}
 use Rattle.omf51.specs.EntryLaws.{name-cut, name-whole}
-use Rattle.omf51.specs.Reaches.{State, expects, frameOf, lengthAt, behind, definitionEnd, fixupEnd, entriesEnd, least, used, HasLengthZero, HasBodyPastEnd, Whole, Summed, HasWrongSum, HasLeftOver, Taken, Stops, other-type, no-lengths, no-checksum, rejected}
+use Rattle.omf51.specs.Reaches.{State, expects, frameOf, lengthAt, behind, definitionEnd, fixupEnd, entriesEnd, least, used, HasLengthZero}
+use Rattle.omf51.specs.Reaches.{HasBodyPastEnd, Whole, Summed, HasWrongSum, HasLeftOver, Taken, Stops, other-type, no-lengths, no-checksum, rejected}
 
 -- what holds of a thing that was read and of the place behind it; of a stop; of a refusal
 pub data Out {A : Type 0} (R : A → ℕ → Type 0) (S : Type 0) (F : Refusal → Type 0) : ReadOutcome A → Type 0 where

@@ -10,7 +10,8 @@ use lib.Dec.{eqb, leb}
 use lib.ListN.{length}
 use Rattle.lent.specs.declared.part.Part.{Part}
 use Rattle.lent.specs.declared.refusal.Refusal.{Refusal}
-use Rattle.lent.specs.declared.refusal.Refusal.the-variants.{RuleSet, ImageTooLong, LibraryTooLong, StretchPastEnd, NoModule, BodyPastEnd, LengthZero, NamesDiffer, TooFewRows, UnknownKind, UnknownBlock, ContentPastSegment, NoKeptSegment, WrongSum, LeftOver, TooManyStretches, TooDeep, NotBanked, OtherEdition}
+use Rattle.lent.specs.declared.refusal.Refusal.the-variants.{RuleSet, ImageTooLong, LibraryTooLong, StretchPastEnd, NoModule, BodyPastEnd, LengthZero, NamesDiffer, TooFewRows, UnknownKind}
+use Rattle.lent.specs.declared.refusal.Refusal.the-variants.{UnknownBlock, ContentPastSegment, NoKeptSegment, WrongSum, LeftOver, TooManyStretches, TooDeep, NotBanked, OtherEdition}
 use Rattle.lent.specs.Choice.{if_then_else_}
 use Rattle.lent.specs.Parts.{byteAt, wordAt, sameName}
 use Rattle.omf51.specs.declared.Edition.{Edition}

@@ -14,7 +14,8 @@ use Rattle.lent.specs.Parts.{same, byteAt}
 use Rattle.omf51.specs.declared.Edition.{Edition}
 use Rattle.omf51.specs.declared.Edition.the-variants.{One, Two}
 use Rattle.omf51.specs.Record.{recordSum}
-use Rattle.omf51.specs.Reaches.{Begun, State, opening, header, definitions, contents, fixups, ending, expects, lengthAt, frameOf, behind, nameIn, entriesEnd, least, used, Whole, Summed, UsedUp, Taken, other-type, ComesTo, is-library, is-bare, opened, headed, defined, all-defined, filled, all-fixed, all-filled, ended, no-header}
+use Rattle.omf51.specs.Reaches.{Begun, State, opening, header, definitions, contents, fixups, ending, expects, lengthAt, frameOf, behind, nameIn, entriesEnd, least, used, Whole}
+use Rattle.omf51.specs.Reaches.{Summed, UsedUp, Taken, other-type, ComesTo, is-library, is-bare, opened, headed, defined, all-defined, filled, all-fixed, all-filled, ended, no-header}
 use Rattle.omf51.specs.Reaches.{NothingRead, no-first-header, lacks-28, BodyPasses, LengthIsZero, NamesApart, AllRead, bare-header, SumIsWrong, LeavesOver, in-body, in-file, FileRead}
 
 -- a record is whole if these tests pass

@@ -22,9 +22,12 @@ use Rattle.omf51.specs.Record.{whole, recordBy}
 use Rattle.omf51.specs.Entry.{idSize, definitionAt, fixupAt}
 use Rattle.omf51.specs.Module.{Module, definitionsBy, fixupsBy, contentBody, sectionBy, sectionsBy, moduleBy, defines, fills, isIdle}
 use Rattle.omf51.specs.File.{modulesBy, plainBy, libraryBy, fileRead, fileBy, fileRefusal}
-use Rattle.omf51.specs.Reaches.{Begun, State, opening, header, definitions, contents, fixups, ending, closing28, closing26, closing2A, expects, lengthAt, frameOf, behind, nameIn, definitionEnd, fixupEnd, entriesEnd, least, used, Taken, Stops, ComesTo, is-library, is-bare, opened, headed, defined}
-use Rattle.omf51.specs.Reaches.{all-defined, filled, fixed, all-fixed, skipped, all-filled, ended, no-header, no-end, closed28, closed26, NothingRead, no-opening, no-first-header, no-first-end, lacks-28, lacks-26, lacks-2A, AllRead, closed2A, bare-header, bare-end, in-body, in-file, FileRead, Ends}
-use Rattle.omf51.specs.OutcomeLaws.{Out, reads, stops, refuses, then-out, map-out, many-out, Within, takes, anything, ending-within, then-within, name-within, least-within, definition-within, fixup-within, Refuses, zero-length, body-past, wrong-sum, left-over, record-out}
+use Rattle.omf51.specs.Reaches.{Begun, State, opening, header, definitions, contents, fixups, ending, closing28, closing26, closing2A, expects, lengthAt, frameOf, behind}
+use Rattle.omf51.specs.Reaches.{nameIn, definitionEnd, fixupEnd, entriesEnd, least, used, Taken, Stops, ComesTo, is-library, is-bare, opened, headed, defined}
+use Rattle.omf51.specs.Reaches.{all-defined, filled, fixed, all-fixed, skipped, all-filled, ended, no-header, no-end, closed28, closed26, NothingRead, no-opening}
+use Rattle.omf51.specs.Reaches.{no-first-header, no-first-end, lacks-28, lacks-26, lacks-2A, AllRead, closed2A, bare-header, bare-end, in-body, in-file, FileRead, Ends}
+use Rattle.omf51.specs.OutcomeLaws.{Out, reads, stops, refuses, then-out, map-out, many-out, Within, takes, anything, ending-within}
+use Rattle.omf51.specs.OutcomeLaws.{then-within, name-within, least-within, definition-within, fixup-within, Refuses, zero-length, body-past, wrong-sum, left-over, record-out}
 
 module _ (e : Edition) (library : List ℕ) where
   abbrev Ended : Refusal → Type 0

@@ -10,7 +10,8 @@ use borrow.Author.Tests.{ltb-true, lt-ltb}
 use lib.Dec.{eqb, ltb}
 use lib.ListN.{length}
 use Rattle.lent.specs.declared.refusal.Refusal.{Refusal}
-use Rattle.lent.specs.declared.refusal.Refusal.the-variants.{RuleSet, ImageTooLong, LibraryTooLong, StretchPastEnd, NoModule, BodyPastEnd, LengthZero, NamesDiffer, TooFewRows, UnknownKind, UnknownBlock, ContentPastSegment, NoKeptSegment, WrongSum, LeftOver, TooManyStretches, TooDeep, NotBanked, OtherEdition}
+use Rattle.lent.specs.declared.refusal.Refusal.the-variants.{RuleSet, ImageTooLong, LibraryTooLong, StretchPastEnd, NoModule, BodyPastEnd, LengthZero, NamesDiffer, TooFewRows, UnknownKind}
+use Rattle.lent.specs.declared.refusal.Refusal.the-variants.{UnknownBlock, ContentPastSegment, NoKeptSegment, WrongSum, LeftOver, TooManyStretches, TooDeep, NotBanked, OtherEdition}
 use Rattle.lent.specs.Choice.{when, leading}
 use Rattle.lent.specs.FirstOf.{Quiet, none≢some, leading-none, none-leading}
 use Rattle.lent.specs.Lists.{all}
@@ -31,7 +32,8 @@ use Rattle.run.specs.declared.Counts.{Counts}
 use Rattle.run.specs.Run.{Lent, Yield, libraryRead, collectOver, searchOver, listOver, otherEdition, tooDeep, refusals, outcomeOf, runBy, numberOf, cover}
 use Rattle.run.specs.Order.{Stage, firstOf, Silent, silent-both, Beyond, or-else, after-none, at-stage}
 use Rattle.run.specs.Given.{CollectionOver, SearchOver, ListOver, NoEdition, Shape, SettingsFine, ReachedBy, FirstTest, TooLittleBy, GivenBy, NothingRefusedBy}
-use Rattle.run.specs.StageLaws.{Worded, rules-stage, edition-stage, depth-stage, count-stage, rules-fine, edition-other, edition-fine, depth-fine, count-fine, when-some, when-none, when-stage, reading-stage, collecting-stage, over, or-true-iff, not-over, collection-over, search-over, less, not-less}
+use Rattle.run.specs.StageLaws.{Worded, rules-stage, edition-stage, depth-stage, count-stage, rules-fine, edition-other, edition-fine, depth-fine, count-fine, when-some}
+use Rattle.run.specs.StageLaws.{when-none, when-stage, reading-stage, collecting-stage, over, or-true-iff, not-over, collection-over, search-over, less, not-less}
 
 -- a run by its refusals: what is searched with its own refusal, and what is needed and given
 module _ (shape : Shape) (own : Option Refusal) (words : Worded shape own) (library : List ℕ) (s : Settings) (lent : Lent) (c : Counts) (y : Yield) where

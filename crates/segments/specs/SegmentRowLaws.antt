@@ -17,7 +17,8 @@ use Rattle.segments.specs.declared.Reference.{Reference}
 use Rattle.segments.specs.declared.SegmentRow.{SegmentRow}
 use Rattle.segments.specs.Collect.{Collected, collect}
 use Rattle.segments.specs.CollectLaws.{source, same-length}
-use Rattle.segments.specs.SegmentRows.{segmentWidth, referenceWidth, symbolWidth, seatCells, segmentCells, goalCells, referenceCells, symbolCells, segmentRowsFrom, segmentRows, noRow, segmentNumbers, referenceNumbers, symbolNumbers, patternBytes, patternMasks}
+use Rattle.segments.specs.SegmentRows.{segmentWidth, referenceWidth, symbolWidth, seatCells, segmentCells, goalCells, referenceCells, symbolCells}
+use Rattle.segments.specs.SegmentRows.{segmentRowsFrom, segmentRows, noRow, segmentNumbers, referenceNumbers, symbolNumbers, patternBytes, patternMasks}
 
 -- each row has its width
 pub segment-wide : (r : SegmentRow) → length (segmentCells r) ≡ segmentWidth

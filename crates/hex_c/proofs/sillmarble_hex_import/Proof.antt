@@ -16,12 +16,6 @@ put-size-requires c κs = search needs
 number-of-requires : tie.Need-number-of-requires
 number-of-requires c κs = search needs
 
-same-length : tie.Need-same-length
-same-length c = search needs
-
-same-length-2 : tie.Need-same-length-2
-same-length-2 c = search needs
-
 returns : tie.Need-returns
 returns c = handed-is (c .before .before .before .before .before .before .before .before .before .before .before .before .before .args .counts .now)
     (c .number-of .ensures) (c .before .before .before .before .before .size-of .ensures) (c .before .before .before .put-size .ensures)
@@ -35,6 +29,6 @@ sillmarble-hex-import-spec =
     size-of-requires
     put-size-requires
     number-of-requires
-    same-length
-    same-length-2
+    (λ c. search needs)
+    (λ c. search needs)
     returns)

@@ -57,7 +57,8 @@ pub fn list_position(
     m: &mut [u64],
     f: Fill,
 ) -> Fill
-    ensures { λ r. ⌜ ListsAt (view (now (image .entry)) (stretchesIn (now (s .entry)))) rules skip (now (library .entry)) (now (segments .entry)) n (now (references .entry)) (now (placed .entry)) (now (positions .entry)) (now (noted .entry)) (now (goals .entry)) at (now (m .entry)) f (now (m .exit)) r ⌝ }
+    ensures { λ r. ⌜ ListsAt (view (now (image .entry)) (stretchesIn (now (s .entry)))) rules skip (now (library .entry))
+        (now (segments .entry)) n (now (references .entry)) (now (placed .entry)) (now (positions .entry)) (now (noted .entry)) (now (goals .entry)) at (now (m .entry)) f (now (m .exit)) r ⌝ }
 {
     let from = f.rows;
     if f.over {

@@ -36,7 +36,8 @@ fn take_placed(
     row: Placed,
 ) -> Best
     requires { ⌜ from + b .count < 18446744073709551615 ⌝ }
-    ensures { λ r. ⌜ Meets from (placedLines at (rowGrade (view (now (image .entry)) (stretchesIn (now (s .entry)))) (now (library .entry)) rules (now (segments .entry)) (now (references .entry)) n (now (placed .entry)) (now (positions .entry)) (now (noted .entry)) (now (goals .entry)) row) row) (now (m .entry)) b (now (m .exit)) r ⌝ }
+    ensures { λ r. ⌜ Meets from (placedLines at (rowGrade (view (now (image .entry)) (stretchesIn (now (s .entry)))) (now (library .entry)) rules
+        (now (segments .entry)) (now (references .entry)) n (now (placed .entry)) (now (positions .entry)) (now (noted .entry)) (now (goals .entry)) row) row) (now (m .entry)) b (now (m .exit)) r ⌝ }
 {
     let name = row.name;
     if row.position != at {
@@ -92,7 +93,8 @@ pub fn walk_placed(
     before: Best,
 ) -> Best
     requires { ⌜ (from ≤ length (now m) / 4) × (before .count ≤ length (now noted) / 6) ⌝ }
-    ensures { λ r. ⌜ WalksPlaced (view (now (image .entry)) (stretchesIn (now (s .entry)))) rules (now (library .entry)) (now (segments .entry)) n (now (references .entry)) (now (placed .entry)) (now (positions .entry)) (now (noted .entry)) (now (goals .entry)) at from (now (m .entry)) before (now (m .exit)) r ⌝ }
+    ensures { λ r. ⌜ WalksPlaced (view (now (image .entry)) (stretchesIn (now (s .entry)))) rules (now (library .entry))
+        (now (segments .entry)) n (now (references .entry)) (now (placed .entry)) (now (positions .entry)) (now (noted .entry)) (now (goals .entry)) at from (now (m .entry)) before (now (m .exit)) r ⌝ }
 {
     let mut b = before;
     let mut here = head_at(positions, at);

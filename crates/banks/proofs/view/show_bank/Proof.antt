@@ -44,9 +44,6 @@ copy-requires-2 c κs =
     let a = at-entry (c .before .before) .args in
     bank-fits (32768 * (a .k + 1)) (drop (32768 * (a .k + 1)) (a .file .now)) (c .before .before .before .before .copy .last .1 .0) (long (c .before .before))
 
-same-length : tie.Need-same-length
-same-length c = c .before .seen2 .given .1 ∙ c .before .before .before .before .before .before .seen .given
-
 returns : tie.Need-returns
 returns c =
     let second = c .before .before in
@@ -74,5 +71,5 @@ show-bank-spec =
     part-copy-start-3
     (λ c. search needs)
     copy-requires-2
-    same-length
+    (λ c. c .before .seen2 .given .1 ∙ c .before .before .before .before .before .before .seen .given)
     returns)

@@ -123,24 +123,6 @@ loop-holds c =
           (x .sections) s;
     }
 
-same-length : tie.Need-same-length Inv-loop μ-loop
-same-length c = at-in-loop-from-enum-told c .before .loop .inv .long .segments
-
-same-length-2 : tie.Need-same-length-2 Inv-loop μ-loop
-same-length-2 c = at-in-loop-from-enum-told c .before .loop .inv .long .references
-
-same-length-3 : tie.Need-same-length-3 Inv-loop μ-loop
-same-length-3 c = at-in-loop-from-enum-told c .before .loop .inv .long .symbols
-
-same-length-4 : tie.Need-same-length-4 Inv-loop μ-loop
-same-length-4 c = at-in-loop-from-enum-told c .before .loop .inv .long .bytes
-
-same-length-5 : tie.Need-same-length-5 Inv-loop μ-loop
-same-length-5 c = at-in-loop-from-enum-told c .before .loop .inv .long .masks
-
-same-length-6 : tie.Need-same-length-6 Inv-loop μ-loop
-same-length-6 c = at-in-loop-from-enum-told c .before .loop .inv .apart-long
-
 returns : tie.Need-returns Inv-loop μ-loop
 returns c =
     let a = after-shared-slice-known (at-in-loop-from-enum-told c .before .before) .before .args in
@@ -180,29 +162,6 @@ store-absolute-requires c κs =
         ),
       ),
     )
-
-same-length-7 : tie.Need-same-length-7 Inv-loop μ-loop
-same-length-7 c = after-store-absolute-from-enum-told2 c .store-absolute .ensures .long .segments ∙
-    at-in-loop-from-store-absolute (after-store-absolute-from-enum-told2 c) .before .loop .inv .long .segments
-
-same-length-8 : tie.Need-same-length-8 Inv-loop μ-loop
-same-length-8 c = after-store-absolute-from-enum-told2 c .store-absolute .ensures .long .references ∙
-    at-in-loop-from-store-absolute (after-store-absolute-from-enum-told2 c) .before .loop .inv .long .references
-
-same-length-9 : tie.Need-same-length-9 Inv-loop μ-loop
-same-length-9 c = after-store-absolute-from-enum-told2 c .store-absolute .ensures .long .symbols ∙
-    at-in-loop-from-store-absolute (after-store-absolute-from-enum-told2 c) .before .loop .inv .long .symbols
-
-same-length-10 : tie.Need-same-length-10 Inv-loop μ-loop
-same-length-10 c = after-store-absolute-from-enum-told2 c .store-absolute .ensures .long .bytes ∙
-    at-in-loop-from-store-absolute (after-store-absolute-from-enum-told2 c) .before .loop .inv .long .bytes
-
-same-length-11 : tie.Need-same-length-11 Inv-loop μ-loop
-same-length-11 c = after-store-absolute-from-enum-told2 c .store-absolute .ensures .long .masks ∙
-    at-in-loop-from-store-absolute (after-store-absolute-from-enum-told2 c) .before .loop .inv .long .masks
-
-same-length-12 : tie.Need-same-length-12 Inv-loop μ-loop
-same-length-12 c = after-store-absolute-from-enum-told2 c .store-absolute .ensures .apart-long ∙ at-in-loop-from-store-absolute (after-store-absolute-from-enum-told2 c) .before .loop .inv .apart-long
 
 returns-2 : tie.Need-returns-2 Inv-loop μ-loop
 returns-2 c =
@@ -254,24 +213,6 @@ loop-again c =
           (λ section i hs t. stored-here store-absolute rules m hs o x section i t) (c .before .before .stored .given .1));
     }
 
-same-length-13 : tie.Need-same-length-13 Inv-loop μ-loop
-same-length-13 c = c .before .loop .inv .long .segments
-
-same-length-14 : tie.Need-same-length-14 Inv-loop μ-loop
-same-length-14 c = c .before .loop .inv .long .references
-
-same-length-15 : tie.Need-same-length-15 Inv-loop μ-loop
-same-length-15 c = c .before .loop .inv .long .symbols
-
-same-length-16 : tie.Need-same-length-16 Inv-loop μ-loop
-same-length-16 c = c .before .loop .inv .long .bytes
-
-same-length-17 : tie.Need-same-length-17 Inv-loop μ-loop
-same-length-17 c = c .before .loop .inv .long .masks
-
-same-length-18 : tie.Need-same-length-18 Inv-loop μ-loop
-same-length-18 c = c .before .loop .inv .apart-long
-
 returns-3 : tie.Need-returns-3 Inv-loop μ-loop
 returns-3 c =
     let a = after-shared-slice-known (c .before .before) .before .args in
@@ -297,32 +238,32 @@ store-absolutes-spec =
     (λ c κs. search needs)
     (λ c. search needs)
     (λ c. search needs)
-    same-length
-    same-length-2
-    same-length-3
-    same-length-4
-    same-length-5
-    same-length-6
+    (λ c. at-in-loop-from-enum-told c .before .loop .inv .long .segments)
+    (λ c. at-in-loop-from-enum-told c .before .loop .inv .long .references)
+    (λ c. at-in-loop-from-enum-told c .before .loop .inv .long .symbols)
+    (λ c. at-in-loop-from-enum-told c .before .loop .inv .long .bytes)
+    (λ c. at-in-loop-from-enum-told c .before .loop .inv .long .masks)
+    (λ c. at-in-loop-from-enum-told c .before .loop .inv .apart-long)
     returns
     slice-aggregate-store-absolute
     store-absolute-requires
     (λ c. search needs)
     (λ c. search needs)
-    same-length-7
-    same-length-8
-    same-length-9
-    same-length-10
-    same-length-11
-    same-length-12
+    (λ c. after-store-absolute-from-enum-told2 c .store-absolute .ensures .long .segments ∙ at-in-loop-from-store-absolute (after-store-absolute-from-enum-told2 c) .before .loop .inv .long .segments)
+    (λ c. after-store-absolute-from-enum-told2 c .store-absolute .ensures .long .references ∙ at-in-loop-from-store-absolute (after-store-absolute-from-enum-told2 c) .before .loop .inv .long .references)
+    (λ c. after-store-absolute-from-enum-told2 c .store-absolute .ensures .long .symbols ∙ at-in-loop-from-store-absolute (after-store-absolute-from-enum-told2 c) .before .loop .inv .long .symbols)
+    (λ c. after-store-absolute-from-enum-told2 c .store-absolute .ensures .long .bytes ∙ at-in-loop-from-store-absolute (after-store-absolute-from-enum-told2 c) .before .loop .inv .long .bytes)
+    (λ c. after-store-absolute-from-enum-told2 c .store-absolute .ensures .long .masks ∙ at-in-loop-from-store-absolute (after-store-absolute-from-enum-told2 c) .before .loop .inv .long .masks)
+    (λ c. after-store-absolute-from-enum-told2 c .store-absolute .ensures .apart-long ∙ at-in-loop-from-store-absolute (after-store-absolute-from-enum-told2 c) .before .loop .inv .apart-long)
     returns-2
     sub-next-at
     (λ c κs. search needs)
     loop-less
     loop-again
-    same-length-13
-    same-length-14
-    same-length-15
-    same-length-16
-    same-length-17
-    same-length-18
+    (λ c. c .before .loop .inv .long .segments)
+    (λ c. c .before .loop .inv .long .references)
+    (λ c. c .before .loop .inv .long .symbols)
+    (λ c. c .before .loop .inv .long .bytes)
+    (λ c. c .before .loop .inv .long .masks)
+    (λ c. c .before .loop .inv .apart-long)
     returns-3)

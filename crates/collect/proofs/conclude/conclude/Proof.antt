@@ -31,21 +31,6 @@ after-bytes2 c = c .before .before .before
 abbrev after-table : tie.After-slice-known17 → tie.After-table
 after-table c = after-segments2 (after-bytes2 c) .before .before .before .before .before .before .before .before .before .before .before
 
-same-length : tie.Need-same-length
-same-length c = after-references c .before .before .segments .given
-
-same-length-2 : tie.Need-same-length-2
-same-length-2 c = after-references c .references .given
-
-same-length-3 : tie.Need-same-length-3
-same-length-3 c = c .before .before .before .before .before .symbols .given
-
-same-length-4 : tie.Need-same-length-4
-same-length-4 c = c .before .before .before .bytes .given
-
-same-length-5 : tie.Need-same-length-5
-same-length-5 c = c .before .masks .given
-
 returns : tie.Need-returns
 returns c =
     let clear-all = after-clear-all c in
@@ -62,24 +47,6 @@ returns c =
 scan-requires : tie.Need-scan-requires
 scan-requires c κs = at-entry c .pre
 
-same-length-6 : tie.Need-same-length-6
-same-length-6 c = after-table c .table .given
-
-same-length-7 : tie.Need-same-length-7
-same-length-7 c = after-segments2 (after-bytes2 c) .segments2 .given
-
-same-length-8 : tie.Need-same-length-8
-same-length-8 c = after-bytes2 c .before .before .before .before .references2 .given
-
-same-length-9 : tie.Need-same-length-9
-same-length-9 c = after-bytes2 c .before .before .symbols2 .given
-
-same-length-10 : tie.Need-same-length-10
-same-length-10 c = after-bytes2 c .bytes2 .given
-
-same-length-11 : tie.Need-same-length-11
-same-length-11 c = c .before .masks2 .given
-
 returns-2 : tie.Need-returns-2
 returns-2 c =
     let segments2 = after-segments2 (after-bytes2 c) in
@@ -95,9 +62,6 @@ returns-2 c =
           (told {o = collectRefusal modules} (sym (table .before .scan .ensures .says) ∙
           segments2 .before .before .before .before .before .before .before .before .verdict .given .1)) (segments2 .before .clear-all2 .ensures);
     }
-
-same-length-12 : tie.Need-same-length-12
-same-length-12 c = c .before .before .before .table .given
 
 returns-3 : tie.Need-returns-3
 returns-3 c =
@@ -119,22 +83,22 @@ conclude-spec =
     (λ c. search needs)
     (λ c. search needs)
     (λ c κs. search needs)
-    same-length
-    same-length-2
-    same-length-3
-    same-length-4
-    same-length-5
+    (λ c. after-references c .before .before .segments .given)
+    (λ c. after-references c .references .given)
+    (λ c. c .before .before .before .before .before .symbols .given)
+    (λ c. c .before .before .before .bytes .given)
+    (λ c. c .before .masks .given)
     returns
     scan-requires
     (λ c. search needs)
     (λ c κs. search needs)
-    same-length-6
-    same-length-7
-    same-length-8
-    same-length-9
-    same-length-10
-    same-length-11
+    (λ c. after-table c .table .given)
+    (λ c. after-segments2 (after-bytes2 c) .segments2 .given)
+    (λ c. after-bytes2 c .before .before .before .before .references2 .given)
+    (λ c. after-bytes2 c .before .before .symbols2 .given)
+    (λ c. after-bytes2 c .bytes2 .given)
+    (λ c. c .before .masks2 .given)
     returns-2
     (λ c. search needs)
-    same-length-12
+    (λ c. c .before .before .before .table .given)
     returns-3)

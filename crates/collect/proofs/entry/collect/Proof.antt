@@ -56,9 +56,6 @@ conclude-requires c κs = record {
   clear = after-segments2 c .before .before .store .ensures .tells;
 }
 
-same-length : tie.Need-same-length
-same-length c = after-references3 c .before .before .segments3 .given ∙ after-segments2 (after-conclude c .before) .segments2 .given ∙ after-segments (after-store c .before) .segments .given
-
 same-length-2 : tie.Need-same-length-2
 same-length-2 c = after-references3 c .references3 .given ∙ after-masks2 c .before .before .before .before .before .before .references2 .given ∙
     after-masks c .before .before .before .before .before .before .references .given
@@ -66,12 +63,6 @@ same-length-2 c = after-references3 c .references3 .given ∙ after-masks2 c .be
 same-length-3 : tie.Need-same-length-3
 same-length-3 c = c .before .before .before .before .before .symbols3 .given ∙ after-masks2 c .before .before .before .before .symbols2 .given ∙
     after-masks c .before .before .before .before .symbols .given
-
-same-length-4 : tie.Need-same-length-4
-same-length-4 c = c .before .before .before .bytes3 .given ∙ after-masks2 c .before .before .bytes2 .given ∙ after-masks c .before .before .bytes .given
-
-same-length-5 : tie.Need-same-length-5
-same-length-5 c = c .before .masks3 .given ∙ after-masks2 c .masks2 .given ∙ after-masks c .masks .given
 
 returns-2 : tie.Need-returns-2
 returns-2 c =
@@ -95,9 +86,9 @@ collect-spec =
     store-requires
     (λ c. search needs)
     conclude-requires
-    same-length
+    (λ c. after-references3 c .before .before .segments3 .given ∙ after-segments2 (after-conclude c .before) .segments2 .given ∙ after-segments (after-store c .before) .segments .given)
     same-length-2
     same-length-3
-    same-length-4
-    same-length-5
+    (λ c. c .before .before .before .bytes3 .given ∙ after-masks2 c .before .before .bytes2 .given ∙ after-masks c .before .before .bytes .given)
+    (λ c. c .before .masks3 .given ∙ after-masks2 c .masks2 .given ∙ after-masks c .masks .given)
     returns-2)

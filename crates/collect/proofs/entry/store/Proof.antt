@@ -25,24 +25,6 @@ store-in-requires c κs =
     let h = few-publics .before .before .if1 .taken in
     (zeros-size 9363 10923 (few-publics .before .few-contents .ensures) (few-publics .few-publics .ensures) (p .0) (omega (arith, h)) (omega (arith, h)) (omega arith) (omega arith), p .1)
 
-same-length : tie.Need-same-length
-same-length c = after-references c .before .before .before .before .before .before .table .given
-
-same-length-2 : tie.Need-same-length-2
-same-length-2 c = after-references c .before .before .segments .given
-
-same-length-3 : tie.Need-same-length-3
-same-length-3 c = after-references c .references .given
-
-same-length-4 : tie.Need-same-length-4
-same-length-4 c = c .before .before .before .before .before .symbols .given
-
-same-length-5 : tie.Need-same-length-5
-same-length-5 c = c .before .before .before .bytes .given
-
-same-length-6 : tie.Need-same-length-6
-same-length-6 c = c .before .masks .given
-
 returns : tie.Need-returns
 returns c = after-references c .before .before .before .before .before .before .before .store-in .ensures
 
@@ -52,24 +34,6 @@ store-in-requires-2 c κs =
     let p = many-publics .before .before .before .before .before .before .before .before .before .before .pre in
     let h = p .0 in
     (zeros-size 149797 174763 (many-publics .before .many-contents .ensures) (many-publics .many-publics .ensures) h (omega (arith, h)) (omega (arith, h)) (omega arith) (omega arith), p .1)
-
-same-length-7 : tie.Need-same-length-7
-same-length-7 c = after-references2 c .before .before .before .before .before .before .table2 .given
-
-same-length-8 : tie.Need-same-length-8
-same-length-8 c = after-references2 c .before .before .segments2 .given
-
-same-length-9 : tie.Need-same-length-9
-same-length-9 c = after-references2 c .references2 .given
-
-same-length-10 : tie.Need-same-length-10
-same-length-10 c = c .before .before .before .before .before .symbols2 .given
-
-same-length-11 : tie.Need-same-length-11
-same-length-11 c = c .before .before .before .bytes2 .given
-
-same-length-12 : tie.Need-same-length-12
-same-length-12 c = c .before .masks2 .given
 
 returns-2 : tie.Need-returns-2
 returns-2 c = after-references2 c .before .before .before .before .before .before .before .store-in2 .ensures
@@ -83,22 +47,22 @@ store-spec =
     (λ c. search needs)
     (λ c. search needs)
     store-in-requires
-    same-length
-    same-length-2
-    same-length-3
-    same-length-4
-    same-length-5
-    same-length-6
+    (λ c. after-references c .before .before .before .before .before .before .table .given)
+    (λ c. after-references c .before .before .segments .given)
+    (λ c. after-references c .references .given)
+    (λ c. c .before .before .before .before .before .symbols .given)
+    (λ c. c .before .before .before .bytes .given)
+    (λ c. c .before .masks .given)
     returns
     (λ c κs. search needs)
     (λ c κs. search needs)
     (λ c. search needs)
     (λ c. search needs)
     store-in-requires-2
-    same-length-7
-    same-length-8
-    same-length-9
-    same-length-10
-    same-length-11
-    same-length-12
+    (λ c. after-references2 c .before .before .before .before .before .before .table2 .given)
+    (λ c. after-references2 c .before .before .segments2 .given)
+    (λ c. after-references2 c .references2 .given)
+    (λ c. c .before .before .before .before .before .symbols2 .given)
+    (λ c. c .before .before .before .bytes2 .given)
+    (λ c. c .before .masks2 .given)
     returns-2)

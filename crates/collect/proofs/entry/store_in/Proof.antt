@@ -20,30 +20,6 @@ store-all-requires c κs =
     let p = content-room .before .before .before .before .before .before .before .before .before .before .before .before .pre in
     (tables-work (p .0) (p .1 .0) (content-room .before .before .heads .ensures) (content-room .before .heads2 .ensures) (content-room .content-room .ensures), p .1 .1)
 
-same-length : tie.Need-same-length
-same-length c = after-publics c .before .before .before .before .before .table .given
-
-same-length-2 : tie.Need-same-length-2
-same-length-2 c = after-publics c .before .before .before .contents .given
-
-same-length-3 : tie.Need-same-length-3
-same-length-3 c = after-publics c .publics .given
-
-same-length-4 : tie.Need-same-length-4
-same-length-4 c = after-symbols c .before .before .before .before .segments .given
-
-same-length-5 : tie.Need-same-length-5
-same-length-5 c = after-symbols c .before .before .references .given
-
-same-length-6 : tie.Need-same-length-6
-same-length-6 c = after-symbols c .symbols .given
-
-same-length-7 : tie.Need-same-length-7
-same-length-7 c = c .before .before .before .before .bytes .given
-
-same-length-8 : tie.Need-same-length-8
-same-length-8 c = c .before .before .masks .given
-
 pub store-in-spec : {M : Type 1} → statement M
 store-in-spec =
     tie.close
@@ -55,12 +31,12 @@ store-in-spec =
     (λ c. search needs)
     (λ c. search needs)
     store-all-requires
-    same-length
-    same-length-2
-    same-length-3
-    same-length-4
-    same-length-5
-    same-length-6
-    same-length-7
-    same-length-8
+    (λ c. after-publics c .before .before .before .before .before .table .given)
+    (λ c. after-publics c .before .before .before .contents .given)
+    (λ c. after-publics c .publics .given)
+    (λ c. after-symbols c .before .before .before .before .segments .given)
+    (λ c. after-symbols c .before .before .references .given)
+    (λ c. after-symbols c .symbols .given)
+    (λ c. c .before .before .before .before .bytes .given)
+    (λ c. c .before .before .masks .given)
     (λ c. search needs))

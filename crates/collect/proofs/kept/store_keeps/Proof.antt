@@ -203,24 +203,6 @@ loop-again-2 c =
           (rest-passed lib m number (l .c .segments - number) (yields (c .before .before)) (sym (c .before .is-kept .ensures) ∙ c .if1 .left)) (l .inv .progress m gs e x s);
     }
 
-same-length-7 : tie.Need-same-length-7 Inv-loop μ-loop
-same-length-7 c = c .before .before .before .loop .inv .long .segments
-
-same-length-8 : tie.Need-same-length-8 Inv-loop μ-loop
-same-length-8 c = c .before .before .before .loop .inv .long .references
-
-same-length-9 : tie.Need-same-length-9 Inv-loop μ-loop
-same-length-9 c = c .before .before .before .loop .inv .long .symbols
-
-same-length-10 : tie.Need-same-length-10 Inv-loop μ-loop
-same-length-10 c = c .before .before .before .loop .inv .long .bytes
-
-same-length-11 : tie.Need-same-length-11 Inv-loop μ-loop
-same-length-11 c = c .before .before .before .loop .inv .long .masks
-
-same-length-12 : tie.Need-same-length-12 Inv-loop μ-loop
-same-length-12 c = c .before .before .before .loop .inv .apart-long
-
 returns-2 : tie.Need-returns-2 Inv-loop μ-loop
 returns-2 c =
     let entry = at-entry (c .before .before .before) in
@@ -263,10 +245,10 @@ store-keeps-spec =
     loop-less-2
     loop-again-2
     (λ c. search needs)
-    same-length-7
-    same-length-8
-    same-length-9
-    same-length-10
-    same-length-11
-    same-length-12
+    (λ c. c .before .before .before .loop .inv .long .segments)
+    (λ c. c .before .before .before .loop .inv .long .references)
+    (λ c. c .before .before .before .loop .inv .long .symbols)
+    (λ c. c .before .before .before .loop .inv .long .bytes)
+    (λ c. c .before .before .before .loop .inv .long .masks)
+    (λ c. c .before .before .before .loop .inv .apart-long)
     returns-2)

@@ -32,9 +32,6 @@ write-requires c κs = search needs
 enum-told : tie.Need-enum-told
 enum-told c = search needs
 
-same-length : tie.Need-same-length
-same-length c = search needs
-
 returns-2 : tie.Need-returns-2
 returns-2 c =
     let s = after-s c in
@@ -55,6 +52,6 @@ describe-spec =
     returns
     write-requires
     enum-told
-    same-length
+    (λ c. search needs)
     returns-2
     returns-3)

@@ -65,9 +65,6 @@ add-result c =
     let a = at-entry (c .before) .args in
     omega (arith, length-say (a .s .at) (a .s .len))
 
-same-length : tie.Need-same-length Inv-loop μ-loop
-same-length c = c .before .loop .inv .1
-
 returns : tie.Need-returns Inv-loop μ-loop
 returns c =
     let a = at-entry (c .before) .args in
@@ -94,5 +91,5 @@ put-spec =
     loop-less
     loop-again
     add-result
-    same-length
+    (λ c. c .before .loop .inv .1)
     returns)

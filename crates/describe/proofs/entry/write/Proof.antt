@@ -28,9 +28,6 @@ put-requires-4 c κs = omega (arith, length-pieces (at-entry (after-put c .befor
 put-requires-5 : tie.Need-put-requires-5
 put-requires-5 c κs = omega (arith, length-pieces (at-entry (after-put (c .before .before .before .before) .before) .args .s))
 
-same-length : tie.Need-same-length
-same-length c = search needs
-
 returns : tie.Need-returns
 returns c = after-put (c .before .before .before .before .before .before .before) .put .ensures then-put
     c .before .before .before .before .before .before .before .before .before .before .before .before .before .before .put2 .ensures then-put
@@ -46,5 +43,5 @@ write-spec =
     put-requires-3
     put-requires-4
     put-requires-5
-    same-length
+    (λ c. search needs)
     returns)

@@ -37,9 +37,6 @@ returns-2 c = let a = c .before .before .before .before .args in no-room (textOf
 put-all-requires : tie.Need-put-all-requires
 put-all-requires c κs = (c .before .if2 .left, c .before .before .if1 .left)
 
-same-length : tie.Need-same-length
-same-length c = search needs
-
 returns-3 : tie.Need-returns-3
 returns-3 c = let a = c .before .before .before .before .before .before .before .before .args in
     ap (λ l. (Done (12 * ((length (a .image .now) + 15) / 16) + 2 * length (a .image .now) + 12), l)) (c .before .before .put-all .ensures)
@@ -58,5 +55,5 @@ export-image-spec =
     add-size-3
     returns-2
     put-all-requires
-    same-length
+    (λ c. search needs)
     returns-3)

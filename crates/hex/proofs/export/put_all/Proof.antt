@@ -110,9 +110,6 @@ part-put-record-end-2 c = search needs
 put-record-requires-2 : tie.Need-put-record-requires-2 Inv-loop μ-loop
 put-record-requires-2 c κs = (omega (arith, c .before .before .before .loop .inv .room), omega arith, omega arith)
 
-same-length : tie.Need-same-length Inv-loop μ-loop
-same-length c = search needs
-
 returns : tie.Need-returns Inv-loop μ-loop
 returns c = let a = c .before .before .before .before .before .before .before .before .before .args in let l =
     c .before .before .before .before .before .before .loop in c .before .before .put-record2 .ensures ∙ lines-all (a .image .now) (l .i)
@@ -144,5 +141,5 @@ put-all-spec =
     part-put-record-start-2
     part-put-record-end-2
     put-record-requires-2
-    same-length
+    (λ c. search needs)
     returns)

@@ -19,9 +19,6 @@ add-out c = search needs
 slice-write-out-2 : tie.Need-slice-write-out-2
 slice-write-out-2 c = search needs
 
-same-length : tie.Need-same-length
-same-length c = search needs
-
 returns : tie.Need-returns
 returns c = let a = c .before .before .before .args in rw (← add-one (a .at), ← c .before .digit .ensures, ← c .digit2 .ensures)
 
@@ -34,5 +31,5 @@ put-byte-spec =
     digit-requires-2
     add-out
     slice-write-out-2
-    same-length
+    (λ c. search needs)
     returns)

@@ -72,9 +72,6 @@ loop-again c =
           (a .bytes .now) (l .out) (l .to) (l .i) (in-loop .loop-test .taken) ∙ l .inv .same;
     }
 
-same-length : tie.Need-same-length Inv-loop μ-loop
-same-length c = c .before .loop .inv .long
-
 returns : tie.Need-returns Inv-loop μ-loop
 returns c = let a = c .before .before .before .before .args in let l = c .before .loop in
     (omega (arith, l .inv .summed, total-done (λ byte. byte) (a .bytes .now) (l .i) (c .loop-test .left)), digits-all (a .bytes .now) (l .out) (l .to) (l .i) (c .loop-test .left) ∙ l .inv .same)
@@ -95,5 +92,5 @@ put-bytes-spec =
     add-i
     loop-less
     loop-again
-    same-length
+    (λ c. c .before .loop .inv .long)
     returns)

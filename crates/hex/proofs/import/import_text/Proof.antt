@@ -70,9 +70,6 @@ returns-2 c =
     let a = entry .args in ap (λ m. stored m (a .out .now))
     (came (entry .args .text .now) (nothing .nothing .result) (read .read .last .1 .0) (read .read .ensures) (nothing .nothing .ensures) (c .before .r .given .1))
 
-same-length : tie.Need-same-length
-same-length c = search needs
-
 returns-3 : tie.Need-returns-3
 returns-3 c =
     let cells3 = after-cells3 c in
@@ -97,5 +94,5 @@ import-text-spec =
     slice-aggregate-fill
     fill-requires
     returns-2
-    same-length
+    (λ c. search needs)
     returns-3)

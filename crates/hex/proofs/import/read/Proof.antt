@@ -108,9 +108,6 @@ take-requires c κs =
     let known-told2 = c .before in
     let l = known-told2 .before .before .before .before .loop in omega (arith, lies known-told2 .good .parts .room, lies known-told2 .sizes, lies known-told2 .fits, l .inv .long)
 
-same-length-3 : tie.Need-same-length-3 Inv-loop μ-loop
-same-length-3 c = search needs
-
 returns-3 : tie.Need-returns-3 Inv-loop μ-loop
 returns-3 c =
     let take = c .before .before .before in
@@ -173,7 +170,7 @@ read-spec =
     enum-known-address
     add-take
     take-requires
-    same-length-3
+    (λ c. search needs)
     returns-3
     end-after-requires
     loop-less

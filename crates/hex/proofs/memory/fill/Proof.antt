@@ -52,9 +52,6 @@ loop-again c = let a = c .before .before .before .before .before .before .args i
       same = fill-more (a .cells .now) (a .end) (l .out) (l .i) (c .before .before .loop-test .taken) (c .byte .ensures) ∙ l .inv .same;
     }
 
-same-length : tie.Need-same-length Inv-loop μ-loop
-same-length c = c .before .loop .inv .long
-
 returns : tie.Need-returns Inv-loop μ-loop
 returns c = let a = c .before .before .before .before .args in let l = c .before .loop in fill-all (a .cells .now) (a .end) (l .out) (l .i) (c .loop-test .left) ∙ l .inv .same
 
@@ -72,5 +69,5 @@ fill-spec =
     add-i
     loop-less
     loop-again
-    same-length
+    (λ c. c .before .loop .inv .long)
     returns)

@@ -78,9 +78,6 @@ loop-again c = let a = c .before .before .before .before .before .before .args i
           ∙ taken-more (a .text .now) (l .cells) (l .seen) (l .k) (l .to) n (omega arith) ∙ l .inv .same;
     }
 
-same-length : tie.Need-same-length Inv-loop μ-loop
-same-length c = c .before .loop .inv .long
-
 returns : tie.Need-returns Inv-loop μ-loop
 returns c = let a = c .before .before .before .before .args in let l = c .before .loop in taken-all (a .text .now) (l .cells) (l .seen) (l .k)
     (l .to) (a .address + a .size - l .to) (omega arith) ∙ l .inv .same
@@ -104,5 +101,5 @@ take-spec =
     add-to
     loop-less
     loop-again
-    same-length
+    (λ c. c .before .loop .inv .long)
     returns)

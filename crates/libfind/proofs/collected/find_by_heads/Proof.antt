@@ -37,30 +37,6 @@ after-noted c = after-found (after-references2 c) .before .before .before .befor
 abbrev after-placed-from-conclude : tie.After-conclude → tie.After-placed
 after-placed-from-conclude c = after-noted c .before .before
 
-same-length : tie.Need-same-length
-same-length c = after-references2 c .before .before .segments2 .given ∙ after-references (after-placed-from-conclude c) .before .before .segments .given
-
-same-length-2 : tie.Need-same-length-2
-same-length-2 c = after-references2 c .references2 .given ∙ after-references (after-placed-from-conclude c) .references .given
-
-same-length-3 : tie.Need-same-length-3
-same-length-3 c = after-placed2 c .before .before .before .before .before .before .symbols2 .given ∙ after-placed-from-conclude c .before .before .before .before .before .before .symbols .given
-
-same-length-4 : tie.Need-same-length-4
-same-length-4 c = after-placed2 c .before .before .before .before .bytes2 .given ∙ after-placed-from-conclude c .before .before .before .before .bytes .given
-
-same-length-5 : tie.Need-same-length-5
-same-length-5 c = after-placed2 c .before .before .masks2 .given ∙ after-placed-from-conclude c .before .before .masks .given
-
-same-length-6 : tie.Need-same-length-6
-same-length-6 c = after-placed2 c .placed2 .given ∙ after-placed-from-conclude c .placed .given
-
-same-length-7 : tie.Need-same-length-7
-same-length-7 c = c .before .before .before .before .noted2 .given ∙ after-noted c .noted .given
-
-same-length-9 : tie.Need-same-length-9
-same-length-9 c = after-found (after-references2 c) .before .before .before .before .before .positions .given
-
 returns : tie.Need-returns
 returns c =
     let placed = after-placed-from-conclude c in
@@ -102,15 +78,15 @@ find-by-heads-spec =
     (λ c κs. search needs)
     (λ c. search needs)
     (λ c κs. search needs)
-    same-length
-    same-length-2
-    same-length-3
-    same-length-4
-    same-length-5
-    same-length-6
-    same-length-7
+    (λ c. after-references2 c .before .before .segments2 .given ∙ after-references (after-placed-from-conclude c) .before .before .segments .given)
+    (λ c. after-references2 c .references2 .given ∙ after-references (after-placed-from-conclude c) .references .given)
+    (λ c. after-placed2 c .before .before .before .before .before .before .symbols2 .given ∙ after-placed-from-conclude c .before .before .before .before .before .before .symbols .given)
+    (λ c. after-placed2 c .before .before .before .before .bytes2 .given ∙ after-placed-from-conclude c .before .before .before .before .bytes .given)
+    (λ c. after-placed2 c .before .before .masks2 .given ∙ after-placed-from-conclude c .before .before .masks .given)
+    (λ c. after-placed2 c .placed2 .given ∙ after-placed-from-conclude c .placed .given)
+    (λ c. c .before .before .before .before .noted2 .given ∙ after-noted c .noted .given)
     (λ c. search needs)
-    same-length-9
+    (λ c. after-found (after-references2 c) .before .before .before .before .before .positions .given)
     (λ c. search needs)
     returns
     (λ c. search needs)

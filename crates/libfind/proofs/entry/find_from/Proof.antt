@@ -50,30 +50,6 @@ lent c = let a = c .args in lentLists (a .segments .now) (a .references .now) (a
 abbrev collected : tie.Start → Rules → CollectOutcome
 collected c rules = collection rules (c .args .library .now) (itemsAt (c .args .library .now) (moduleAt (c .args .library .now)) (c .args .first)) (collectable (lent c))
 
-same-length : tie.Need-same-length
-same-length c = after-symbols2 c .before .before .before .before .segments2 .given ∙ after-segments (after-slice-known13 c) .segments .given
-
-same-length-2 : tie.Need-same-length-2
-same-length-2 c = after-symbols2 c .before .before .references2 .given ∙ after-symbols (after-slice-known13 c) .before .before .references .given
-
-same-length-3 : tie.Need-same-length-3
-same-length-3 c = after-symbols2 c .symbols2 .given ∙ after-symbols (after-slice-known13 c) .symbols .given
-
-same-length-4 : tie.Need-same-length-4
-same-length-4 c = after-masks2 c .before .before .bytes2 .given ∙ after-slice-known13 c .before .before .before .bytes .given
-
-same-length-5 : tie.Need-same-length-5
-same-length-5 c = after-masks2 c .masks2 .given ∙ after-slice-known13 c .before .masks .given
-
-same-length-6 : tie.Need-same-length-6
-same-length-6 c = c .before .before .before .before .before .placed .given
-
-same-length-7 : tie.Need-same-length-7
-same-length-7 c = c .before .before .before .noted .given
-
-same-length-8 : tie.Need-same-length-8
-same-length-8 c = c .before .lines .given
-
 returns : tie.Need-returns
 returns c =
     let slice-known13 = after-slice-known13 c in
@@ -85,30 +61,6 @@ returns c =
     after-symbols2 c .before .before .before .before .before .find-collected .ensures (image-short (a .image .now) (a .library .now) (a .settings) (lent entry) b)
     ∙ collected-then (a .image .now) (a .library .now) (a .settings) (lent entry) b
     (ap (λ r. record { answer = r; left = left }) (sym (after-collected (after-symbols2 c) .collected .given .1)) ∙ q .ensures ∙ ap (collected entry) (after-rules-of slice-known13 .rules-of .ensures))
-
-same-length-9 : tie.Need-same-length-9
-same-length-9 c = after-segments (after-r c .before .before) .segments .given
-
-same-length-10 : tie.Need-same-length-10
-same-length-10 c = after-symbols (after-r c .before .before) .before .before .references .given
-
-same-length-11 : tie.Need-same-length-11
-same-length-11 c = after-symbols (after-r c .before .before) .symbols .given
-
-same-length-12 : tie.Need-same-length-12
-same-length-12 c = after-r c .before .before .before .before .before .bytes .given
-
-same-length-13 : tie.Need-same-length-13
-same-length-13 c = after-r c .before .before .before .masks .given
-
-same-length-14 : tie.Need-same-length-14
-same-length-14 c = after-noted2 c .before .before .before .before .placed2 .given
-
-same-length-15 : tie.Need-same-length-15
-same-length-15 c = after-noted2 c .noted2 .given
-
-same-length-16 : tie.Need-same-length-16
-same-length-16 c = c .before .lines2 .given
 
 returns-2 : tie.Need-returns-2
 returns-2 c =
@@ -134,21 +86,21 @@ find-from-spec =
     (λ c κs. search needs)
     (λ c κs. search needs)
     (λ c κs. search needs)
-    same-length
-    same-length-2
-    same-length-3
-    same-length-4
-    same-length-5
-    same-length-6
-    same-length-7
-    same-length-8
+    (λ c. after-symbols2 c .before .before .before .before .segments2 .given ∙ after-segments (after-slice-known13 c) .segments .given)
+    (λ c. after-symbols2 c .before .before .references2 .given ∙ after-symbols (after-slice-known13 c) .before .before .references .given)
+    (λ c. after-symbols2 c .symbols2 .given ∙ after-symbols (after-slice-known13 c) .symbols .given)
+    (λ c. after-masks2 c .before .before .bytes2 .given ∙ after-slice-known13 c .before .before .before .bytes .given)
+    (λ c. after-masks2 c .masks2 .given ∙ after-slice-known13 c .before .masks .given)
+    (λ c. c .before .before .before .before .before .placed .given)
+    (λ c. c .before .before .before .noted .given)
+    (λ c. c .before .lines .given)
     returns
-    same-length-9
-    same-length-10
-    same-length-11
-    same-length-12
-    same-length-13
-    same-length-14
-    same-length-15
-    same-length-16
+    (λ c. after-segments (after-r c .before .before) .segments .given)
+    (λ c. after-symbols (after-r c .before .before) .before .before .references .given)
+    (λ c. after-symbols (after-r c .before .before) .symbols .given)
+    (λ c. after-r c .before .before .before .before .before .bytes .given)
+    (λ c. after-r c .before .before .before .masks .given)
+    (λ c. after-noted2 c .before .before .before .before .placed2 .given)
+    (λ c. after-noted2 c .noted2 .given)
+    (λ c. c .before .lines2 .given)
     returns-2)

@@ -31,30 +31,6 @@ begins c =
     let a = at-entry c .args in
     c .begin .ensures ∙ ap (λ o. beginning o (length (a .image .now)) (a .library .now) (a .settings)) (own-is (tooLong (length (a .image .now))) (c .before .single .ensures))
 
-same-length : tie.Need-same-length
-same-length c = after-symbols c .before .before .before .before .segments .given
-
-same-length-2 : tie.Need-same-length-2
-same-length-2 c = after-symbols c .before .before .references .given
-
-same-length-3 : tie.Need-same-length-3
-same-length-3 c = after-symbols c .symbols .given
-
-same-length-4 : tie.Need-same-length-4
-same-length-4 c = after-masks c .before .before .bytes .given
-
-same-length-5 : tie.Need-same-length-5
-same-length-5 c = after-masks c .masks .given
-
-same-length-6 : tie.Need-same-length-6
-same-length-6 c = c .before .before .before .before .before .placed .given
-
-same-length-7 : tie.Need-same-length-7
-same-length-7 c = c .before .before .before .noted .given
-
-same-length-8 : tie.Need-same-length-8
-same-length-8 c = c .before .lines .given
-
 returns : tie.Need-returns
 returns c =
     let first = after-first (after-symbols c) in
@@ -76,13 +52,13 @@ find-names-spec =
     (λ c. search needs)
     (λ c κs. search needs)
     (λ c. search needs)
-    same-length
-    same-length-2
-    same-length-3
-    same-length-4
-    same-length-5
-    same-length-6
-    same-length-7
-    same-length-8
+    (λ c. after-symbols c .before .before .before .before .segments .given)
+    (λ c. after-symbols c .before .before .references .given)
+    (λ c. after-symbols c .symbols .given)
+    (λ c. after-masks c .before .before .bytes .given)
+    (λ c. after-masks c .masks .given)
+    (λ c. c .before .before .before .before .before .placed .given)
+    (λ c. c .before .before .before .noted .given)
+    (λ c. c .before .lines .given)
     returns
     returns-2)

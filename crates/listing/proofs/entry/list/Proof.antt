@@ -34,30 +34,6 @@ lent c = record {
   noted = c .args .noted .now;
 }
 
-same-length : tie.Need-same-length
-same-length c = after-segments (after-bytes c) .segments .given
-
-same-length-2 : tie.Need-same-length-2
-same-length-2 c = after-bytes c .before .before .before .before .references .given
-
-same-length-3 : tie.Need-same-length-3
-same-length-3 c = after-bytes c .before .before .symbols .given
-
-same-length-4 : tie.Need-same-length-4
-same-length-4 c = after-bytes c .bytes .given
-
-same-length-5 : tie.Need-same-length-5
-same-length-5 c = after-placed c .before .before .masks .given
-
-same-length-6 : tie.Need-same-length-6
-same-length-6 c = after-placed c .placed .given
-
-same-length-7 : tie.Need-same-length-7
-same-length-7 c = c .before .before .before .before .before .noted .given
-
-same-length-8 : tie.Need-same-length-8
-same-length-8 c = c .before .lines2 .given ∙ at-then1 (after-bytes c) .before .before .lines .given
-
 returns : tie.Need-returns
 returns c =
     let clear = c .before .before in
@@ -94,14 +70,14 @@ list-spec =
     (λ c κs. search needs)
     (λ c κs. search needs)
     (λ c κs. search needs)
-    same-length
-    same-length-2
-    same-length-3
-    same-length-4
-    same-length-5
-    same-length-6
-    same-length-7
-    same-length-8
+    (λ c. after-segments (after-bytes c) .segments .given)
+    (λ c. after-bytes c .before .before .before .before .references .given)
+    (λ c. after-bytes c .before .before .symbols .given)
+    (λ c. after-bytes c .bytes .given)
+    (λ c. after-placed c .before .before .masks .given)
+    (λ c. after-placed c .placed .given)
+    (λ c. c .before .before .before .before .before .noted .given)
+    (λ c. c .before .lines2 .given ∙ at-then1 (after-bytes c) .before .before .lines .given)
     returns
     (λ c. search needs)
     (λ c. search needs)

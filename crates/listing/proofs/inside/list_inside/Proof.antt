@@ -71,9 +71,6 @@ loop-again c =
           (p .last .1 .1 .1 .1 .1 .1 .1 .1 .1 .1 .1 .1 .1 .0) (p .result) lower (l .inv .leads k small) (p .ensures k (omega (arith, lower, small))));
     }
 
-same-length : tie.Need-same-length Inv-loop μ-loop
-same-length c = c .before .loop .inv .long
-
 returns : tie.Need-returns Inv-loop μ-loop
 returns c =
     let a = at-entry (c .before .before) .args in
@@ -95,5 +92,5 @@ list-inside-spec =
     (λ c κs. search needs)
     loop-less
     loop-again
-    same-length
+    (λ c. c .before .loop .inv .long)
     returns)

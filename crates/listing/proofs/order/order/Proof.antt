@@ -45,9 +45,6 @@ loop-again c =
       passed = λ r h. c .before .before .pass .ensures r (l .inv .passed r h .now);
     }
 
-same-length : tie.Need-same-length Inv-loop μ-loop
-same-length c = c .before .loop .inv .long
-
 returns-3 : tie.Need-returns-3 Inv-loop μ-loop
 returns-3 c =
     let loop = c .before in
@@ -67,5 +64,5 @@ order-spec =
     (λ c κs. search needs)
     (λ c. search needs)
     loop-again
-    same-length
+    (λ c. c .before .loop .inv .long)
     returns-3)

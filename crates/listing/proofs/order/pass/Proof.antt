@@ -34,9 +34,6 @@ loop-again c =
           record { now = t .now; rising = λ g p h. t .rising g p (omega (arith, h)) };
     }
 
-same-length : tie.Need-same-length Inv-loop μ-loop
-same-length c = c .before .loop .inv .long
-
 returns : tie.Need-returns Inv-loop μ-loop
 returns c = λ r s.
     let t = c .before .loop .inv .passed r s in
@@ -53,5 +50,5 @@ pass-spec =
     (λ c. search needs)
     (λ c. search needs)
     loop-again
-    same-length
+    (λ c. c .before .loop .inv .long)
     returns)

@@ -94,9 +94,6 @@ add-put-line-2 c =
     let entry = at-entry (c .before .before) in
     omega (arith, c .before .before .loop .inv .within, entry .pre .1, entry .good .1 .0)
 
-same-length : tie.Need-same-length Inv-loop μ-loop
-same-length c = c .before .m2 .given ∙ at-loop c .loop .inv .long
-
 returns : tie.Need-returns Inv-loop μ-loop
 returns c =
     let put-line2 = c .before .before in
@@ -133,5 +130,5 @@ sink-spec =
     loop-again
     add-put-line-2
     (λ c κs. search needs)
-    same-length
+    (λ c. c .before .m2 .given ∙ at-loop c .loop .inv .long)
     returns)

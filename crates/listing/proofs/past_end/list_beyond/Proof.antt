@@ -34,17 +34,11 @@ at-in-loop c = after-span-end c .before .before .before
 loop-holds : tie.Need-loop-holds Inv-loop μ-loop
 loop-holds c = let a = c .before .before .before .before .args in record { long = refl; leaves = leaves-all (a .noted .now) (a .n) (a .goals .now) (a .end) (a .skip) (a .lines .now) (a .before) }
 
-same-length : tie.Need-same-length Inv-loop μ-loop
-same-length c = c .before .before .loop .inv .long
-
 returns : tie.Need-returns Inv-loop μ-loop
 returns c =
     let a = at-entry (c .before .before) .args in
     let l = c .before .before .loop in
     leaves-over (a .noted .now) (a .n) (a .goals .now) (a .end) (a .skip) (a .lines .now) (a .before) (l .lines) (l .f) (l .bound) (l .inv .leaves) (c .if1 .taken)
-
-same-length-2 : tie.Need-same-length-2 Inv-loop μ-loop
-same-length-2 c = c .before .before .lines .given ∙ at-in-loop (c .before) .before .loop .inv .long
 
 returns-2 : tie.Need-returns-2 Inv-loop μ-loop
 returns-2 c =
@@ -83,9 +77,6 @@ loop-again c =
           (lowest .lowest .ensures) (span-end .span-end .ensures) (s .last .1 .1 .1 .1 .1 .0) (s .result) (s .ensures);
     }
 
-same-length-3 : tie.Need-same-length-3 Inv-loop μ-loop
-same-length-3 c = c .before .loop .inv .long
-
 returns-3 : tie.Need-returns-3 Inv-loop μ-loop
 returns-3 c =
     let highest = c .before .before in
@@ -102,15 +93,15 @@ list-beyond-spec =
     μ-loop
     (λ c κs. search needs)
     loop-holds
-    same-length
+    (λ c. c .before .before .loop .inv .long)
     returns
     (λ c κs. search needs)
     (λ c κs. search needs)
     (λ c κs. search needs)
-    same-length-2
+    (λ c. c .before .before .lines .given ∙ at-in-loop (c .before) .before .loop .inv .long)
     returns-2
     (λ c. search needs)
     loop-less
     loop-again
-    same-length-3
+    (λ c. c .before .loop .inv .long)
     returns-3)

@@ -66,9 +66,6 @@ stands c = sym (c .before .before .module-at .ensures) ∙ ap placesRead (c .pla
 loop-holds : tie.Need-loop-holds Inv-loop μ-loop
 loop-holds c = record { long = refl; clear = c .before .before .pre .clear; same = refl }
 
-same-length : tie.Need-same-length Inv-loop μ-loop
-same-length c = c .before .before .loop .inv .long
-
 returns : tie.Need-returns Inv-loop μ-loop
 returns c =
     let module-at = c .before in
@@ -126,7 +123,7 @@ scan-spec =
     loop-holds
     (λ c κs. search needs)
     (λ c. search needs)
-    same-length
+    (λ c. c .before .before .loop .inv .long)
     returns
     fill-requires
     (λ c κs. search needs)

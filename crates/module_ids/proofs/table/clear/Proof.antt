@@ -64,9 +64,6 @@ loop-again c =
           (clearing-step d _ (l .table) (subst (λ (x : ModuleId). x .0 < 65536) (i .0) (i .1)) (rw (yields (c .before .before .before .before .before .before)) at (l .inv .clearing)));
     }
 
-same-length : tie.Need-same-length Inv-loop μ-loop
-same-length c = c .before .before .before .loop .inv .long
-
 returns : tie.Need-returns Inv-loop μ-loop
 returns c =
     let l = c .before .before .before .loop in
@@ -90,5 +87,5 @@ clear-spec =
     loop-less
     loop-again
     (λ c. search needs)
-    same-length
+    (λ c. c .before .before .before .loop .inv .long)
     returns)

@@ -116,9 +116,6 @@ loop-again c =
       ordered = f .ordered;
     }
 
-same-length : tie.Need-same-length Inv-loop μ-loop
-same-length c = c .before .before .before .loop .inv .long
-
 returns : tie.Need-returns Inv-loop μ-loop
 returns c =
     let l = c .before .before .before .loop in
@@ -141,5 +138,5 @@ fill-spec =
     loop-less
     loop-again
     (λ c. search needs)
-    same-length
+    (λ c. c .before .before .before .loop .inv .long)
     returns)

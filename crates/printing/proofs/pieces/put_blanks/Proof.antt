@@ -43,9 +43,6 @@ loop-again c = let a = c .before .before .args in
 add-result : tie.Need-add-result Inv-loop μ-loop
 add-result c = omega arith
 
-same-length : tie.Need-same-length Inv-loop μ-loop
-same-length c = c .before .loop .inv .long
-
 returns : tie.Need-returns Inv-loop μ-loop
 returns c = let a = c .before .before .args in
     let l = c .before .loop in
@@ -64,5 +61,5 @@ put-blanks-spec =
     loop-less
     loop-again
     add-result
-    same-length
+    (λ c. c .before .loop .inv .long)
     returns)

@@ -20,9 +20,6 @@ slice-aggregate-next-entry c = search needs
 next-entry-requires : tie.Need-next-entry-requires Inv-loop μ-loop
 next-entry-requires c κs = search needs
 
-same-length : tie.Need-same-length Inv-loop μ-loop
-same-length c = search needs
-
 returns : tie.Need-returns Inv-loop μ-loop
 returns c = search needs
 
@@ -59,9 +56,6 @@ loop-less c = search needs
 loop-again : tie.Need-loop-again Inv-loop μ-loop
 loop-again c = search needs
 
-same-length-2 : tie.Need-same-length-2 Inv-loop μ-loop
-same-length-2 c = search needs
-
 returns-2 : tie.Need-returns-2 Inv-loop μ-loop
 returns-2 c = search needs
 
@@ -74,7 +68,7 @@ compare-each-spec =
     loop-holds
     slice-aggregate-next-entry
     next-entry-requires
-    same-length
+    (λ c. search needs)
     returns
     element-copy-out-wrapping-add-u64
     wrapping-add-u64-requires
@@ -87,5 +81,5 @@ compare-each-spec =
     sub-left
     loop-less
     loop-again
-    same-length-2
+    (λ c. search needs)
     returns-2)

@@ -80,9 +80,6 @@ loop-holds c =
     let zero = c .before .before .clear .ensures in
     rw (zero, length-replicate {A = ℕ} (length (a .rows .now)) 0) (begun (view (a .image .now) (stretchesIn (a .s .now))) (a .start) (length (a .rows .now)))
 
-same-length : tie.Need-same-length Inv-loop μ-loop
-same-length c = kept (at-loop (c .before .before .before))
-
 returns : tie.Need-returns Inv-loop μ-loop
 returns c =
     let step = c .before .before .before in
@@ -90,9 +87,6 @@ returns c =
     let l = at .loop in
     whole at (at-stop (cells at) (at-entry at .args .start) (room at) (l .rows) (l .at) (l .i) (l .inv) (step .before .loop-test .taken) (c .before .why .given .0 .0)
     (sym (step .step-at .ensures) ∙ c .before .why .given .1))
-
-same-length-2 : tie.Need-same-length-2 Inv-loop μ-loop
-same-length-2 c = omega (arith, c .before .before .clear2 .kept, c .before .before .before .before .before .before .before .store .kept, kept (loop (c .before .before .before .before .before)))
 
 returns-2 : tie.Need-returns-2 Inv-loop μ-loop
 returns-2 c =
@@ -103,9 +97,6 @@ returns-2 c =
     let left : length (behind .before .before .store .last .0) ≡ length (l .rows) = behind .before .before .store .kept .0 in
     rw (c .before .before .clear2 .ensures, left)
     (whole at (no-room (cells at) (at-entry at .args .start) (room at) (l .rows) (l .at) (l .i) (l .inv) (at-test behind) (row behind) (next behind) _ (found behind _ refl) lacks))
-
-same-length-3 : tie.Need-same-length-3 Inv-loop μ-loop
-same-length-3 c = omega (arith, c .before .before .before .before .store .kept, kept (loop (c .before .before)))
 
 returns-3 : tie.Need-returns-3 Inv-loop μ-loop
 returns-3 c =
@@ -125,9 +116,6 @@ loop-again c =
     (going-on (cells at) (at-entry at .args .start) (room at) (l .rows) (l .at) (l .i) (l .inv) (at-test behind) (row behind) (next behind)
     (has behind ∙ not-false (behind .before .before .store .result) (c .before .if1 .left)) (found behind false (c .if2 .left)))
 
-same-length-4 : tie.Need-same-length-4 Inv-loop μ-loop
-same-length-4 c = kept (c .before)
-
 returns-4 : tie.Need-returns-4 Inv-loop μ-loop
 returns-4 c =
     let at = c .before in
@@ -144,17 +132,17 @@ follow-spec =
     loop-holds
     (λ c κs. search needs)
     (λ c. search needs)
-    same-length
+    (λ c. kept (at-loop (c .before .before .before)))
     returns
     (λ c. search needs)
     (λ c κs. search needs)
     (λ c κs. search needs)
-    same-length-2
+    (λ c. omega (arith, c .before .before .clear2 .kept, c .before .before .before .before .before .before .before .store .kept, kept (loop (c .before .before .before .before .before))))
     returns-2
     (λ c. search needs)
-    same-length-3
+    (λ c. omega (arith, c .before .before .before .before .store .kept, kept (loop (c .before .before))))
     returns-3
     (λ c. omega arith)
     loop-again
-    same-length-4
+    (λ c. kept (c .before))
     returns-4)

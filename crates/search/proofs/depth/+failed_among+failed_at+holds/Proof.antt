@@ -310,8 +310,16 @@ pub +failed-among+failed-at+holds-spec : {M : Type 1} → statement M
     (holds-at t)
     holds.Post
     -- at depth 0, and without a segment
-    (λ c. let start = c .before .before .before .before .before .before .before .before in let a = start .args in (holds-none (view (a .image .now) (stretchesIn (a .s .now))) (a .rules) (a .segments .now) (a .n) (a .references .now) (a .bytes .now) (a .masks .now) (a .depth) (a .number) (a .at) (c .if1 .taken), start .pre .1))
-    (λ c. let start = c .before .before .before .before .before .before .before .before .before in let a = start .args in (holds-lacking (view (a .image .now) (stretchesIn (a .s .now))) (a .rules) (a .segments .now) (a .n) (a .references .now) (a .bytes .now) (a .masks .now) (a .depth) (a .number) (a .at) (omega (arith, c .if2 .taken)), start .pre .1))
+    (λ c.
+    let start = c .before .before .before .before .before .before .before .before in
+    let a = start .args in
+    let seen = view (a .image .now) (stretchesIn (a .s .now)) in
+    (holds-none seen (a .rules) (a .segments .now) (a .n) (a .references .now) (a .bytes .now) (a .masks .now) (a .depth) (a .number) (a .at) (c .if1 .taken), start .pre .1))
+    (λ c.
+    let start = c .before .before .before .before .before .before .before .before .before in
+    let a = start .args in
+    let seen = view (a .image .now) (stretchesIn (a .s .now)) in
+    (holds-lacking seen (a .rules) (a .segments .now) (a .n) (a .references .now) (a .bytes .now) (a .masks .now) (a .depth) (a .number) (a .at) (omega (arith, c .if2 .taken)), start .pre .1))
     (λ c κs. search needs)
     (λ c κs. search needs)
     (λ c. search needs)

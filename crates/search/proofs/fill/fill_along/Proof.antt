@@ -27,10 +27,9 @@ index-requires c κs =
     zeros-ready (entry .args .image .now) (byte-heads .byte-heads .result) (entry .args .next .now) (entry .pre .0) (entry .pre .1) (byte-heads .byte-heads .ensures)
 
 search-all-requires : tie.Need-search-all-requires
-search-all-requires c κs = (c .before .before .before .before .before .before .before .before .before .before .index .ensures, c .before .before .before .before .before .before .before .before .before .before .before .before .before .before .before .before .before .before .before .before .before .before .before .before .before .before .before .before .before .before .before .before .before .before .before .before .pre .2)
-
-same-length-3 : tie.Need-same-length-3
-same-length-3 c = after-placed2 c .placed2 .given ∙ after-placed c .placed .given
+search-all-requires c κs =
+    let index = c .before .before .before .before .before .before .before .before .before .before in
+    (index .index .ensures, at-entry (index .before .before .before .before .before .before .before .before .before .before .before .before .before .before .before) .pre .2)
 
 same-length-5 : tie.Need-same-length-5
 same-length-5 c =
@@ -63,7 +62,7 @@ fill-along-spec =
     search-all-requires
     (λ c. search needs)
     (λ c. search needs)
-    same-length-3
+    (λ c. after-placed2 c .placed2 .given ∙ after-placed c .placed .given)
     (λ c. search needs)
     same-length-5
     (λ c. search needs)

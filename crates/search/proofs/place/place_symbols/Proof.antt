@@ -105,12 +105,6 @@ loop-again c =
           (l .inv .leads);
     }
 
-same-length : tie.Need-same-length Inv-loop μ-loop
-same-length c = c .before .loop .inv .long
-
-same-length-2 : tie.Need-same-length-2 Inv-loop μ-loop
-same-length-2 c = c .before .loop .inv .heads-long
-
 returns-2 : tie.Need-returns-2 Inv-loop μ-loop
 returns-2 c =
     let lies-within = c .before .before .before in
@@ -138,6 +132,6 @@ place-symbols-spec =
     add-k
     loop-less
     loop-again
-    same-length
-    same-length-2
+    (λ c. c .before .loop .inv .long)
+    (λ c. c .before .loop .inv .heads-long)
     returns-2)

@@ -116,15 +116,6 @@ loop-holds c =
       masks-go = λ ss f. merging-starts is (nextOf (a .contents .now)) ss (a .masks .now) (mergedOne (a .start) (a .size) (dataMasks (a .library .now))) f;
     }
 
-same-length : tie.Need-same-length Inv-loop μ-loop
-same-length c = at-loop-from-enum-told c .loop .inv .bytes-long
-
-same-length-2 : tie.Need-same-length-2 Inv-loop μ-loop
-same-length-2 c = at-loop-from-enum-told c .loop .inv .masks-long
-
-same-length-3 : tie.Need-same-length-3 Inv-loop μ-loop
-same-length-3 c = at-loop-from-enum-told c .loop .inv .apart-long
-
 returns : tie.Need-returns Inv-loop μ-loop
 returns c =
     let loop = at-loop-from-enum-told c in
@@ -164,15 +155,6 @@ loop-again c =
       masks-go = goes-on c (dataMasks (a .library .now)) (a .masks .now) (l .masks) (m .last .1 .1 .1 .1 .1 .0) (l .inv .masks-go) (m .ensures .masks-are);
     }
 
-same-length-4 : tie.Need-same-length-4 Inv-loop μ-loop
-same-length-4 c = c .before .loop .inv .bytes-long
-
-same-length-5 : tie.Need-same-length-5 Inv-loop μ-loop
-same-length-5 c = c .before .loop .inv .masks-long
-
-same-length-6 : tie.Need-same-length-6 Inv-loop μ-loop
-same-length-6 c = c .before .loop .inv .apart-long
-
 returns-2 : tie.Need-returns-2 Inv-loop μ-loop
 returns-2 c =
     let a = at-entry-from-loop (c .before) .args in
@@ -200,16 +182,16 @@ merge-along-spec =
     (λ c κs. search needs)
     (λ c. search needs)
     (λ c. search needs)
-    same-length
-    same-length-2
-    same-length-3
+    (λ c. at-loop-from-enum-told c .loop .inv .bytes-long)
+    (λ c. at-loop-from-enum-told c .loop .inv .masks-long)
+    (λ c. at-loop-from-enum-told c .loop .inv .apart-long)
     returns
     merge-content-requires
     (λ c. search needs)
     (λ c κs. search needs)
     loop-less
     loop-again
-    same-length-4
-    same-length-5
-    same-length-6
+    (λ c. c .before .loop .inv .bytes-long)
+    (λ c. c .before .loop .inv .masks-long)
+    (λ c. c .before .loop .inv .apart-long)
     returns-2)

@@ -20,15 +20,6 @@ merge-masks-requires c κs =
     let a = entry .args in
     omega (arith, ap length (c .before .before .before .before .before .before .name .ensures), part-short (a .library .now) (a .content .part), entry .pre)
 
-same-length : tie.Need-same-length
-same-length c = search needs
-
-same-length-2 : tie.Need-same-length-2
-same-length-2 c = search needs
-
-same-length-3 : tie.Need-same-length-3
-same-length-3 c = c .before .before .before .before .merge-masks .ensures .1
-
 returns : tie.Need-returns
 returns c =
     let merge-masks = c .before .before .before .before in
@@ -48,7 +39,7 @@ merge-content-spec =
     (λ c κs. search needs)
     (λ c κs. search needs)
     merge-masks-requires
-    same-length
-    same-length-2
-    same-length-3
+    (λ c. search needs)
+    (λ c. search needs)
+    (λ c. c .before .before .before .before .merge-masks .ensures .1)
     returns)

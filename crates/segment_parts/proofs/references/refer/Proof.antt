@@ -84,9 +84,6 @@ loop-again c =
           (yields (id-row .before)) (append-left .before .before .reference-of .ensures) (append-left .append-left .ensures .0) (l .inv .leads ds t);
     }
 
-same-length : tie.Need-same-length Inv-loop μ-loop
-same-length c = c .before .before .before .loop .inv .long
-
 returns : tie.Need-returns Inv-loop μ-loop
 returns c =
     let a = at-entry (c .before .before .before) .args in
@@ -109,5 +106,5 @@ refer-spec =
     loop-less
     loop-again
     (λ c. search needs)
-    same-length
+    (λ c. c .before .before .before .loop .inv .long)
     returns)

@@ -59,9 +59,6 @@ loop-holds c =
           referenceLayout (sectionLeaves ds (a .number)) (a .before) f;
     }
 
-same-length : tie.Need-same-length Inv-loop μ-loop
-same-length c = c .before .before .before .before .before .loop .inv .long
-
 returns : tie.Need-returns Inv-loop μ-loop
 returns c =
     let a = at-entry (c .before .before .before .before .before) .args in
@@ -106,9 +103,6 @@ loop-again c =
           (ap (λ p. sectionIn (a .library .now) (nextContent (a .library .now) p)) (next-content .before .place-at .ensures) ∙ i)) (r .ensures .adds ds t)));
     }
 
-same-length-2 : tie.Need-same-length-2 Inv-loop μ-loop
-same-length-2 c = c .before .loop .inv .long
-
 returns-2 : tie.Need-returns-2 Inv-loop μ-loop
 returns-2 c =
     let a = at-entry (c .before) .args in
@@ -131,12 +125,12 @@ refer-along-spec =
     (λ c κs. search needs)
     (λ c. search needs)
     (λ c. search needs)
-    same-length
+    (λ c. c .before .before .before .before .before .loop .inv .long)
     returns
     refer-requires
     (λ c. search needs)
     (λ c κs. search needs)
     loop-less
     loop-again
-    same-length-2
+    (λ c. c .before .loop .inv .long)
     returns-2)

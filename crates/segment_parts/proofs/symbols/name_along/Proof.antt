@@ -71,9 +71,6 @@ loop-again c =
           (ap (publicAt (a .library .now) (idOf d)) (append-public .before .before .place-at .ensures) ∙ s) (append-public .append-public .ensures .adds (idOf d))));
     }
 
-same-length : tie.Need-same-length Inv-loop μ-loop
-same-length c = c .before .loop .inv .long
-
 returns : tie.Need-returns Inv-loop μ-loop
 returns c =
     let a = c .before .before .before .before .before .args in
@@ -98,5 +95,5 @@ name-along-spec =
     (λ c κs. search needs)
     loop-less
     loop-again
-    same-length
+    (λ c. c .before .loop .inv .long)
     returns)

@@ -115,12 +115,6 @@ loop-again c =
           (one-linked (entry .args .things .now) (entry .args .n) (entry .pre .within) (l .i - 1) (omega (arith, l .inv .within)) (so-far loop (omega arith)) (entry .pre .few));
     }
 
-same-length : tie.Need-same-length Inv-loop μ-loop
-same-length c = c .before .loop .inv .things-long
-
-same-length-2 : tie.Need-same-length-2 Inv-loop μ-loop
-same-length-2 c = c .before .loop .inv .heads-long
-
 returns : tie.Need-returns Inv-loop μ-loop
 returns c =
     let a = at-entry (c .before) .args in
@@ -150,6 +144,6 @@ link-spec =
     slice-write-first
     (λ c. omega arith)
     loop-again
-    same-length
-    same-length-2
+    (λ c. c .before .loop .inv .things-long)
+    (λ c. c .before .loop .inv .heads-long)
     returns)

@@ -67,9 +67,6 @@ loop-again c =
           (omega (arith, same c, small c, entry .pre .1, l .inv .cleared .long)) (l .inv .cleared));
     }
 
-same-length : tie.Need-same-length Inv-loop μ-loop
-same-length c = c .before .loop .inv .cleared .long
-
 returns : tie.Need-returns Inv-loop μ-loop
 returns c =
     let entry = c .before .before .before .before in
@@ -93,5 +90,5 @@ unlink-spec =
     (λ c. omega arith)
     (λ c. omega arith)
     loop-again
-    same-length
+    (λ c. c .before .loop .inv .cleared .long)
     returns)

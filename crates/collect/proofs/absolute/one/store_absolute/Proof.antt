@@ -103,12 +103,6 @@ same-length-5 c =
     (entry .args .c .pattern) (entry .args .from .content .part .len) 0
     (masksOf (length (bytesOf (entry .args .library .now) (entry .args .from .content .part))) (fixupsLeft (entry .args .library .now) (entry .args .from .fixups)))
 
-same-length-6 : tie.Need-same-length-6
-same-length-6 c = after-merge-content (after-name-inside (c .before .before .before) .before) .merge-content .ensures .long
-
-same-length-7 : tie.Need-same-length-7
-same-length-7 c = after-name-inside (c .before .before .before) .name-inside .ensures .flags-long
-
 returns-3 : tie.Need-returns-3
 returns-3 c =
     let name-inside = after-name-inside (c .before .before .before) in
@@ -178,6 +172,6 @@ store-absolute-spec =
     (λ c. search needs)
     same-length-4
     same-length-5
-    same-length-6
-    same-length-7
+    (λ c. after-merge-content (after-name-inside (c .before .before .before) .before) .merge-content .ensures .long)
+    (λ c. after-name-inside (c .before .before .before) .name-inside .ensures .flags-long)
     returns-3)

@@ -116,39 +116,6 @@ loop-holds c =
       },
     )
 
-same-length : tie.Need-same-length Inv-loop μ-loop
-same-length c = c .before .before .loop .inv .0 .table-long
-
-same-length-2 : tie.Need-same-length-2 Inv-loop μ-loop
-same-length-2 c = c .before .before .loop .inv .0 .contents-long
-
-same-length-3 : tie.Need-same-length-3 Inv-loop μ-loop
-same-length-3 c = c .before .before .loop .inv .0 .first-long
-
-same-length-4 : tie.Need-same-length-4 Inv-loop μ-loop
-same-length-4 c = c .before .before .loop .inv .0 .publics-long
-
-same-length-5 : tie.Need-same-length-5 Inv-loop μ-loop
-same-length-5 c = c .before .before .loop .inv .0 .heads-long
-
-same-length-6 : tie.Need-same-length-6 Inv-loop μ-loop
-same-length-6 c = c .before .before .loop .inv .1 .long .segments
-
-same-length-7 : tie.Need-same-length-7 Inv-loop μ-loop
-same-length-7 c = c .before .before .loop .inv .1 .long .references
-
-same-length-8 : tie.Need-same-length-8 Inv-loop μ-loop
-same-length-8 c = c .before .before .loop .inv .1 .long .symbols
-
-same-length-9 : tie.Need-same-length-9 Inv-loop μ-loop
-same-length-9 c = c .before .before .loop .inv .1 .long .bytes
-
-same-length-10 : tie.Need-same-length-10 Inv-loop μ-loop
-same-length-10 c = c .before .before .loop .inv .1 .long .masks
-
-same-length-11 : tie.Need-same-length-11 Inv-loop μ-loop
-same-length-11 c = c .before .before .loop .inv .1 .apart-long
-
 returns : tie.Need-returns Inv-loop μ-loop
 returns c =
     let module-at = c .before in
@@ -174,39 +141,6 @@ store-module-requires c κs =
       few = omega (arith, i .few, i .long .segments, entry .good .1 .1 .1 .1 .1 .1 .1 .1 .0, entry .good .0);
       short = p .short;
     }
-
-same-length-12 : tie.Need-same-length-12 Inv-loop μ-loop
-same-length-12 c = after-contents (c .before .before) .before .before .table .given ∙ at-loop-from-enum-told c .loop .inv .0 .table-long
-
-same-length-13 : tie.Need-same-length-13 Inv-loop μ-loop
-same-length-13 c = after-contents (c .before .before) .contents .given ∙ at-loop-from-enum-told c .loop .inv .0 .contents-long
-
-same-length-14 : tie.Need-same-length-14 Inv-loop μ-loop
-same-length-14 c = after-publics (c .before .before) .before .before .first .given ∙ at-loop-from-enum-told c .loop .inv .0 .first-long
-
-same-length-15 : tie.Need-same-length-15 Inv-loop μ-loop
-same-length-15 c = after-publics (c .before .before) .publics .given ∙ at-loop-from-enum-told c .loop .inv .0 .publics-long
-
-same-length-16 : tie.Need-same-length-16 Inv-loop μ-loop
-same-length-16 c = after-references (c .before .before) .before .before .before .before .heads .given ∙ at-loop-from-enum-told c .loop .inv .0 .heads-long
-
-same-length-17 : tie.Need-same-length-17 Inv-loop μ-loop
-same-length-17 c = after-references (c .before .before) .before .before .segments .given ∙ at-loop-from-enum-told c .loop .inv .1 .long .segments
-
-same-length-18 : tie.Need-same-length-18 Inv-loop μ-loop
-same-length-18 c = after-references (c .before .before) .references .given ∙ at-loop-from-enum-told c .loop .inv .1 .long .references
-
-same-length-19 : tie.Need-same-length-19 Inv-loop μ-loop
-same-length-19 c = c .before .before .before .before .before .before .before .before .before .symbols .given ∙ at-loop-from-enum-told c .loop .inv .1 .long .symbols
-
-same-length-20 : tie.Need-same-length-20 Inv-loop μ-loop
-same-length-20 c = c .before .before .before .before .before .before .before .bytes .given ∙ at-loop-from-enum-told c .loop .inv .1 .long .bytes
-
-same-length-21 : tie.Need-same-length-21 Inv-loop μ-loop
-same-length-21 c = c .before .before .before .before .before .masks .given ∙ at-loop-from-enum-told c .loop .inv .1 .long .masks
-
-same-length-22 : tie.Need-same-length-22 Inv-loop μ-loop
-same-length-22 c = c .before .before .before .apart .given ∙ at-loop-from-enum-told c .loop .inv .1 .apart-long
 
 returns-2 : tie.Need-returns-2 Inv-loop μ-loop
 returns-2 c =
@@ -284,32 +218,32 @@ store-all-spec =
     loop-holds
     (λ c κs. search needs)
     (λ c. search needs)
-    same-length
-    same-length-2
-    same-length-3
-    same-length-4
-    same-length-5
-    same-length-6
-    same-length-7
-    same-length-8
-    same-length-9
-    same-length-10
-    same-length-11
+    (λ c. c .before .before .loop .inv .0 .table-long)
+    (λ c. c .before .before .loop .inv .0 .contents-long)
+    (λ c. c .before .before .loop .inv .0 .first-long)
+    (λ c. c .before .before .loop .inv .0 .publics-long)
+    (λ c. c .before .before .loop .inv .0 .heads-long)
+    (λ c. c .before .before .loop .inv .1 .long .segments)
+    (λ c. c .before .before .loop .inv .1 .long .references)
+    (λ c. c .before .before .loop .inv .1 .long .symbols)
+    (λ c. c .before .before .loop .inv .1 .long .bytes)
+    (λ c. c .before .before .loop .inv .1 .long .masks)
+    (λ c. c .before .before .loop .inv .1 .apart-long)
     returns
     store-module-requires
     (λ c. search needs)
     (λ c. search needs)
-    same-length-12
-    same-length-13
-    same-length-14
-    same-length-15
-    same-length-16
-    same-length-17
-    same-length-18
-    same-length-19
-    same-length-20
-    same-length-21
-    same-length-22
+    (λ c. after-contents (c .before .before) .before .before .table .given ∙ at-loop-from-enum-told c .loop .inv .0 .table-long)
+    (λ c. after-contents (c .before .before) .contents .given ∙ at-loop-from-enum-told c .loop .inv .0 .contents-long)
+    (λ c. after-publics (c .before .before) .before .before .first .given ∙ at-loop-from-enum-told c .loop .inv .0 .first-long)
+    (λ c. after-publics (c .before .before) .publics .given ∙ at-loop-from-enum-told c .loop .inv .0 .publics-long)
+    (λ c. after-references (c .before .before) .before .before .before .before .heads .given ∙ at-loop-from-enum-told c .loop .inv .0 .heads-long)
+    (λ c. after-references (c .before .before) .before .before .segments .given ∙ at-loop-from-enum-told c .loop .inv .1 .long .segments)
+    (λ c. after-references (c .before .before) .references .given ∙ at-loop-from-enum-told c .loop .inv .1 .long .references)
+    (λ c. c .before .before .before .before .before .before .before .before .before .symbols .given ∙ at-loop-from-enum-told c .loop .inv .1 .long .symbols)
+    (λ c. c .before .before .before .before .before .before .before .bytes .given ∙ at-loop-from-enum-told c .loop .inv .1 .long .bytes)
+    (λ c. c .before .before .before .before .before .masks .given ∙ at-loop-from-enum-told c .loop .inv .1 .long .masks)
+    (λ c. c .before .before .before .apart .given ∙ at-loop-from-enum-told c .loop .inv .1 .apart-long)
     returns-2
     loop-less
     loop-again)

@@ -52,39 +52,6 @@ unlink-requires c κs =
 clear-requires : tie.Need-clear-requires
 clear-requires c κs = after-fill (after-first-from-bytes (c .before .before .before .before .before .before .before .before .before .before .before)) .fill .ensures .tells
 
-same-length : tie.Need-same-length
-same-length c = c .before .table2 .given ∙ after-first-from-bytes (after-bytes c) .before .before .before .before .before .before .before .table .given
-
-same-length-2 : tie.Need-same-length-2
-same-length-2 c = after-first-from-bytes (after-bytes c) .before .before .contents .given
-
-same-length-3 : tie.Need-same-length-3
-same-length-3 c = c .before .before .before .before .before .first2 .given ∙ after-first-from-bytes (after-bytes c) .first .given
-
-same-length-4 : tie.Need-same-length-4
-same-length-4 c = after-segments (after-bytes c) .before .before .before .before .publics .given
-
-same-length-5 : tie.Need-same-length-5
-same-length-5 c = after-segments (after-bytes c) .before .before .heads .given
-
-same-length-6 : tie.Need-same-length-6
-same-length-6 c = after-segments (after-bytes c) .segments .given
-
-same-length-7 : tie.Need-same-length-7
-same-length-7 c = after-bytes c .before .before .before .before .references .given
-
-same-length-8 : tie.Need-same-length-8
-same-length-8 c = after-bytes c .before .before .symbols .given
-
-same-length-9 : tie.Need-same-length-9
-same-length-9 c = after-bytes c .bytes .given
-
-same-length-10 : tie.Need-same-length-10
-same-length-10 c = after-apart c .before .before .masks .given
-
-same-length-11 : tie.Need-same-length-11
-same-length-11 c = after-apart c .apart .given
-
 returns : tie.Need-returns
 returns c =
     let first = after-first-from-bytes (after-bytes c) in
@@ -110,15 +77,15 @@ store-module-spec =
     both-parts-requires
     unlink-requires
     clear-requires
-    same-length
-    same-length-2
-    same-length-3
-    same-length-4
-    same-length-5
-    same-length-6
-    same-length-7
-    same-length-8
-    same-length-9
-    same-length-10
-    same-length-11
+    (λ c. c .before .table2 .given ∙ after-first-from-bytes (after-bytes c) .before .before .before .before .before .before .before .table .given)
+    (λ c. after-first-from-bytes (after-bytes c) .before .before .contents .given)
+    (λ c. c .before .before .before .before .before .first2 .given ∙ after-first-from-bytes (after-bytes c) .first .given)
+    (λ c. after-segments (after-bytes c) .before .before .before .before .publics .given)
+    (λ c. after-segments (after-bytes c) .before .before .heads .given)
+    (λ c. after-segments (after-bytes c) .segments .given)
+    (λ c. after-bytes c .before .before .before .before .references .given)
+    (λ c. after-bytes c .before .before .symbols .given)
+    (λ c. after-bytes c .bytes .given)
+    (λ c. after-apart c .before .before .masks .given)
+    (λ c. after-apart c .apart .given)
     returns)

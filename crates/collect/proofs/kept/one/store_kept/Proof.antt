@@ -74,12 +74,6 @@ add-finish c =
       entry .good .1 .1 .1 .1 .1 .1 .1 .1 .1 .1 .0,
     )
 
-same-length-4 : tie.Need-same-length-4
-same-length-4 c = after-merge-along (after-name-along (c .before .before .before)) .merge-along .ensures .bytes-long
-
-same-length-5 : tie.Need-same-length-5
-same-length-5 c = after-merge-along (after-name-along (c .before .before .before)) .merge-along .ensures .masks-long
-
 returns-3 : tie.Need-returns-3
 returns-3 c =
     let name-along = after-name-along (c .before .before .before) in
@@ -139,7 +133,7 @@ store-kept-spec =
     (λ c. search needs)
     (λ c. search needs)
     (λ c. search needs)
-    same-length-4
-    same-length-5
+    (λ c. after-merge-along (after-name-along (c .before .before .before)) .merge-along .ensures .bytes-long)
+    (λ c. after-merge-along (after-name-along (c .before .before .before)) .merge-along .ensures .masks-long)
     (λ c. search needs)
     returns-3)

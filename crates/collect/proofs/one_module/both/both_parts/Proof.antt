@@ -42,30 +42,6 @@ after-publics2 c = after-symbols2 c .before .before .before .before .before .bef
 abbrev after-apart-from-slice-known24 : tie.After-slice-known24 → tie.After-apart
 after-apart-from-slice-known24 c = after-apart-from-second-part-arg8 (after-publics2 c .before .before)
 
-same-length : tie.Need-same-length
-same-length c = after-publics (after-apart-from-enum-told c) .publics .given
-
-same-length-2 : tie.Need-same-length-2
-same-length-2 c = after-segments (after-apart-from-enum-told c) .before .before .heads .given
-
-same-length-3 : tie.Need-same-length-3
-same-length-3 c = after-segments (after-apart-from-enum-told c) .segments .given
-
-same-length-4 : tie.Need-same-length-4
-same-length-4 c = after-symbols (after-apart-from-enum-told c) .before .before .references .given
-
-same-length-5 : tie.Need-same-length-5
-same-length-5 c = after-symbols (after-apart-from-enum-told c) .symbols .given
-
-same-length-6 : tie.Need-same-length-6
-same-length-6 c = after-apart-from-enum-told c .before .before .before .before .bytes .given
-
-same-length-7 : tie.Need-same-length-7
-same-length-7 c = after-apart-from-enum-told c .before .before .masks .given
-
-same-length-8 : tie.Need-same-length-8
-same-length-8 c = after-apart-from-enum-told c .apart .given
-
 returns : tie.Need-returns
 returns c =
     let a = at-entry (after-apart-from-enum-told c) .args in
@@ -86,30 +62,6 @@ second-part-requires c κs =
     let p = publics .before .first-part .ensures in
     let r = at-entry (after-apart-from-second-part-arg8 c) .pre in
     (r .0, (omega (arith, r .1 .0, p .apart-long), (p .blank, omega (arith, r .1 .1 .1, publics .publics .given))))
-
-same-length-9 : tie.Need-same-length-9
-same-length-9 c = after-publics2 c .publics2 .given ∙ after-publics (after-apart-from-slice-known24 c) .publics .given
-
-same-length-10 : tie.Need-same-length-10
-same-length-10 c = after-symbols2 c .before .before .before .before .before .before .heads2 .given ∙ after-segments (after-apart-from-slice-known24 c) .before .before .heads .given
-
-same-length-11 : tie.Need-same-length-11
-same-length-11 c = after-symbols2 c .before .before .before .before .segments2 .given ∙ after-segments (after-apart-from-slice-known24 c) .segments .given
-
-same-length-12 : tie.Need-same-length-12
-same-length-12 c = after-symbols2 c .before .before .references2 .given ∙ after-symbols (after-apart-from-slice-known24 c) .before .before .references .given
-
-same-length-13 : tie.Need-same-length-13
-same-length-13 c = after-symbols2 c .symbols2 .given ∙ after-symbols (after-apart-from-slice-known24 c) .symbols .given
-
-same-length-14 : tie.Need-same-length-14
-same-length-14 c = c .before .before .before .before .before .bytes2 .given ∙ after-apart-from-slice-known24 c .before .before .before .before .bytes .given
-
-same-length-15 : tie.Need-same-length-15
-same-length-15 c = c .before .before .before .masks2 .given ∙ after-apart-from-slice-known24 c .before .before .masks .given
-
-same-length-16 : tie.Need-same-length-16
-same-length-16 c = c .before .apart2 .given ∙ after-apart-from-slice-known24 c .apart .given
 
 returns-2 : tie.Need-returns-2
 returns-2 c =
@@ -137,23 +89,23 @@ both-parts-spec =
     (λ c κs. search needs)
     (λ c. search needs)
     (λ c. search needs)
-    same-length
-    same-length-2
-    same-length-3
-    same-length-4
-    same-length-5
-    same-length-6
-    same-length-7
-    same-length-8
+    (λ c. after-publics (after-apart-from-enum-told c) .publics .given)
+    (λ c. after-segments (after-apart-from-enum-told c) .before .before .heads .given)
+    (λ c. after-segments (after-apart-from-enum-told c) .segments .given)
+    (λ c. after-symbols (after-apart-from-enum-told c) .before .before .references .given)
+    (λ c. after-symbols (after-apart-from-enum-told c) .symbols .given)
+    (λ c. after-apart-from-enum-told c .before .before .before .before .bytes .given)
+    (λ c. after-apart-from-enum-told c .before .before .masks .given)
+    (λ c. after-apart-from-enum-told c .apart .given)
     returns
     (λ c κs. search needs)
     second-part-requires
-    same-length-9
-    same-length-10
-    same-length-11
-    same-length-12
-    same-length-13
-    same-length-14
-    same-length-15
-    same-length-16
+    (λ c. after-publics2 c .publics2 .given ∙ after-publics (after-apart-from-slice-known24 c) .publics .given)
+    (λ c. after-symbols2 c .before .before .before .before .before .before .heads2 .given ∙ after-segments (after-apart-from-slice-known24 c) .before .before .heads .given)
+    (λ c. after-symbols2 c .before .before .before .before .segments2 .given ∙ after-segments (after-apart-from-slice-known24 c) .segments .given)
+    (λ c. after-symbols2 c .before .before .references2 .given ∙ after-symbols (after-apart-from-slice-known24 c) .before .before .references .given)
+    (λ c. after-symbols2 c .symbols2 .given ∙ after-symbols (after-apart-from-slice-known24 c) .symbols .given)
+    (λ c. c .before .before .before .before .before .bytes2 .given ∙ after-apart-from-slice-known24 c .before .before .before .before .bytes .given)
+    (λ c. c .before .before .before .masks2 .given ∙ after-apart-from-slice-known24 c .before .before .masks .given)
+    (λ c. c .before .apart2 .given ∙ after-apart-from-slice-known24 c .apart .given)
     returns-2)

@@ -47,30 +47,6 @@ unlink-requires c κs =
     let heads = after-heads (after-bytes c .before .before) in
     let i = heads .before .before .before .index-publics .ensures in (i .within, omega (arith, i .first-long, at-entry (after-slice-known2 heads) .pre .1 .1 .0 .heads))
 
-same-length : tie.Need-same-length
-same-length c = after-heads (after-symbols c) .before .before .publics .given
-
-same-length-2 : tie.Need-same-length-2
-same-length-2 c = c .before .heads2 .given ∙ after-heads (after-symbols c) .heads .given
-
-same-length-3 : tie.Need-same-length-3
-same-length-3 c = after-symbols c .before .before .before .before .segments .given
-
-same-length-4 : tie.Need-same-length-4
-same-length-4 c = after-symbols c .before .before .references .given
-
-same-length-5 : tie.Need-same-length-5
-same-length-5 c = after-symbols c .symbols .given
-
-same-length-6 : tie.Need-same-length-6
-same-length-6 c = after-bytes (c .before .before .before) .bytes .given
-
-same-length-7 : tie.Need-same-length-7
-same-length-7 c = c .before .before .before .before .before .before .before .before .masks .given
-
-same-length-8 : tie.Need-same-length-8
-same-length-8 c = c .before .before .before .before .before .before .apart .given
-
 returns-2 : tie.Need-returns-2
 returns-2 c =
     let heads = after-heads (after-symbols c) in
@@ -91,12 +67,12 @@ second-part-spec =
     (λ c κs. search needs)
     store-absolutes-requires
     unlink-requires
-    same-length
-    same-length-2
-    same-length-3
-    same-length-4
-    same-length-5
-    same-length-6
-    same-length-7
-    same-length-8
+    (λ c. after-heads (after-symbols c) .before .before .publics .given)
+    (λ c. c .before .heads2 .given ∙ after-heads (after-symbols c) .heads .given)
+    (λ c. after-symbols c .before .before .before .before .segments .given)
+    (λ c. after-symbols c .before .before .references .given)
+    (λ c. after-symbols c .symbols .given)
+    (λ c. after-bytes (c .before .before .before) .bytes .given)
+    (λ c. c .before .before .before .before .before .before .before .before .masks .given)
+    (λ c. c .before .before .before .before .before .before .apart .given)
     returns-2)

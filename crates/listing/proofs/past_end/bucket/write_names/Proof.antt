@@ -34,9 +34,6 @@ loop-again c =
     (noted-at .noted-at .result) (noted-at .noted-at .ensures) (c .onward .result) (c .onward .ensures)
     (write-name .write-name .last .1 .1 .0) (write-name .write-name .result) (write-name .write-name .ensures) (c .before .before .lines .given)
 
-same-length : tie.Need-same-length Inv-loop μ-loop
-same-length c = c .before .loop .inv .long
-
 returns : tie.Need-returns Inv-loop μ-loop
 returns c =
     let loop = c .before in
@@ -56,5 +53,5 @@ write-names-spec =
     (λ c κs. search needs)
     loop-less
     loop-again
-    same-length
+    (λ c. c .before .loop .inv .long)
     returns)

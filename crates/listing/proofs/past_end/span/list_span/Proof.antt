@@ -49,9 +49,6 @@ loop-again c =
           (list-target .list-target .last .1 .1 .1 .1 .0) (list-target .list-target .result) (list-target .list-target .ensures) (in-loop .loop-test .taken);
     }
 
-same-length : tie.Need-same-length Inv-loop μ-loop
-same-length c = c .before .lines2 .given ∙ c .before .before .before .before .before .loop .inv .long
-
 returns : tie.Need-returns Inv-loop μ-loop
 returns c =
     let list-target2 = c .before .before in
@@ -72,5 +69,5 @@ list-span-spec =
     loop-less
     loop-again
     (λ c κs. search needs)
-    same-length
+    (λ c. c .before .lines2 .given ∙ c .before .before .before .before .before .loop .inv .long)
     returns)

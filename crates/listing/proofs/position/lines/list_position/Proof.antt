@@ -46,9 +46,6 @@ walk-placed-requires c κs = (omega (arith, c .before .before .before .before .b
 finish-requires : tie.Need-finish-requires
 finish-requires c κs = omega (arith, after-m c .before .before .before .if2 .left, c .before .before .m2 .given, after-m c .m .given)
 
-same-length : tie.Need-same-length
-same-length c = c .before .m3 .given ∙ c .before .before .before .before .before .m2 .given ∙ after-m (c .before .before .before) .m .given
-
 returns-3 : tie.Need-returns-3
 returns-3 c =
     let finish = c .before .before in
@@ -73,5 +70,5 @@ list-position-spec =
     walk-noted-requires
     walk-placed-requires
     finish-requires
-    same-length
+    (λ c. c .before .m3 .given ∙ c .before .before .before .before .before .m2 .given ∙ after-m (c .before .before .before) .m .given)
     returns-3)

@@ -88,9 +88,6 @@ take-noted-requires c κs =
     let entry = at-entry (c .before .before .before .before .before) in
     omega (arith, c .before .before .before .loop .inv .few, c .before .before .loop-test .taken, entry .pre, entry .good .0, entry .good .1 .1 .1 .0)
 
-same-length : tie.Need-same-length Inv-loop μ-loop
-same-length c = c .before .before .m .given ∙ at-in-loop (c .before) .before .loop .inv .long
-
 returns-2 : tie.Need-returns-2 Inv-loop μ-loop
 returns-2 c =
     let noted-at = c .before .before .before .before .before in
@@ -129,9 +126,6 @@ loop-again c =
           (a .from) (take-noted .take-noted .last .0) (take-noted .take-noted .result) long (take-noted .take-noted .ensures);
     }
 
-same-length-2 : tie.Need-same-length-2 Inv-loop μ-loop
-same-length-2 c = c .before .loop .inv .long
-
 returns-3 : tie.Need-returns-3 Inv-loop μ-loop
 returns-3 c = let a = at-entry (c .before .before .before) .args in
     let l = c .before .loop in
@@ -155,9 +149,9 @@ walk-noted-spec =
     sub-noted-at
     (λ c κs. search needs)
     take-noted-requires
-    same-length
+    (λ c. c .before .before .m .given ∙ at-in-loop (c .before) .before .loop .inv .long)
     returns-2
     loop-less
     loop-again
-    same-length-2
+    (λ c. c .before .loop .inv .long)
     returns-3)

@@ -118,9 +118,6 @@ take-placed-requires c κs =
       entry .good .1 .1 .1 .1 .1 .1 .1 .1 .1 .1 .1 .1 .0,
     )
 
-same-length : tie.Need-same-length Inv-loop μ-loop
-same-length c = c .before .before .m .given ∙ at-in-loop (c .before) .before .loop .inv .long
-
 returns-2 : tie.Need-returns-2 Inv-loop μ-loop
 returns-2 c =
     let placed-at = c .before .before .before .before .before in
@@ -163,9 +160,6 @@ loop-again c =
           (a .from) (take-placed .take-placed .last .1 .1 .1 .1 .1 .1 .1 .1 .1 .1 .1 .0) (take-placed .take-placed .result) long (take-placed .take-placed .ensures);
     }
 
-same-length-2 : tie.Need-same-length-2 Inv-loop μ-loop
-same-length-2 c = c .before .loop .inv .long
-
 returns-3 : tie.Need-returns-3 Inv-loop μ-loop
 returns-3 c =
     let entry = at-entry (c .before .before .before) in
@@ -191,9 +185,9 @@ walk-placed-spec =
     sub-placed-at
     (λ c κs. search needs)
     take-placed-requires
-    same-length
+    (λ c. c .before .before .m .given ∙ at-in-loop (c .before) .before .loop .inv .long)
     returns-2
     loop-less
     loop-again
-    same-length-2
+    (λ c. c .before .loop .inv .long)
     returns-3)

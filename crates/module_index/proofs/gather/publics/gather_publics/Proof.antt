@@ -222,9 +222,6 @@ loop-again-3 c =
     goes-on (c .before) (l .n) (l .things) d refl (l .inv .long) (omega (arith, l .inv .few, goes (c .before) .size-later))
     (rw (not-public-passed (l .inv .done) d (c .before .before .before .before .before .before .before .before .before .args .by) (not-public d (c .match2 .keys2))) (l .inv .gathered))
 
-same-length : tie.Need-same-length Inv-loop μ-loop
-same-length c = c .before .before .before .loop .inv .long
-
 returns : tie.Need-returns Inv-loop μ-loop
 returns c =
     let entry = c .before .before .before .before .before .before .before in
@@ -262,5 +259,5 @@ gather-publics-spec =
     loop-less-3
     loop-again-3
     (λ c. search needs)
-    same-length
+    (λ c. c .before .before .before .loop .inv .long)
     returns)

@@ -113,9 +113,6 @@ loop-again c =
       few = omega (arith, i .few, goes (c .before) .later);
     }
 
-same-length : tie.Need-same-length Inv-loop μ-loop
-same-length c = c .before .before .before .loop .inv .long
-
 returns : tie.Need-returns Inv-loop μ-loop
 returns c =
     let lib = c .before .before .before .before .before .before .args .library .now in
@@ -142,5 +139,5 @@ gather-sections-spec =
     loop-less
     loop-again
     (λ c. search needs)
-    same-length
+    (λ c. c .before .before .before .loop .inv .long)
     returns)

@@ -116,12 +116,6 @@ loop-again c =
           (small (c .before .before .before)) (linked-at (l .inv .linked) (omega arith)));
     }
 
-same-length : tie.Need-same-length Inv-loop μ-loop
-same-length c = c .before .loop .inv .heads-long
-
-same-length-2 : tie.Need-same-length-2 Inv-loop μ-loop
-same-length-2 c = c .before .loop .inv .next-long
-
 returns : tie.Need-returns Inv-loop μ-loop
 returns c = all-indexed (omega (arith, c .before .loop .inv .heads-long, at-entry (c .before) .pre .heads)) (linked-at (c .before .loop .inv .linked) (omega arith))
 
@@ -152,6 +146,6 @@ index-spec =
     slice-write-first-2
     loop-less
     loop-again
-    same-length
-    same-length-2
+    (λ c. c .before .loop .inv .heads-long)
+    (λ c. c .before .loop .inv .next-long)
     returns)

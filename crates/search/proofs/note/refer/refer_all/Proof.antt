@@ -136,12 +136,6 @@ loop-again c =
           (⊎-elim (λ w. inl (w .0 .taken, λ stored symbols. w .2 ∙ w .1 .ensures stored symbols)) (λ w. inr (w .0 .left, w .1)) (c .if3 .came));
     }
 
-same-length : tie.Need-same-length Inv-loop μ-loop
-same-length c = c .before .loop .inv .long
-
-same-length-2 : tie.Need-same-length-2 Inv-loop μ-loop
-same-length-2 c = c .before .loop .inv .heads-long
-
 returns-3 : tie.Need-returns-3 Inv-loop μ-loop
 returns-3 c =
     let within = c .before .before .before in
@@ -171,6 +165,6 @@ refer-all-spec =
     add-k
     loop-less
     loop-again
-    same-length
-    same-length-2
+    (λ c. c .before .loop .inv .long)
+    (λ c. c .before .loop .inv .heads-long)
     returns-3)

@@ -107,21 +107,6 @@ loop-again c =
           (v .ensures .0);
     }
 
-same-length : tie.Need-same-length Inv-loop μ-loop
-same-length c = c .before .loop .inv .told-long
-
-same-length-2 : tie.Need-same-length-2 Inv-loop μ-loop
-same-length-2 c = c .before .loop .inv .placed-long
-
-same-length-3 : tie.Need-same-length-3 Inv-loop μ-loop
-same-length-3 c = c .before .loop .inv .positions-long
-
-same-length-4 : tie.Need-same-length-4 Inv-loop μ-loop
-same-length-4 c = c .before .loop .inv .noted-long
-
-same-length-5 : tie.Need-same-length-5 Inv-loop μ-loop
-same-length-5 c = c .before .loop .inv .goals-long
-
 returns : tie.Need-returns Inv-loop μ-loop
 returns c =
     let entry = at-entry (c .before .before .before .before .before .before) in
@@ -146,9 +131,9 @@ search-all-spec =
     add-i
     loop-less
     loop-again
-    same-length
-    same-length-2
-    same-length-3
-    same-length-4
-    same-length-5
+    (λ c. c .before .loop .inv .told-long)
+    (λ c. c .before .loop .inv .placed-long)
+    (λ c. c .before .loop .inv .positions-long)
+    (λ c. c .before .loop .inv .noted-long)
+    (λ c. c .before .loop .inv .goals-long)
     returns)

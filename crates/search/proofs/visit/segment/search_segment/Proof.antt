@@ -121,21 +121,6 @@ loop-holds c =
 next-place-requires : tie.Need-next-place-requires Inv-loop μ-loop
 next-place-requires c κs = record { nexts = at-entry (after-shared-slice-known5 (c .before .before)) .pre .0 .nexts; sound = c .loop .inv .sound }
 
-same-length : tie.Need-same-length Inv-loop μ-loop
-same-length c = at-loop c .loop .inv .told-long
-
-same-length-2 : tie.Need-same-length-2 Inv-loop μ-loop
-same-length-2 c = at-loop c .loop .inv .placed-long
-
-same-length-3 : tie.Need-same-length-3 Inv-loop μ-loop
-same-length-3 c = at-loop c .loop .inv .positions-long
-
-same-length-4 : tie.Need-same-length-4 Inv-loop μ-loop
-same-length-4 c = at-loop c .loop .inv .noted-long
-
-same-length-5 : tie.Need-same-length-5 Inv-loop μ-loop
-same-length-5 c = at-loop c .loop .inv .goals-long
-
 -- the check to a depth above 1, and that the table tells the truth after it
 fails-deep-requires : tie.Need-fails-deep-requires Inv-loop μ-loop
 fails-deep-requires c κs =
@@ -251,11 +236,11 @@ search-segment-spec =
     next-place-requires
     (λ c. search needs)
     (λ c. search needs)
-    same-length
-    same-length-2
-    same-length-3
-    same-length-4
-    same-length-5
+    (λ c. at-loop c .loop .inv .told-long)
+    (λ c. at-loop c .loop .inv .placed-long)
+    (λ c. at-loop c .loop .inv .positions-long)
+    (λ c. at-loop c .loop .inv .noted-long)
+    (λ c. at-loop c .loop .inv .goals-long)
     returns-2
     fails-deep-requires
     (λ c κs. search needs)

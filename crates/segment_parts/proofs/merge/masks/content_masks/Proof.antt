@@ -60,9 +60,6 @@ loop-again c =
       whole = rw e (masks-turn (l .masks) (yields (c .before .before .before .before)) ∙ l .inv .whole);
     }
 
-same-length : tie.Need-same-length Inv-loop μ-loop
-same-length c = c .before .before .before .loop .inv .long ∙ ap length (c .before .before .before .before .before .before .set-all .ensures) ∙ length-replicate _ 0xff
-
 returns : tie.Need-returns Inv-loop μ-loop
 returns c =
     let l = c .before .before .before .loop in
@@ -84,5 +81,5 @@ content-masks-spec =
     loop-less
     loop-again
     (λ c. search needs)
-    same-length
+    (λ c. c .before .before .before .loop .inv .long ∙ ap length (c .before .before .before .before .before .before .set-all .ensures) ∙ length-replicate _ 0xff)
     returns)

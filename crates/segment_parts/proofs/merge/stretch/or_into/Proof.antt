@@ -24,9 +24,6 @@ abbrev μ-loop : tie.MeasureT-loop
 loop-holds : tie.Need-loop-holds Inv-loop μ-loop
 loop-holds c = record { within = omega arith; long = refl; in-place = sym (or-none _) }
 
-same-length : tie.Need-same-length Inv-loop μ-loop
-same-length c = c .before .before .loop .inv .long
-
 returns : tie.Need-returns Inv-loop μ-loop
 returns c =
     let l = c .before .before .loop in
@@ -43,9 +40,6 @@ loop-again c =
       in-place = rw (l .inv .in-place) (or-turn (a .old .now) (a .new .now) (l .i) (omega arith) (omega arith));
     }
 
-same-length-2 : tie.Need-same-length-2 Inv-loop μ-loop
-same-length-2 c = c .before .loop .inv .long
-
 returns-2 : tie.Need-returns-2 Inv-loop μ-loop
 returns-2 c =
     let l = c .before .loop in
@@ -59,7 +53,7 @@ or-into-spec =
     Inv-loop
     μ-loop
     loop-holds
-    same-length
+    (λ c. c .before .before .loop .inv .long)
     returns
     (λ c. omega arith)
     (λ c. omega arith)
@@ -67,5 +61,5 @@ or-into-spec =
     (λ c. omega arith)
     (λ c. omega arith)
     loop-again
-    same-length-2
+    (λ c. c .before .loop .inv .long)
     returns-2)

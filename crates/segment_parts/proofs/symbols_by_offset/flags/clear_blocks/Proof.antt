@@ -32,9 +32,6 @@ loop-again c =
       clear = λ k. rw (c .before .before .put-flag .ensures) (clear-on (c .before .before .before .before .before .before .before .before .args .s) (l .flags) (l .b) (l .inv .clear k));
     }
 
-same-length : tie.Need-same-length Inv-loop μ-loop
-same-length c = c .before .before .loop .inv .long
-
 returns : tie.Need-returns Inv-loop μ-loop
 returns c =
     let loop = c .before .before in
@@ -51,5 +48,5 @@ clear-blocks-spec =
     (λ c. search needs)
     (λ c. search needs)
     loop-again
-    same-length
+    (λ c. c .before .before .loop .inv .long)
     returns)

@@ -52,9 +52,6 @@ loop-again c =
           k w (l .inv .grows .long) (flag-block .flag-block .ensures));
     }
 
-same-length : tie.Need-same-length Inv-loop μ-loop
-same-length c = c .before .loop .inv .grows .long
-
 returns : tie.Need-returns Inv-loop μ-loop
 returns c =
     let l = c .before .loop in
@@ -73,5 +70,5 @@ flag-along-spec =
     (λ c κs. search needs)
     loop-less
     loop-again
-    same-length
+    (λ c. c .before .loop .inv .grows .long)
     returns)

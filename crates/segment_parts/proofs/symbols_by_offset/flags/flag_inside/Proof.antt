@@ -43,9 +43,6 @@ loop-again c =
       covers = λ keys k w z. covers-on keys (a .first .now) (nextOf (a .publics .now)) (a .at) (l .i) (a .flags .now) k w (l .inv .grows .long) z along (l .inv .covers keys k w z);
     }
 
-same-length : tie.Need-same-length Inv-loop μ-loop
-same-length c = c .before .loop .inv .grows .long
-
 returns : tie.Need-returns Inv-loop μ-loop
 returns c =
     let l = c .before .loop in
@@ -64,5 +61,5 @@ flag-inside-spec =
     (λ c. search needs)
     loop-less
     loop-again
-    same-length
+    (λ c. c .before .loop .inv .grows .long)
     returns)

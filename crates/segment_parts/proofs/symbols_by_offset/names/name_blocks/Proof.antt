@@ -48,9 +48,6 @@ loop-holds c =
           (left-all (a .library .now) (keysOf (a .publics .now)) (a .n) (placesOf (a .publics .now)) p t (a .at) (a .len) (a .own) (a .s) (a .flags .now) k (a .m .now) (a .before));
     }
 
-same-length : tie.Need-same-length Inv-loop μ-loop
-same-length c = c .before .before .before .loop .inv .long
-
 returns : tie.Need-returns Inv-loop μ-loop
 returns c =
     let a = at-entry (c .before .before .before .before) .args in
@@ -91,9 +88,6 @@ loop-again-2 c =
           (omega arith) (name-place .name-place .ensures) (l .inv .left p t k);
     }
 
-same-length-2 : tie.Need-same-length-2 Inv-loop μ-loop
-same-length-2 c = c .before .loop .inv .long
-
 returns-2 : tie.Need-returns-2 Inv-loop μ-loop
 returns-2 c =
     let a = at-entry (c .before .before) .args in
@@ -112,7 +106,7 @@ name-blocks-spec =
     μ-loop
     (λ c. search needs)
     loop-holds
-    same-length
+    (λ c. c .before .before .before .loop .inv .long)
     returns
     (λ c κs. search needs)
     (λ c. search needs)
@@ -123,5 +117,5 @@ name-blocks-spec =
     (λ c. search needs)
     loop-less-2
     loop-again-2
-    same-length-2
+    (λ c. c .before .loop .inv .long)
     returns-2)

@@ -27,12 +27,6 @@ name-blocks-requires c κs =
     let b = c .before .before .before .before .flag-inside .ensures .grows .bounds (none-flagged (entry .args .flags .now) (entry .pre .1 .1)) in
     (b .low-small, b .high-small)
 
-same-length : tie.Need-same-length
-same-length c = c .before .before .clear-blocks .ensures .long ∙ after-flag-inside c .flag-inside .ensures .grows .long
-
-same-length-2 : tie.Need-same-length-2
-same-length-2 c = after-name-blocks c .name-blocks .ensures .long
-
 returns : tie.Need-returns
 returns c =
     let clear-blocks = c .before .before in
@@ -55,6 +49,6 @@ name-inside-spec =
     flag-inside-requires
     name-blocks-requires
     (λ c κs. search needs)
-    same-length
-    same-length-2
+    (λ c. c .before .before .clear-blocks .ensures .long ∙ after-flag-inside c .flag-inside .ensures .grows .long)
+    (λ c. after-name-blocks c .name-blocks .ensures .long)
     returns)
