@@ -10,7 +10,8 @@
 #include <stdint.h>
 
 /* Shows the instructions of `image` from the address `start` on, one after another, through the first return (RET or RETI) or 256 of them. Jumps are shown and
-   not followed. `withheld` has a start and a length for each stretch of the image whose bytes have no influence, 16 stretches at most.
+   not followed. `withheld` has a start and a length for each stretch of the image whose bytes have no influence: more than
+   32 numbers are refused with 16, an odd number of them with 4.
 
    `rows` gets three numbers an instruction: its address; 1 for a call, 2 for a jump, else 0; and the address that the call or jump leads to, else 0. JMP @A+DPTR
    names no address and has 0, 0. Behind the rows come zeros. 768 numbers are always enough.

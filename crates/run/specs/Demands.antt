@@ -62,7 +62,7 @@ module _ (image library : List ℕ) (s : Settings) (lent : Lent) where
     pub answered-exactly : (numberOf (o .answer) ≡ 0) ↔ NothingRefused image library s lent
     answered-exactly = rw c (done-exactly image library s lent)
 
-    -- MEMORY AND COUNTS: rows and then zeros on 0, and the counts are the rows; nothing written on 1 to 8, zeros on 9 to 13, no counts on either
+    -- MEMORY AND COUNTS: rows and then zeros on 0, and the counts are the rows; zeros on 9 to 13, nothing written on any other refusal, no counts on either
     pub memory : Sound image library s lent o
     memory = rw c (sound image library s lent)
 
