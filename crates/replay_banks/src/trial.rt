@@ -12,18 +12,27 @@ use recorded::header::settings_of;
 use run::Answer;
 use run::Settings;
 
-// The number of banks, and the digest of how many lines each has. A refusal has no bank, and no digest is recorded.
+// 0 if two digests are the same.
+fn apart(a: u64, b: u64) -> u64 {
+    if a == b {
+        return 0;
+    }
+    1
+}
+
+// The number of banks, and the digest of how many lines each has. With a refusal 0 is recorded for both: there is no bank, and all 16 numbers are 0.
 fn last_of(came: BankAnswer) -> Last {
     let answer = came.answer;
     let lines = came.lines;
+    let digest = of_numbers(&lines);
     match answer {
         Answer::Done(_) => Last {
             size: came.banks,
-            digest: of_numbers(&lines),
+            digest,
         },
         Answer::Refused(_) => Last {
             size: came.banks,
-            digest: 0,
+            digest: apart(digest, of_numbers(&[0u64; 16])),
         },
     }
 }
