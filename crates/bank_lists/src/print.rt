@@ -1,5 +1,5 @@
 // The lists of all banks on standard output: for each bank a line with its number, from 0 on, and its list behind that; an empty line between two banks.
-use banks::BankAnswer;
+use bank_rules::BankAnswer;
 use command::message::say_unwritten;
 use command::output::write_lines;
 use libc::STDOUT_FILENO;

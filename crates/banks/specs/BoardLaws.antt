@@ -19,10 +19,10 @@ use Rattle.run.specs.Run.{Lent, segmentsOf, countsWith, counted, filledWith}
 use Rattle.run.specs.Answers.{SameLengths}
 use Rattle.libfind.specs.Ends.{collectable, findingBy, Filled}
 use Rattle.libfind.specs.FindingLaws.{nine-finding, none-finding}
-use Rattle.banks.specs.Banks.{shown, linesTo, eachTo, lastTo, givenTo, neededTo}
-use Rattle.banks.specs.CutLaws.{Has}
+use Rattle.bank_rules.specs.Banks.{shown, linesTo, eachTo, lastTo, givenTo, neededTo}
+use Rattle.bank_rules.specs.CutLaws.{Has}
 use Rattle.banks.specs.Turns.{withLines, FindsView, withoutRows, joinedCounts, noBanks, boardBy}
-use Rattle.banks.specs.OverLaws.{over-grows, lines-next}
+use Rattle.bank_rules.specs.OverLaws.{over-grows, lines-next}
 use Rattle.banks.specs.TurnLaws.{place, Listed, leftTo, none-listed, turn-done, Stopped, turn-refused}
 
 pub each-length : (cells library : List ℕ) (s : Settings) (k : ℕ) → length (eachTo cells library s k) ≡ k

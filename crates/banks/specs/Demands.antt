@@ -27,11 +27,11 @@ use Rattle.run.specs.Run.{Lent, Outcome, libraryRead, stages, counted, refusals
 use Rattle.run.specs.Answers.{SameLengths, SoundBy, sound-by, filled-lengths, kept-by}
 use Rattle.run.specs.ListedRows.{grades, row-is-line}
 use Rattle.run.specs.Demands.{Contract as SingleContract, memory as single-memory, answered-exactly as single-answered}
-use Rattle.banks.specs.Banks.{bankCells, banksIn, notBanked, shown, linesTo, eachTo, givenTo, neededTo, BankOutcome, withBanks, banksSeen, findBanks}
-use Rattle.banks.specs.declared.BankAnswer.{BankAnswer}
-use Rattle.banks.specs.Cut.{cutSettings}
-use Rattle.banks.specs.CutLaws.{Has, cut-cover, bank-view}
-use Rattle.banks.specs.OverLaws.{lines-grow, given-needed, lines-next}
+use Rattle.bank_rules.specs.Banks.{bankCells, banksIn, notBanked, shown, linesTo, eachTo, givenTo, neededTo, BankOutcome, withBanks, banksSeen, findBanks}
+use Rattle.bank_rules.specs.declared.BankAnswer.{BankAnswer}
+use Rattle.bank_rules.specs.Cut.{cutSettings}
+use Rattle.bank_rules.specs.CutLaws.{Has, cut-cover, bank-view}
+use Rattle.bank_rules.specs.OverLaws.{lines-grow, given-needed, lines-next}
 use Rattle.banks.specs.EntryLaws.{has-banks, answer-is, single-is}
 use Rattle.banks.specs.Exactly.{Banked, is-banked, GivenBoard, NoneGiven, given-exactly, done-exactly}
 use Rattle.banks.specs.BoardLaws.{each-length}

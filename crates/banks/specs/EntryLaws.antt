@@ -38,7 +38,7 @@ use Rattle.libfind.specs.Begin.{settingsRefusal, Begun}
 use Rattle.libfind.specs.Ends.{collectable, findingBy, Filled}
 use Rattle.libfind.specs.EndLaws as end
 use Rattle.libfind.specs.FindingLaws.{finding-late}
-use Rattle.banks.specs.Banks.{isBanked, banksIn, notBanked, linesTo, eachTo, mostTo, givenTo, neededTo, BankOutcome, withBanks, banksSeen, findBanks}
+use Rattle.bank_rules.specs.Banks.{isBanked, banksIn, notBanked, linesTo, eachTo, mostTo, givenTo, neededTo, BankOutcome, withBanks, banksSeen, findBanks}
 use Rattle.banks.specs.Turns.{noBanks, boardBy}
 
 -- 18 writes nothing

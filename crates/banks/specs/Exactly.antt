@@ -21,7 +21,7 @@ use Rattle.run.specs.Run.{Lent, runBy, numberOf, cover}
 use Rattle.run.specs.Given.{Shape, GivenBy, NothingRefusedBy}
 use Rattle.run.specs.StageLaws.{when-some, when-none, not-over, Worded}
 use Rattle.run.specs.Refused.{given-by, done-by}
-use Rattle.banks.specs.Banks.{isBanked, banksIn, notBanked, givenTo, neededTo, findBanks}
+use Rattle.bank_rules.specs.Banks.{isBanked, banksIn, notBanked, givenTo, neededTo, findBanks}
 use Rattle.banks.specs.EntryLaws.{has-banks, single-is}
 
 -- 32 KiB of common code and 1 to 16 banks of 32 KiB, in words

@@ -13,9 +13,9 @@ use Rattle.run.specs.declared.Settings.{Settings}
 use Rattle.run.specs.declared.Answer.{Answer}
 use Rattle.run.specs.Run.{Lent, Outcome, askedOf, cover}
 use Rattle.libfind.specs.Ends.{givenLists, concluded, FindsCollected}
-use Rattle.banks.specs.Banks.{bankCells}
-use Rattle.banks.specs.Cut.{cutOne, cutSettings}
-use Rattle.banks.specs.CutLaws.{Has, cells-length, cut-cover, bank-view}
+use Rattle.bank_rules.specs.Banks.{bankCells}
+use Rattle.bank_rules.specs.Cut.{cutOne, cutSettings}
+use Rattle.bank_rules.specs.CutLaws.{Has, cells-length, cut-cover, bank-view}
 use Rattle.banks.specs.Turns.{withLines, FindsView}
 
 module _ (file library : List ℕ) (s : Settings) (c : Stored) (k at : ℕ) (has : Has k file) (before after : Lent) (within : at ≤ length (before .lines)) where

@@ -1,11 +1,7 @@
--- Boards with switched banks: what a run on one is, and what is proved of it.
-pub mod Banks
-pub mod Cut
-pub mod CutLaws
+-- Boards with switched banks: what the code comes to, and what is proved of a run on one.
 pub mod ShowLaws
 pub mod Turns
 pub mod FoundLaws
-pub mod OverLaws
 pub mod TurnLaws
 pub mod BoardLaws
 pub mod EntryLaws

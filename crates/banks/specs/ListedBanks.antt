@@ -13,8 +13,8 @@ use Rattle.listing_rules.specs.declared.Line.{Line}
 use Rattle.run.specs.declared.Settings.{Settings}
 use Rattle.run.specs.Run.{askedOf, stages}
 use Rattle.run.specs.ListedRows.{grades}
-use Rattle.banks.specs.Banks.{bankCells, shown, linesTo, eachTo}
-use Rattle.banks.specs.OverLaws.{lines-grow}
+use Rattle.bank_rules.specs.Banks.{bankCells, shown, linesTo, eachTo}
+use Rattle.bank_rules.specs.OverLaws.{lines-grow}
 use Rattle.banks.specs.BoardLaws.{each-length}
 
 module _ (cells library : List ℕ) (s : Settings) where

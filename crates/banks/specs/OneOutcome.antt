@@ -3,7 +3,7 @@ use Prim.Native.Nat.{ℕ}
 use mathlib.Core.Path.{_≡_}
 use Rattle.lent.specs.OneOutcome.{Determines, by-equation}
 use Rattle.libfind.specs.Begin.{checked}
-use Rattle.banks.specs.Banks.{banksIn, notBanked}
+use Rattle.bank_rules.specs.Banks.{banksIn, notBanked}
 
 pub board-one : (size : ℕ) → Determines (λ r. r ≡ checked (notBanked size))
 board-one size = by-equation (checked (notBanked size))

@@ -6,8 +6,8 @@ use native.Mathlib.Omega.{arith}
 use borrow.Rule.Slice.PartMut.{putMid}
 use lib.ListN.{length, take, drop, length-append, length-drop, length-take, drop-of-length-le}
 use lib.Seq.{take-length, take-at, drop-drop, length-take-le}
-use Rattle.banks.specs.Banks.{bankStart, bankCells}
-use Rattle.banks.specs.CutLaws.{Has, common-length, bank-length}
+use Rattle.bank_rules.specs.Banks.{bankStart, bankCells}
+use Rattle.bank_rules.specs.CutLaws.{Has, common-length, bank-length}
 
 -- a copy over the whole of a list, or over its front
 all-over : (src dst : List ℕ) → length dst ≤ length src → take (length src) src ++ drop (length src) dst ≡ src

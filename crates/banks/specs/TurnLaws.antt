@@ -30,10 +30,10 @@ use Rattle.run.specs.Answers.{SameLengths}
 use Rattle.libfind.specs.Ends.{collectable, findable, concluded, findingBy, Filled}
 use Rattle.libfind.specs.FindingLaws.{finding-nine, finding-none, finding-late}
 use Rattle.libfind.specs.FoundLaws.{found-then}
-use Rattle.banks.specs.Banks.{bankCells, shown, linesTo, lastTo, mostTo, givenTo, neededTo}
-use Rattle.banks.specs.CutLaws.{Has, cells-length}
+use Rattle.bank_rules.specs.Banks.{bankCells, shown, linesTo, lastTo, mostTo, givenTo, neededTo}
+use Rattle.bank_rules.specs.CutLaws.{Has, cells-length}
 use Rattle.banks.specs.Turns.{withLines, FindsView}
-use Rattle.banks.specs.OverLaws.{search-next, next-search, lines-next}
+use Rattle.bank_rules.specs.OverLaws.{search-next, next-search, lines-next}
 
 -- lines in numbers
 numbers-length : (lines : List Line) → length (lineNumbers lines) ≡ length lines * lineWidth

@@ -11,8 +11,8 @@ use Rattle.run.specs.declared.Counts.{Counts}
 use Rattle.run.specs.declared.Answer.{Answer}
 use Rattle.run.specs.Run.{Lent, lentLists, Outcome, askedOf, outcomeOf}
 use Rattle.libfind.specs.Ends.{givenLists, concluded, findingBy}
-use Rattle.banks.specs.declared.BankAnswer.{BankAnswer}
-use Rattle.banks.specs.Banks.{bankCells, eachTo, givenTo, neededTo, BankOutcome, withBanks}
+use Rattle.bank_rules.specs.declared.BankAnswer.{BankAnswer}
+use Rattle.bank_rules.specs.Banks.{bankCells, eachTo, givenTo, neededTo, BankOutcome, withBanks}
 
 -- the same lists, of which the lines are others
 abbrev pub withLines : Lent → List ℕ → Lent

@@ -1,7 +1,7 @@
 // The file of a board: whether it is one, and how many banks it has.
 ghost use mathlib.Core.Path.{_≡_};
 ghost use Rattle.libfind.specs.Begin.{checked};
-ghost use Rattle.banks.specs.Banks.{isBanked, banksIn, notBanked};
+ghost use Rattle.bank_rules.specs.Banks.{isBanked, banksIn, notBanked};
 use lent::refusal::Refusal;
 use libfind::begin::Checked;
 

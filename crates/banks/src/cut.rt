@@ -1,7 +1,7 @@
 // What is withheld of a board's file, as it is withheld in a bank's view.
 ghost use mathlib.Core.Path.{_≡_};
 ghost use Prim.Native.Nat.{_<_, _+_, min};
-ghost use Rattle.banks.specs.Cut.{place, cutNumbers, cutSettings};
+ghost use Rattle.bank_rules.specs.Cut.{place, cutNumbers, cutSettings};
 use crate::board::BANK;
 use image::cover::Stretches;
 use run::Settings;

@@ -2,9 +2,9 @@
 // searched and listed.
 ghost use mathlib.Core.Path.{_≡_};
 ghost use Rattle.run.specs.Run.{lentLists};
-ghost use Rattle.banks.specs.Banks.{findBanks};
+ghost use Rattle.bank_rules.specs.Banks.{findBanks};
 ghost use Rattle.banks.specs.EntryLaws.{BegunBoard};
-use crate::BankAnswer;
+use bank_rules::BankAnswer;
 use crate::board::banks_in;
 use crate::board::board;
 use crate::views::find_views;

@@ -5,7 +5,7 @@ ghost use lib.ListN.{length};
 ghost use Rattle.image.specs.View.{view};
 ghost use Rattle.run.specs.Run.{lentLists, cover};
 ghost use Rattle.banks.specs.Turns.{FindsView};
-ghost use Rattle.banks.specs.CutLaws.{Has};
+ghost use Rattle.bank_rules.specs.CutLaws.{Has};
 use crate::cut::cut;
 use crate::view::show_bank;
 use crate::view::view_room;

@@ -2,8 +2,8 @@
 ghost use mathlib.Core.Path.{_≡_};
 ghost use lib.ListN.{length};
 ghost use Rattle.tables.specs.zeros.Zeros.{zeroList};
-ghost use Rattle.banks.specs.Banks.{bankCells};
-ghost use Rattle.banks.specs.CutLaws.{Has};
+ghost use Rattle.bank_rules.specs.Banks.{bankCells};
+ghost use Rattle.bank_rules.specs.CutLaws.{Has};
 use crate::board::BANK;
 
 // Room for a view.

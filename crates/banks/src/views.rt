@@ -7,7 +7,7 @@ ghost use Rattle.run.specs.Run.{lentLists, cover};
 ghost use Rattle.collect.specs.stored.Segments.{lists};
 ghost use Rattle.libfind.specs.Ends.{Filled};
 ghost use Rattle.banks.specs.Turns.{withoutRows, joinedCounts, noBanks, boardBy};
-use crate::BankAnswer;
+use bank_rules::BankAnswer;
 use crate::one_view::find_view;
 use collect::stored::CollectCounts;
 use lent::rows::clear;

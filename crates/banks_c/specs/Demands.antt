@@ -13,7 +13,7 @@ use Rattle.run.specs.declared.Settings.{Settings}
 use Rattle.run.specs.Run.{Lent, numberOf, cover}
 use Rattle.run.specs.Answers.{SameLengths}
 use Rattle.libfind_c.specs.Exported.{countsIn}
-use Rattle.banks.specs.Banks.{BankOutcome, findBanks}
+use Rattle.bank_rules.specs.Banks.{BankOutcome, findBanks}
 use Rattle.banks.specs.Exactly.{GivenBoard, NoneGiven}
 use Rattle.banks.specs.Demands.{refused-exactly as board-refused, answered-exactly as board-answered, same-lengths as board-lengths, sixteen as board-sixteen, stretch-alone as board-alone}
 use Rattle.banks_c.specs.Exported.{HandedBanks, handed, handedBanks}

@@ -6,7 +6,7 @@ use Rattle.lent.specs.Rows.{putRow}
 use Rattle.run.specs.declared.Settings.{Settings}
 use Rattle.run.specs.Run.{Lent, numberOf}
 use Rattle.libfind_c.specs.Exported.{countsIn}
-use Rattle.banks.specs.Banks.{BankOutcome, findBanks}
+use Rattle.bank_rules.specs.Banks.{BankOutcome, findBanks}
 
 -- what the caller gets: the number, the counts, the lines of each bank, and the lent lists
 pub record HandedBanks : Type 0 where

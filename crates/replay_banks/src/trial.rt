@@ -1,5 +1,5 @@
 // A run on a board with lent memory that is full of something else before.
-use banks::BankAnswer;
+use bank_rules::BankAnswer;
 use banks::entry::find_banks;
 use recorded::answer::Last;
 use recorded::answer::digests_of;

@@ -2,7 +2,7 @@
 use Prim.Native.Nat.{_+_, _-_, _<_}
 use native.Mathlib.Omega.{arith}
 use lib.ListN.{length, getD, length-set}
-use Rattle.banks.specs.CutLaws.{place-grows, Cutting, cutting-starts, cutting-on, cutting-ends}
+use Rattle.bank_rules.specs.CutLaws.{place-grows, Cutting, cutting-starts, cutting-on, cutting-ends}
 use Rattle.banks.proofs.cut.cut_numbers.Statement.{statement}
 use Rattle.banks.proofs.cut.cut_numbers.Tie as tie
 

@@ -4,7 +4,7 @@ use lib.ListN.{length}
 use Rattle.run.specs.Run.{Lent, lentLists}
 use Rattle.libfind.specs.Begin.{beginning}
 use Rattle.libfind.specs.BeginLaws.{own-is, begun, never-begun}
-use Rattle.banks.specs.Banks.{notBanked}
+use Rattle.bank_rules.specs.Banks.{notBanked}
 use Rattle.banks.specs.EntryLaws.{refused-early}
 use borrow.Author.Needs.{needs}
 use Rattle.banks.proofs.entry.find_banks.Statement.{statement}

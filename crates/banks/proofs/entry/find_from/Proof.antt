@@ -12,7 +12,7 @@ use Rattle.collect.specs.Outcome.{CollectOutcome, collection}
 use Rattle.run.specs.Run.{Lent, lentLists, cover}
 use Rattle.run.specs.Answers.{SameLengths}
 use Rattle.libfind.specs.Ends.{collectable, Filled}
-use Rattle.banks.specs.Banks.{banksIn}
+use Rattle.bank_rules.specs.Banks.{banksIn}
 use Rattle.banks.specs.Turns.{boardBy}
 use Rattle.banks.specs.EntryLaws.{begun-banks, refilled, same-board, refused-collecting, collected-filled, banks-then}
 use borrow.Author.Needs.{needs}

@@ -9,7 +9,7 @@ use Rattle.image.specs.ViewLaws.{view-length}
 use Rattle.run.specs.declared.Answer.{Answer}
 use Rattle.run.specs.Run.{Lent, lentLists, cover}
 use Rattle.run.specs.Answers.{SameLengths}
-use Rattle.banks.specs.CutLaws.{Has}
+use Rattle.bank_rules.specs.CutLaws.{Has}
 use Rattle.banks.specs.Turns.{withLines, FindsView, joinedCounts, noBanks}
 use Rattle.banks.specs.BoardLaws.{Shown, shown-starts, shown-room, shown-on, shown-stops, shown-ends}
 use borrow.Author.Needs.{needs}

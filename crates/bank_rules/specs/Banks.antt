@@ -17,7 +17,7 @@ use Rattle.run.specs.declared.Counts.{Counts}
 use Rattle.run.specs.declared.Answer.{Answer}
 use Rattle.run.specs.declared.Answer.the-variants.{Done, Refused}
 use Rattle.run.specs.Run.{Lent, Yield, Outcome, segmentsOf, stages, countsWith, runBy, cover}
-use Rattle.banks.specs.declared.BankAnswer.{BankAnswer}
+use Rattle.bank_rules.specs.declared.BankAnswer.{BankAnswer}
 
 -- a file has 32 KiB of common code and 1 to 16 banks of 32 KiB, and nothing else
 abbrev pub isBanked : ℕ → Bool

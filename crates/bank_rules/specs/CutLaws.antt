@@ -14,10 +14,10 @@ use Rattle.lent.specs.Lists.{any}
 use Rattle.image.specs.declared.Stretch.{Stretch}
 use Rattle.image.specs.View.{inOne, within, stretchesIn, seen, view, cellAt}
 use Rattle.image.specs.ViewLaws.{view-length, view-cell}
-use Rattle.banks.specs.Banks.{bankStart, bankCells}
+use Rattle.bank_rules.specs.Banks.{bankStart, bankCells}
 use Rattle.image.specs.declared.cover.Stretches.{Stretches}
 use Rattle.image.specs.Cover.{coverOf}
-use Rattle.banks.specs.Cut.{place, cutOne, cutNumbers, cutStretches}
+use Rattle.bank_rules.specs.Cut.{place, cutOne, cutNumbers, cutStretches}
 
 -- a place in the view stands for one of the file: of the common part, or of the bank
 pub record Stands (k x i : ℕ) : Type 0 where

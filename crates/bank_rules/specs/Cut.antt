@@ -5,7 +5,7 @@ use Rattle.image.specs.declared.Stretch.{Stretch}
 use Rattle.image.specs.declared.cover.Stretches.{Stretches}
 use Rattle.run.specs.declared.Settings.{Settings}
 use Rattle.run.specs.Withheld.{withholding}
-use Rattle.banks.specs.Banks.{bankStart}
+use Rattle.bank_rules.specs.Banks.{bankStart}
 
 -- how many bytes of the first x of the file bank k's view shows: those of the common part, and those of the bank
 abbrev pub place : ℕ → ℕ → ℕ

@@ -12,7 +12,7 @@ use Rattle.listing_rules.specs.Listing.{lineWidth}
 use Rattle.run.specs.declared.Settings.{Settings}
 use Rattle.run.specs.Run.{Lent, Yield, counted, stages}
 use Rattle.run.specs.Given.{Over, SearchOver, ListOver}
-use Rattle.banks.specs.Banks.{shown, linesTo, lastTo, mostTo, givenTo, neededTo}
+use Rattle.bank_rules.specs.Banks.{shown, linesTo, lastTo, mostTo, givenTo, neededTo}
 
 -- the greater of two counts does not fit exactly if one of them does not
 over-one : (width n a b : ℕ) → n < max a b * width → (n < a * width) ⊎ (n < b * width)
