@@ -3,11 +3,9 @@ ghost use mathlib.Core.Path.{_≡_};
 ghost use Prim.Native.Nat.{_<_, _+_, min};
 ghost use Rattle.bank_rules.specs.Cut.{place, cutNumbers, cutSettings};
 use crate::board::BANK;
+use crate::board::LONGEST_BOARD;
 use image::cover::Stretches;
 use run::Settings;
-
-// No view shows anything of a file from here on.
-const PAST_ALL: u64 = 557056;
 
 // The smaller of two numbers.
 fn at_most(x: u64, most: u64) -> u64
@@ -39,11 +37,12 @@ fn place_end(k: usize, start: u64, len: u64) -> u64
     requires { ⌜ k < 16 ⌝ }
     ensures { λ r. ⌜ r ≡ place k (start + len) ⌝ }
 {
-    if PAST_ALL <= start {
-        return place(k, PAST_ALL);
+    let most = LONGEST_BOARD as u64;
+    if most <= start {
+        return place(k, most);
     }
-    if PAST_ALL - start <= len {
-        return place(k, PAST_ALL);
+    if most - start <= len {
+        return place(k, most);
     }
     place(k, start + len)
 }

@@ -20,7 +20,7 @@ use run::Settings;
 
 // Lists at which addresses of each bank's view the names of a library stand, for a board's file. Lent are the lists of `find_names`
 // (libfind), of which the lines are for all banks together. The answer, and what is left in the lent lists, are those of
-// `findBanks` (banks/specs/Banks.antt): counts and rows, or the first refusal that applies.
+// `findBanks` (bank_rules/specs/Banks.antt): counts and rows, or the first refusal that applies.
 pub fn find_banks(
     file: &[u8],
     library: &[u8],

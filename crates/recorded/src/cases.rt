@@ -66,7 +66,25 @@ pub fn is_known(fd: i32) -> bool {
     if n == 8 && eight_at(&start, 0) == 0x3_736e_7572 {
         return true;
     }
+    another_version();
+    false
+}
+
+fn another_version() {
     say(b"the file of cases is of another version\n");
+}
+
+// Whether a file starts with this number of four bytes; says so where it does not.
+pub fn begins_with(fd: i32, wanted: u64) -> bool {
+    let mut start = [0u8; 4];
+    if io::read_full(fd, &mut start) < 4 {
+        say(b"the file of cases is empty\n");
+        return false;
+    }
+    if four_at(&start, 0) == wanted {
+        return true;
+    }
+    another_version();
     false
 }
 

@@ -3,6 +3,7 @@
 ghost use Prim.Native.Nat.{_≤_};
 use crate::numbers::eight_at;
 use crate::numbers::four_at;
+use crate::numbers::within;
 use image::cover::Stretches;
 use image::cover::no_stretches;
 use image::cover::one_more;
@@ -144,15 +145,11 @@ fn lent_length(header: &[u8], i: usize) -> usize {
     four_at(header, LENT_AT + i * 4) as usize
 }
 
-// The same, and no more than there is room for: a case that asks for more gets the room, and differs.
+// The same, and no more than there is room for.
 pub fn lent_within(header: &[u8], i: usize, room: usize) -> usize
     ensures { λ r. ⌜ r ≤ room ⌝ }
 {
-    let n = lent_length(header, i);
-    if n < room {
-        return n;
-    }
-    room
+    within(room, lent_length(header, i))
 }
 
 // A number of the recorded answer.

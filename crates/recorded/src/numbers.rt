@@ -1,5 +1,5 @@
 // Numbers out of the file's bytes, low byte first; 0 where they pass the end.
-ghost use Prim.Native.Nat.{_<_};
+ghost use Prim.Native.Nat.{_<_, _≤_};
 
 fn wide(x: u8) -> u64
     ensures { λ r. ⌜ r < 256 ⌝ }
@@ -29,4 +29,14 @@ pub fn four_at(bytes: &[u8], at: usize) -> u64
 pub fn eight_at(bytes: &[u8], at: usize) -> u64 {
     let next = std::num::wrapping_add_usize(at, 4);
     four_at(bytes, at) + four_at(bytes, next) * 4294967296
+}
+
+// A length, and no more than there is room for: a case that asks for more gets the room, and differs.
+pub fn within(room: usize, n: usize) -> usize
+    ensures { λ r. ⌜ r ≤ room ⌝ }
+{
+    if n < room {
+        return n;
+    }
+    room
 }

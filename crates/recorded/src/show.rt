@@ -11,7 +11,7 @@ pub fn say(text: &[u8]) {
     io::write_all(STDOUT_FILENO, text);
 }
 
-fn say_number(text: &[u8], n: u64) {
+pub fn say_number(text: &[u8], n: u64) {
     say(text);
     io::print_decimal(STDOUT_FILENO, n);
 }
@@ -50,11 +50,17 @@ fn refusals(tally: &[u64]) {
     }
 }
 
-pub fn total(tally: &[u64], passed: u64) {
+// How many of the cases that passed agree, and what these come to; `agree` has the words between the two.
+pub fn outcomes(tally: &[u64], passed: u64, agree: &[u8]) {
     say_number(b"", agreed(tally));
     say_number(b" of ", passed);
-    say_number(b" recorded runs agree: done ", at(tally, 0));
+    say_number(agree, at(tally, 0));
     refusals(tally);
+}
+
+// The same of whole runs.
+pub fn total(tally: &[u64], passed: u64) {
+    outcomes(tally, passed, b" recorded runs agree: done ");
     say_number(b"; ", own(tally));
     say_number(b" are the Rust's own; lines ", lines(tally));
     say(b"\n");

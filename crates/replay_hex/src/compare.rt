@@ -1,21 +1,20 @@
 // Case by case: whether the answers agree.
-ghost use Prim.Native.Nat.{_≤_};
 use crate::trial;
 use crate::trial::Came;
 use crate::trial::ROOM;
 use lent::names::name;
 use lent::part::Part;
+use recorded::cases::LIMIT;
+use recorded::cases::begins_with;
 use recorded::numbers::four_at;
+use recorded::numbers::within;
 use recorded::show::cut_short;
+use recorded::show::outcomes;
 use recorded::show::say;
-use recorded::tally::agreed;
-use recorded::tally::at;
+use recorded::show::say_number;
 use recorded::tally::count;
 use recorded::tally::count_differing;
 use recorded::tally::own;
-
-// Nothing says that a file ends, so the loop over its cases counts them; no file here has as many.
-const LIMIT: u64 = 100000;
 
 // The head of a case: the job, the number, four bytes each for the lengths of the input and of the buffer, for how many
 // bytes are written, and for the digest of the buffer as it is left.
@@ -51,15 +50,6 @@ fn agrees(head: &[u8], came: Came) -> bool {
     came.left == four_at(head, 14)
 }
 
-fn at_most(most: usize, n: usize) -> usize
-    ensures { λ r. ⌜ r ≤ most ⌝ }
-{
-    if n < most {
-        return n;
-    }
-    most
-}
-
 // Whether an export agrees, and comes back where it wrote something.
 fn export_holds(head: &[u8], image: &[u8], out: &mut [u8]) -> bool {
     let came = trial::export(image, out);
@@ -78,7 +68,7 @@ fn import_holds(head: &[u8], text: &[u8], out: &mut [u8]) -> bool {
 // Whether a case agrees, with a buffer of the length that it says.
 fn holds(head: &[u8], input: &[u8]) -> bool {
     let mut room = trial::room();
-    let n = at_most(ROOM, four_at(head, 6) as usize);
+    let n = within(ROOM, four_at(head, 6) as usize);
     if job_of(head) == EXPORT {
         return export_holds(head, input, &mut room[0..n]);
     }
@@ -135,38 +125,13 @@ fn compare_each(fd: i32, input: &mut [u8], tally: &mut [u64]) -> u64 {
     passed
 }
 
-fn say_number(text: &[u8], n: u64) {
-    say(text);
-    io::print_decimal(libc::STDOUT_FILENO, n);
-}
-
-fn refusals(tally: &[u64]) {
-    let mut i = 1;
-    while i < 32 {
-        if at(tally, i) != 0 {
-            say_number(b", refused with ", i as u64);
-            say_number(b" ", at(tally, i));
-        }
-        i += 1;
-    }
-}
-
 pub fn compare_all(fd: i32, tally: &mut [u64]) {
-    let mut start = [0u8; 4];
-    if io::read_full(fd, &mut start) < 4 {
-        say(b"the file of cases is empty\n");
-        return;
-    }
-    if four_at(&start, 0) != 0x0178_6568 {
-        say(b"the file of cases is of another version\n");
+    if !begins_with(fd, 0x0178_6568) {
         return;
     }
     let mut input = trial::room();
     let passed = compare_each(fd, &mut input, tally);
-    say_number(b"", agreed(tally));
-    say_number(b" of ", passed);
-    say_number(b" recorded cases agree: done ", at(tally, 0));
-    refusals(tally);
+    outcomes(tally, passed, b" recorded cases agree: done ");
     say_number(
         b"; exports, of which each that was done came back: ",
         own(tally),

@@ -1,21 +1,20 @@
 // Case by case: whether the answers agree.
-ghost use Prim.Native.Nat.{_≤_, _<_};
+ghost use Prim.Native.Nat.{_<_};
 use crate::trial;
 use crate::trial::Came;
 use crate::trial::ROOM;
 use lent::names::name;
 use lent::part::Part;
+use recorded::cases::LIMIT;
+use recorded::cases::begins_with;
 use recorded::numbers::eight_at;
 use recorded::numbers::four_at;
+use recorded::numbers::within;
 use recorded::show::cut_short;
+use recorded::show::outcomes;
 use recorded::show::say;
-use recorded::tally::agreed;
-use recorded::tally::at;
 use recorded::tally::count;
 use recorded::tally::count_differing;
-
-// Nothing says that a file ends, so the loop over its cases counts them; no file here has as many.
-const LIMIT: u64 = 100000;
 
 // The head of a case: the number, why the walk stopped, how many stretches there are, an empty byte; four bytes each for how
 // many zeros the image begins with and how many bytes stand behind them, how many numbers are lent, how many steps are
@@ -29,15 +28,6 @@ fn byte_of(head: &[u8], i: usize) -> u64
     ensures { λ r. ⌜ r < 256 ⌝ }
 {
     four_at(head, i) % 256
-}
-
-fn at_most(most: usize, n: usize) -> usize
-    ensures { λ r. ⌜ r ≤ most ⌝ }
-{
-    if n < most {
-        return n;
-    }
-    most
 }
 
 fn agrees(head: &[u8], came: Came) -> bool {
@@ -56,7 +46,7 @@ fn agrees(head: &[u8], came: Came) -> bool {
 // Whether a case agrees, with as many numbers lent as it says.
 fn holds(head: &[u8], pairs: &[u8], image: &[u8]) -> bool {
     let mut rows = trial::rows();
-    let n = at_most(ROOM, four_at(head, 12) as usize);
+    let n = within(ROOM, four_at(head, 12) as usize);
     let came = trial::walk(
         image,
         pairs,
@@ -101,7 +91,7 @@ fn next_case(fd: i32, head: &mut [u8], pairs: &mut [u8], room: &mut [u8]) -> Nex
     if io::read_full(fd, head) < HEAD {
         return Next::End;
     }
-    let n = at_most(PAIRS, byte_of(head, 2) as usize * 16);
+    let n = within(PAIRS, byte_of(head, 2) as usize * 16);
     if pairs.len() < n {
         return Next::CutShort;
     }
@@ -157,36 +147,11 @@ fn compare_each(fd: i32, tally: &mut [u64]) -> u64 {
     passed
 }
 
-pub fn say_number(text: &[u8], n: u64) {
-    say(text);
-    io::print_decimal(libc::STDOUT_FILENO, n);
-}
-
-fn refusals(tally: &[u64]) {
-    let mut i = 1;
-    while i < 32 {
-        if at(tally, i) != 0 {
-            say_number(b", refused with ", i as u64);
-            say_number(b" ", at(tally, i));
-        }
-        i += 1;
-    }
-}
-
 pub fn compare_all(fd: i32, tally: &mut [u64]) {
-    let mut start = [0u8; 4];
-    if io::read_full(fd, &mut start) < 4 {
-        say(b"the file of cases is empty\n");
-        return;
-    }
-    if four_at(&start, 0) != 0x016b_6c77 {
-        say(b"the file of cases is of another version\n");
+    if !begins_with(fd, 0x016b_6c77) {
         return;
     }
     let passed = compare_each(fd, tally);
-    say_number(b"", agreed(tally));
-    say_number(b" of ", passed);
-    say_number(b" recorded walks agree: done ", at(tally, 0));
-    refusals(tally);
+    outcomes(tally, passed, b" recorded walks agree: done ");
     say(b"\n");
 }

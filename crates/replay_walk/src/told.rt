@@ -1,9 +1,9 @@
 // Instruction by instruction: whether a step shows it as the disassembler does.
 ghost use Prim.Native.Nat.{_<_};
-use crate::compare::say_number;
 use crate::trial;
 use recorded::numbers::four_at;
 use recorded::show::say;
+use recorded::show::say_number;
 use routine::Row;
 use routine::step::Step;
 use routine::step::step_at;
