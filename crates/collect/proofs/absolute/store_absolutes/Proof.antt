@@ -80,28 +80,34 @@ after-store-absolute-from-known-told2 c = after-store-absolute-from-flags2 (c .b
 abbrev Kept : Type 0
 Kept = tie.After-store-absolute Inv-loop μ-loop
 
+-- the lists before it was stored, and behind it
+abbrev held : Kept → CollectLists
+held c =
+    let l = at-in-loop-from-store-absolute c .before .loop in
+    lists (l .segments) (l .references) (l .symbols) (l .bytes) (l .masks)
+
+abbrev left : Kept → CollectLists
+left c =
+    let s = c .store-absolute in
+    lists (s .last .1 .1 .1 .1 .1 .1 .1 .0) (s .last .1 .1 .1 .1 .1 .1 .1 .1 .0) (s .last .1 .1 .1 .1 .1 .1 .1 .1 .1 .0)
+    (s .last .1 .1 .1 .1 .1 .1 .1 .1 .1 .1 .0) (s .last .1 .1 .1 .1 .1 .1 .1 .1 .1 .1 .1 .0)
+
 stored-here : (c : Kept) (rules : Rules) (m : Module) (gs : List Collected) → at-entry c .args .absolutes .own ≡ ownBy rules
     → ByOffset (at-entry c .args .library .now) m (at-entry c .args .absolutes .link) (at-entry c .args .table .now)
     (at-entry c .args .contents .now) (at-entry c .args .publics .now) (at-entry c .args .n) (at-entry c .args .heads .now)
     → (s : Section) → SectionIs (at-entry c .args .library .now) (placesOf (at-entry c .args .contents .now)) (at-in-loop-from-store-absolute c .before .loop .here - 1) s → Stores gs
-    (lists (at-in-loop-from-store-absolute c .before .loop .segments) (at-in-loop-from-store-absolute c .before .loop .references)
-    (at-in-loop-from-store-absolute c .before .loop .symbols) (at-in-loop-from-store-absolute c .before .loop .bytes)
-    (at-in-loop-from-store-absolute c .before .loop .masks)) (at-in-loop-from-store-absolute c .before .loop .c)
+    (held c) (at-in-loop-from-store-absolute c .before .loop .c)
     → After (gs ++ one (absoluteSegment rules (at-entry c .args .library .now) m (at-entry c .args .absolutes .number) s))
-    (lists (c .store-absolute .last .1 .1 .1 .1 .1 .1 .1 .0) (c .store-absolute .last .1 .1 .1 .1 .1 .1 .1 .1 .0)
-    (c .store-absolute .last .1 .1 .1 .1 .1 .1 .1 .1 .1 .0) (c .store-absolute .last .1 .1 .1 .1 .1 .1 .1 .1 .1 .1 .0)
-    (c .store-absolute .last .1 .1 .1 .1 .1 .1 .1 .1 .1 .1 .1 .0)) (c .store-absolute .result)
+    (left c) (c .store-absolute .result)
 stored-here c rules m gs o x s i stores =
     let content = after-content (c .before) in
     let loop = at-in-loop-from-store-absolute c .before in
     let a = at-entry c .args in
     let lib = a .library .now in
     let r = c .store-absolute in
-    let after = lists (r .last .1 .1 .1 .1 .1 .1 .1 .0) (r .last .1 .1 .1 .1 .1 .1 .1 .1 .0) (r .last .1 .1 .1 .1 .1 .1 .1 .1 .1 .0)
-    (r .last .1 .1 .1 .1 .1 .1 .1 .1 .1 .1 .0) (r .last .1 .1 .1 .1 .1 .1 .1 .1 .1 .1 .1 .0) in
     let same = section-met lib (sym (content .before .before .next-content .ensures) ∙ content .content .given .1)
     (ap (λ p. sectionIn lib (nextContent lib p)) (content .before .before .before .place-at .ensures) ∙ i) in
-    subst (λ g. After (gs ++ one g) after (r .result))
+    subst (λ g. After (gs ++ one g) (left c) (r .result))
     (ap (λ own. absoluteOf lib (m .definitions) (a .absolutes .number) own (content .content .given .0 .0) (fixupsLeft lib (content .content .given .0 .1 .0))
     (publicsOf m absoluteId)) o ∙ sym (absolute-by rules lib m (a .absolutes .number) _) ∙ ap (absoluteSegment rules lib m (a .absolutes .number)) same)
     (r .ensures .extends (m .definitions) (publicsOf m absoluteId) (x .tells)
@@ -171,14 +177,11 @@ returns-2 c =
     let lib = a .library .now in
     let l = in-loop .before .loop in
     let s = store-absolute .store-absolute in
-    let now-lists = lists (l .segments) (l .references) (l .symbols) (l .bytes) (l .masks) in
-    let after = lists (s .last .1 .1 .1 .1 .1 .1 .1 .0) (s .last .1 .1 .1 .1 .1 .1 .1 .1 .0) (s .last .1 .1 .1 .1 .1 .1 .1 .1 .1 .0)
-    (s .last .1 .1 .1 .1 .1 .1 .1 .1 .1 .1 .0) (s .last .1 .1 .1 .1 .1 .1 .1 .1 .1 .1 .1 .0) in
     record {
       long = lengths-on (l .inv .long) (s .ensures .long);
       apart-long = s .ensures .apart-long ∙ l .inv .apart-long;
       extends = λ rules m o x gs stores. absolutes-lack (SectionIs lib (placesOf (a .contents .now))) (nextOf (a .contents .now)) rules lib m (a .absolutes .number) gs (l .last)
-          (l .here) now-lists after (l .c) (s .result) (omega (arith, in-loop .loop-test .taken)) (l .inv .storing rules m gs o x stores)
+          (l .here) (held store-absolute) (left store-absolute) (l .c) (s .result) (omega (arith, in-loop .loop-test .taken)) (l .inv .storing rules m gs o x stores)
           (λ section i hs t. stored-here store-absolute rules m hs o x section i t) (c .enum-told2 .given .1);
     }
 
@@ -198,9 +201,6 @@ loop-again c =
     let lib = a .library .now in
     let l = in-loop .before .loop in
     let s = store-absolute .store-absolute in
-    let now-lists = lists (l .segments) (l .references) (l .symbols) (l .bytes) (l .masks) in
-    let after = lists (s .last .1 .1 .1 .1 .1 .1 .1 .0) (s .last .1 .1 .1 .1 .1 .1 .1 .1 .0) (s .last .1 .1 .1 .1 .1 .1 .1 .1 .1 .0)
-    (s .last .1 .1 .1 .1 .1 .1 .1 .1 .1 .1 .0) (s .last .1 .1 .1 .1 .1 .1 .1 .1 .1 .1 .1 .0) in
     record {
       long = lengths-on (l .inv .long) (s .ensures .long);
       apart-long = s .ensures .apart-long ∙ l .inv .apart-long;
@@ -208,7 +208,7 @@ loop-again c =
       clear = s .ensures .clear;
       small = rw (c .next-at .ensures) (omega (arith, next-small (a .contents .now) (l .here - 1)));
       storing = λ rules m gs o x stores. rw (c .next-at .ensures)
-          (absolutes-on (SectionIs lib (placesOf (a .contents .now))) (nextOf (a .contents .now)) rules lib m (a .absolutes .number) gs (l .last) (l .here) now-lists after (l .c)
+          (absolutes-on (SectionIs lib (placesOf (a .contents .now))) (nextOf (a .contents .now)) rules lib m (a .absolutes .number) gs (l .last) (l .here) (held store-absolute) (left store-absolute) (l .c)
           (s .result) (omega (arith, in-loop .loop-test .taken)) (l .inv .storing rules m gs o x stores)
           (λ section i hs t. stored-here store-absolute rules m hs o x section i t) (c .before .before .stored .given .1));
     }

@@ -1,6 +1,7 @@
 -- `store_keeps` goes from definition to definition. Assumes nothing.
 use Prim.Native.Nat.{ℕ, _-_, _<_}
 use mathlib.Core.Path.{_≡_, refl, sym, ap, subst, _∙_}
+use mathlib.Core.Bool.{true}
 use mathlib.Core.List.{List, _∷_}
 use native.Mathlib.Omega.{arith}
 use lib.ListN.{length}
@@ -12,7 +13,7 @@ use Rattle.library.specs.Gathered.{itemsAt}
 use Rattle.library.specs.declared.items.Cursor.{Cursor}
 use Rattle.library.specs.items.Left.{definitionsLeft}
 use Rattle.library.specs.items.Yields.{definitionsAfter, next-definition-yields, definitions-start}
-use Rattle.segments.specs.Ids.{kept}
+use Rattle.segments.specs.Ids.{isKept, kept}
 use Rattle.segments.specs.Collect.{Collected, keptSegment}
 use Rattle.module_index.specs.Indexed.{Indexed}
 use Rattle.collect.specs.declared.stored.CollectCounts.{CollectCounts}
@@ -77,6 +78,18 @@ yields c = let lib = at-entry (at-loop-from-known-told c) .args .library .now in
 abbrev Kept : Type 0
 Kept = tie.After-store-kept Inv-loop μ-loop
 
+-- the lists before it was stored, and behind it
+abbrev held : Kept → CollectLists
+held c =
+    let l = at-loop-from-store-kept c .loop in
+    lists (l .segments) (l .references) (l .symbols) (l .bytes) (l .masks)
+
+abbrev left : Kept → CollectLists
+left c =
+    let s = c .store-kept in
+    lists (s .last .1 .1 .1 .1 .1 .1 .1 .0) (s .last .1 .1 .1 .1 .1 .1 .1 .1 .0) (s .last .1 .1 .1 .1 .1 .1 .1 .1 .1 .0)
+    (s .last .1 .1 .1 .1 .1 .1 .1 .1 .1 .1 .0) (s .last .1 .1 .1 .1 .1 .1 .1 .1 .1 .1 .1 .0)
+
 extended : (c : Kept) (m : Module) → Indexed (at-entry (at-loop-from-store-kept c) .args .library .now) m
     (at-entry (at-loop-from-store-kept c) .args .table .now) (at-entry (at-loop-from-store-kept c) .args .first .now)
     (at-entry (at-loop-from-store-kept c) .args .contents .now) (at-entry (at-loop-from-store-kept c) .args .heads .now) (at-entry (at-loop-from-store-kept c) .args .publics .now)
@@ -84,10 +97,7 @@ extended : (c : Kept) (m : Module) → Indexed (at-entry (at-loop-from-store-kep
     → Extends (one (keptSegment (at-entry (at-loop-from-store-kept c) .args .library .now) m
     (at-entry (at-loop-from-store-kept c) .args .before .segments)
     (at-loop-from-store-kept c .loop .c .segments - at-entry (at-loop-from-store-kept c) .args .before .segments, after-is-kept c .before .before .definition .given .0 .0)))
-    (lists (at-loop-from-store-kept c .loop .segments) (at-loop-from-store-kept c .loop .references) (at-loop-from-store-kept c .loop .symbols)
-    (at-loop-from-store-kept c .loop .bytes) (at-loop-from-store-kept c .loop .masks)) (at-loop-from-store-kept c .loop .c)
-    (lists (c .store-kept .last .1 .1 .1 .1 .1 .1 .1 .0) (c .store-kept .last .1 .1 .1 .1 .1 .1 .1 .1 .0)
-    (c .store-kept .last .1 .1 .1 .1 .1 .1 .1 .1 .1 .0) (c .store-kept .last .1 .1 .1 .1 .1 .1 .1 .1 .1 .1 .0) (c .store-kept .last .1 .1 .1 .1 .1 .1 .1 .1 .1 .1 .1 .0)) (c .store-kept .result)
+    (held c) (at-loop-from-store-kept c .loop .c) (left c) (c .store-kept .result)
 extended c m x h =
     let a = at-entry (at-loop-from-store-kept c) .args in
     let d = after-is-kept c .before .before .definition .given .0 .0 in
@@ -118,45 +128,21 @@ store-kept-requires c κs =
     let l = loop .loop in
     (entry .pre .0, omega (arith, l .inv .apart-long, entry .pre .1))
 
-same-length : tie.Need-same-length Inv-loop μ-loop
-same-length c = let s = after-store-kept-from-enum-told c .store-kept .ensures in s .long .segments ∙ at-loop-from-store-kept (after-store-kept-from-enum-told c) .loop .inv .long .segments
-
-same-length-2 : tie.Need-same-length-2 Inv-loop μ-loop
-same-length-2 c = let s = after-store-kept-from-enum-told c .store-kept .ensures in s .long .references ∙ at-loop-from-store-kept (after-store-kept-from-enum-told c) .loop .inv .long .references
-
-same-length-3 : tie.Need-same-length-3 Inv-loop μ-loop
-same-length-3 c = let s = after-store-kept-from-enum-told c .store-kept .ensures in s .long .symbols ∙ at-loop-from-store-kept (after-store-kept-from-enum-told c) .loop .inv .long .symbols
-
-same-length-4 : tie.Need-same-length-4 Inv-loop μ-loop
-same-length-4 c = let s = after-store-kept-from-enum-told c .store-kept .ensures in s .long .bytes ∙ at-loop-from-store-kept (after-store-kept-from-enum-told c) .loop .inv .long .bytes
-
-same-length-5 : tie.Need-same-length-5 Inv-loop μ-loop
-same-length-5 c = let s = after-store-kept-from-enum-told c .store-kept .ensures in s .long .masks ∙ at-loop-from-store-kept (after-store-kept-from-enum-told c) .loop .inv .long .masks
-
-same-length-6 : tie.Need-same-length-6 Inv-loop μ-loop
-same-length-6 c = let s = after-store-kept-from-enum-told c .store-kept .ensures in s .apart-long ∙ at-loop-from-store-kept (after-store-kept-from-enum-told c) .loop .inv .apart-long
+-- the definition is a kept segment's
+kept-here : (c : Kept) → isKept (after-is-kept c .before .before .definition .given .0 .0) ≡ true
+kept-here c = sym (after-is-kept c .is-kept .ensures) ∙ after-since (c .before) .before .if1 .taken
 
 returns : tie.Need-returns Inv-loop μ-loop
 returns c =
-    let store-kept = after-store-kept-from-enum-told c in
-    let is-kept = after-is-kept store-kept in
-    let loop = at-loop-from-store-kept store-kept in
-    let entry = at-entry loop in
-    let number = entry .args .before .segments in
-    let a = entry .args in
-    let lib = a .library .now in
-    let l = loop .loop in
-    let s = store-kept .store-kept in
-    let now-lists = lists (l .segments) (l .references) (l .symbols) (l .bytes) (l .masks) in
-    let after = lists (s .last .1 .1 .1 .1 .1 .1 .1 .0) (s .last .1 .1 .1 .1 .1 .1 .1 .1 .0) (s .last .1 .1 .1 .1 .1 .1 .1 .1 .1 .0)
-    (s .last .1 .1 .1 .1 .1 .1 .1 .1 .1 .1 .0) (s .last .1 .1 .1 .1 .1 .1 .1 .1 .1 .1 .1 .0) in
+    let k = after-store-kept-from-enum-told c in
+    let a = at-entry (at-loop-from-store-kept k) .args in
+    let l = at-loop-from-store-kept k .loop in
     record {
-      long = lengths-on (l .inv .long) (s .ensures .long);
-      apart-long = s .ensures .apart-long ∙ l .inv .apart-long;
+      long = lengths-on (l .inv .long) (k .store-kept .ensures .long);
+      apart-long = k .store-kept .ensures .apart-long ∙ l .inv .apart-long;
       extends = λ m e x gs stores.
-          keeps-lack lib m number gs now-lists after (l .c) (s .result) (yields (is-kept .before))
-          (sym (is-kept .is-kept .ensures) ∙ after-since (store-kept .before) .before .if1 .taken) (stored-count stores)
-          (l .inv .progress m gs e x stores) (extended store-kept m x) (c .enum-told .given .1);
+          keeps-lack (a .library .now) m (a .before .segments) gs (held k) (left k) (l .c) (k .store-kept .result) (yields (after-is-kept k .before)) (kept-here k)
+          (stored-count stores) (l .inv .progress m gs e x stores) (extended k m x) (c .enum-told .given .1);
     }
 
 loop-less : tie.Need-loop-less Inv-loop μ-loop
@@ -164,25 +150,15 @@ loop-less c = rw (yields (after-is-kept (after-store-kept-from-slice-known12 (c 
 
 loop-again : tie.Need-loop-again Inv-loop μ-loop
 loop-again c =
-    let store-kept = after-store-kept-from-slice-known12 (c .before .before .before) in
-    let is-kept = after-is-kept store-kept in
-    let loop = at-loop-from-store-kept store-kept in
-    let entry = at-entry loop in
-    let number = entry .args .before .segments in
-    let a = entry .args in
-    let lib = a .library .now in
-    let l = loop .loop in
-    let s = store-kept .store-kept in
-    let now-lists = lists (l .segments) (l .references) (l .symbols) (l .bytes) (l .masks) in
-    let after = lists (s .last .1 .1 .1 .1 .1 .1 .1 .0) (s .last .1 .1 .1 .1 .1 .1 .1 .1 .0) (s .last .1 .1 .1 .1 .1 .1 .1 .1 .1 .0)
-    (s .last .1 .1 .1 .1 .1 .1 .1 .1 .1 .1 .0) (s .last .1 .1 .1 .1 .1 .1 .1 .1 .1 .1 .1 .0) in
+    let k = after-store-kept-from-slice-known12 (c .before .before .before) in
+    let a = at-entry (at-loop-from-store-kept k) .args in
+    let l = at-loop-from-store-kept k .loop in
     record {
-      long = lengths-on (l .inv .long) (s .ensures .long);
-      apart-long = s .ensures .apart-long ∙ l .inv .apart-long;
+      long = lengths-on (l .inv .long) (k .store-kept .ensures .long);
+      apart-long = k .store-kept .ensures .apart-long ∙ l .inv .apart-long;
       progress = λ m gs e x stores.
-          keeps-on lib m number gs now-lists after (l .c) (s .result) (yields (is-kept .before))
-          (sym (is-kept .is-kept .ensures) ∙ after-since (store-kept .before) .before .if1 .taken) (stored-count stores)
-          (l .inv .progress m gs e x stores) (extended store-kept m x) (c .before .stored .given .1);
+          keeps-on (a .library .now) m (a .before .segments) gs (held k) (left k) (l .c) (k .store-kept .result) (yields (after-is-kept k .before)) (kept-here k)
+          (stored-count stores) (l .inv .progress m gs e x stores) (extended k m x) (c .before .stored .given .1);
     }
 
 loop-less-2 : tie.Need-loop-less-2 Inv-loop μ-loop
@@ -233,12 +209,12 @@ store-keeps-spec =
     store-kept-requires
     (λ c. search needs)
     (λ c. search needs)
-    same-length
-    same-length-2
-    same-length-3
-    same-length-4
-    same-length-5
-    same-length-6
+    (λ c. let k = after-store-kept-from-enum-told c in k .store-kept .ensures .long .segments ∙ at-loop-from-store-kept k .loop .inv .long .segments)
+    (λ c. let k = after-store-kept-from-enum-told c in k .store-kept .ensures .long .references ∙ at-loop-from-store-kept k .loop .inv .long .references)
+    (λ c. let k = after-store-kept-from-enum-told c in k .store-kept .ensures .long .symbols ∙ at-loop-from-store-kept k .loop .inv .long .symbols)
+    (λ c. let k = after-store-kept-from-enum-told c in k .store-kept .ensures .long .bytes ∙ at-loop-from-store-kept k .loop .inv .long .bytes)
+    (λ c. let k = after-store-kept-from-enum-told c in k .store-kept .ensures .long .masks ∙ at-loop-from-store-kept k .loop .inv .long .masks)
+    (λ c. let k = after-store-kept-from-enum-told c in k .store-kept .ensures .apart-long ∙ at-loop-from-store-kept k .loop .inv .apart-long)
     returns
     loop-less
     loop-again

@@ -97,6 +97,21 @@ Told = tie.After-known-told Inv-loop μ-loop
 stands : (c : Told) → placesAt (now (at-entry (c .before .before .before .before) .args .library)) (c .before .before .before .before .loop .at) ≡ placesRead (Whole (c .before .module .given .0 .0))
 stands c = sym (c .before .before .before .module-at .ensures) ∙ ap placesRead (c .before .module .given .1)
 
+-- once a module is stored: the lists before, and behind
+abbrev Stored : Type 0
+Stored = tie.After-slice-known22 Inv-loop μ-loop
+
+abbrev held : Stored → CollectLists
+held c =
+    let l = at-loop-from-slice-known22 c .loop in
+    lists (l .segments) (l .references) (l .symbols) (l .bytes) (l .masks)
+
+abbrev left : Stored → CollectLists
+left c =
+    let s = after-contents c .before .before .before .store-module in
+    lists (s .last .1 .1 .1 .1 .1 .1 .1 .1 .0) (s .last .1 .1 .1 .1 .1 .1 .1 .1 .1 .0) (s .last .1 .1 .1 .1 .1 .1 .1 .1 .1 .1 .0)
+    (s .last .1 .1 .1 .1 .1 .1 .1 .1 .1 .1 .1 .0) (s .last .1 .1 .1 .1 .1 .1 .1 .1 .1 .1 .1 .1 .0)
+
 loop-holds : tie.Need-loop-holds Inv-loop μ-loop
 loop-holds c =
     let entry = c .before .before .before .before .before .before .before .before .before .before .before .before .before .before in
@@ -152,14 +167,11 @@ returns-2 c =
     let i = l .inv .1 in
     let s = after-contents (c .before .before) .before .before .before .store-module in
     let o = loop .before .before .is-own .ensures in
-    let now-lists = lists (l .segments) (l .references) (l .symbols) (l .bytes) (l .masks) in
-    let after = lists (s .last .1 .1 .1 .1 .1 .1 .1 .1 .0) (s .last .1 .1 .1 .1 .1 .1 .1 .1 .1 .0) (s .last .1 .1 .1 .1 .1 .1 .1 .1 .1 .1 .0)
-    (s .last .1 .1 .1 .1 .1 .1 .1 .1 .1 .1 .1 .0) (s .last .1 .1 .1 .1 .1 .1 .1 .1 .1 .1 .1 .1 .0) in
     let p = known-told .before .module .given .0 .0 in
     record {
       tells = s .ensures .tells;
       long = lengths-on (i .long) (s .ensures .long);
-      stored = collecting-lacks (a .rules) lib (itemsAt lib (moduleAt lib) (a .from)) now-lists after (l .c) (s .result) (moduleOf One lib p)
+      stored = collecting-lacks (a .rules) lib (itemsAt lib (moduleAt lib) (a .from)) (held (c .before .before)) (left (c .before .before)) (l .c) (s .result) (moduleOf One lib p)
           (modules-step One lib (l .at) (stands known-told)) (i .collecting (a .rules) o) (s .ensures .extends (a .rules) o) (c .enum-told .given .1);
     }
 
@@ -181,13 +193,10 @@ loop-again c =
     let l = loop .loop in
     let i = l .inv .1 in
     let s = contents .before .before .before .store-module in
-    let now-lists = lists (l .segments) (l .references) (l .symbols) (l .bytes) (l .masks) in
-    let after = lists (s .last .1 .1 .1 .1 .1 .1 .1 .1 .0) (s .last .1 .1 .1 .1 .1 .1 .1 .1 .1 .0) (s .last .1 .1 .1 .1 .1 .1 .1 .1 .1 .1 .0)
-    (s .last .1 .1 .1 .1 .1 .1 .1 .1 .1 .1 .1 .0) (s .last .1 .1 .1 .1 .1 .1 .1 .1 .1 .1 .1 .1 .0) in
     let p = known-told .before .module .given .0 .0 in
     let on : (rules : Rules) → is-own .is-own .result ≡ ownBy rules → Collecting rules lib (itemsAt lib (moduleAt lib) (a .from))
-    (itemsAt lib (moduleAt lib) (p .next)) after (c .before .stored .given .0 .0) = λ rules o. collecting-on rules lib
-    (itemsAt lib (moduleAt lib) (a .from)) now-lists after (l .c) (s .result) (moduleOf One lib p) (modules-step One lib (l .at) (stands known-told))
+    (itemsAt lib (moduleAt lib) (p .next)) (left slice-known22) (c .before .stored .given .0 .0) = λ rules o. collecting-on rules lib
+    (itemsAt lib (moduleAt lib) (a .from)) (held slice-known22) (left slice-known22) (l .c) (s .result) (moduleOf One lib p) (modules-step One lib (l .at) (stands known-told))
     (i .collecting rules o) (s .ensures .extends rules o) (c .before .stored .given .1) in (
       record {
         table-long = contents .before .before .table .given ∙ l .inv .0 .table-long;
