@@ -1,5 +1,7 @@
 // Lists where a library's routines and tables stand on a board with switched banks, bank by bank: the command line, which is that of a list, is taken apart, both
 // files read, the run made, and the lists printed.
+#![tactic(auto)]
+
 mod find;
 mod memory;
 mod print;

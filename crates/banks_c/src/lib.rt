@@ -1,5 +1,7 @@
 // The exported function for boards with switched banks, of a static library of its own. callers/banks.h says for C callers what
 // each parameter is; the lists are printed by the functions of libfind_c.
+#![tactic(auto)]
+
 ghost use Rattle.std.specs.Prelude.{◌≡◌};
 ghost use Rattle.run.specs.Run.{lent_lists};
 ghost use Rattle.libfind_c.specs.Exported.{settings_of};

@@ -1,4 +1,6 @@
 // The collection: the segments of all modules are put into lent memory.
+#![tactic(auto)]
+
 pub mod absolute;
 pub mod all_modules;
 pub mod conclude;

@@ -1,5 +1,7 @@
 // What the programs share: the words of the command line and the settings that they ask for, files, memory, what is said where there is no list, and the
 // list on standard output.
+#![tactic(auto)]
+
 pub mod arguments;
 pub mod file;
 pub mod library_room;

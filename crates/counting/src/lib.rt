@@ -1,5 +1,7 @@
 // The functions of which bench/ counts the instructions: a library is read and gone over once, or read only; its
 // segments are collected; an image is searched for them; the names that were found are listed, and the list is printed.
+#![tactic(auto)]
+
 mod items;
 mod passes;
 

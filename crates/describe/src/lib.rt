@@ -1,4 +1,6 @@
 // Descriptions of names: what the words in the name of a compiler's helper say, and the code that finds it.
+#![tactic(auto)]
+
 pub mod entry;
 pub mod vocabulary;
 pub mod words;

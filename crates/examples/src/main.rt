@@ -1,5 +1,7 @@
 // Document 01's P1 to P14 and jumps of the MCS-51 manual, run on the functions that they are about. The same values are proved of the definition
 // (crates/run/specs/Examples.antt).
+#![tactic(auto)]
+
 mod failed;
 mod show;
 

@@ -1,5 +1,7 @@
 // Intel HEX: text into an image, and an image into text. Both are measured before a byte is written, so that the lent
 // buffer stays as it was on every refusal.
+#![tactic(auto)]
+
 ghost use Rattle.std.specs.Prelude.{◌≡◌};
 ghost use Rattle.hex.specs.Outcome.{hex_number};
 

@@ -1,5 +1,7 @@
 // The exported functions for Intel HEX, of a static library of their own. callers/hex.h says for C callers what each
 // parameter is.
+#![tactic(auto)]
+
 ghost use Rattle.std.specs.Prelude.{◌≡◌, set};
 ghost use Rattle.hex.specs.Outcome.{stored};
 ghost use Rattle.hex.specs.Import.{imported};

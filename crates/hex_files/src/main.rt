@@ -1,5 +1,7 @@
 // `hex IMAGE` writes the HEX text of an image to standard output, and `unhex TEXT` the image of a HEX text. The script
 // sillmarble, in the repository's root, names the job and sees that one file is named.
+#![tactic(auto)]
+
 mod convert;
 mod words;
 

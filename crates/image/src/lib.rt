@@ -1,6 +1,8 @@
 // Where a masked pattern matches an image of which stretches are withheld. The code never builds a view: it reads plain
 // bytes, and where a pattern stands it compares its window, the bytes under it, with the stretches. They are lent as
 // pairs of numbers, a start and a length each.
+#![tactic(auto)]
+
 ghost use Rattle.std.specs.Prelude.{◌≡◌, ◌+◌, ◌<◌, ◌≤◌, min, length};
 ghost use Rattle.image.specs.View.{stretches_in, view};
 ghost use Rattle.image.specs.Match.{matches_at, part_agrees, Reaches, Agreeing};

@@ -1,4 +1,6 @@
 // What all stages share: parts of the library, refusals, and rows of numbers in lent memory.
+#![tactic(auto)]
+
 pub mod names;
 pub mod part;
 pub mod refusal;

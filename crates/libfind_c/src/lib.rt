@@ -1,4 +1,6 @@
 // The exported functions of a static library. callers/libfind.h says for C callers what each parameter is.
+#![tactic(auto)]
+
 ghost use Rattle.std.specs.Prelude.{◌≡◌};
 ghost use Rattle.describe.specs.Described.{described};
 ghost use Rattle.listing_rules.specs.LineLayout.{line_at};

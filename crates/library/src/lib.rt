@@ -1,4 +1,6 @@
 // Where the modules of a library stand, and going over a module's definitions, contents and fixups.
+#![tactic(auto)]
+
 pub mod file;
 pub mod items;
 pub mod module;

@@ -1,4 +1,6 @@
 // Lists where a library's routines and tables stand in an image: the command line is taken apart, both files read, the run made, and its list printed.
+#![tactic(auto)]
+
 mod find;
 mod memory;
 

@@ -1,4 +1,6 @@
 // The list of the names that a search placed and noted: those at positions of the image, and then those past its end.
+#![tactic(auto)]
+
 pub mod all_rows;
 mod bare;
 pub mod entry;

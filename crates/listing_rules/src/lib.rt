@@ -1,4 +1,6 @@
 // The rules of the list: graded names by address.
+#![tactic(auto)]
+
 ghost use Rattle.std.specs.Prelude.{◌≡◌};
 ghost use Rattle.listing_rules.specs.Listing.{crowded};
 

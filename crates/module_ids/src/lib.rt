@@ -1,4 +1,6 @@
 // What the ids of a module lead to: a table with a row for each of the 65,536 ids, filled for a module and cleared after it.
+#![tactic(auto)]
+
 use lent::part::Part;
 
 pub mod fault;

@@ -1,4 +1,6 @@
 // The tables of a module, in which its contents and its public definitions are linked by id.
+#![tactic(auto)]
+
 ghost use Rattle.omf51.specs.Module.{definitions_at, sections_at};
 ghost use Rattle.library.specs.Gathered.{items_at};
 ghost use Rattle.module_index.specs.gather.Places.{SectionIs, section_key, PublicIs};

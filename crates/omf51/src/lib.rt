@@ -1,4 +1,6 @@
 // OMF-51 library files: records, and the definitions, contents and fixups that they hold.
+#![tactic(auto)]
+
 ghost use Rattle.std.specs.Prelude.{◌≡◌};
 ghost use Rattle.omf51.specs.Entry.{segment_size};
 

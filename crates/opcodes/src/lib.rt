@@ -1,5 +1,7 @@
 // The instructions of an 8051 part by their opcodes: how long each is, and where those that name an address lead. Both are
 // constant tables of all 256 opcodes, sixteen in a line; the rules by which they are filled are in specs/.
+#![tactic(auto)]
+
 ghost use Rattle.std.specs.Prelude.{◌≡◌};
 ghost use Rattle.opcodes.specs.Lengths.{length_of, length_table, is_return};
 ghost use Rattle.opcodes.specs.Leads.{leads_of, lead_number, lead_table};

@@ -1,5 +1,7 @@
 // The list in its printed form, in a lent buffer. The text is measured before it is written, so that a buffer that is
 // too small stays as it was.
+#![tactic(auto)]
+
 ghost use Rattle.std.specs.Prelude.{◌≡◌, ◌≤◌, leb, length};
 ghost use Rattle.describe.specs.Described.{Put};
 ghost use Rattle.listing_rules.specs.Print.{heading, printed_line, printed};

@@ -1,4 +1,6 @@
 // What is recorded of whole runs: the cases in their file, what a run came to as numbers and digests, whether that agrees, and the tally of runs that agree.
+#![tactic(auto)]
+
 pub mod answer;
 pub mod cases;
 pub mod compare;

@@ -1,5 +1,7 @@
 // Runs the whole of libfind on each case of the file that the first argument names, from an image and a library file to the list and its printed form, and
 // holds what came of it against what is recorded (README.md).
+#![tactic(auto)]
+
 mod compare;
 mod trial;
 

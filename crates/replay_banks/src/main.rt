@@ -1,5 +1,7 @@
 // Runs the search of a board with switched banks on each case of the file that the first argument names, and holds what came of it against what is recorded
 // (README.md).
+#![tactic(auto)]
+
 mod compare;
 mod trial;
 

@@ -1,5 +1,7 @@
 // Imports or exports what each case of the file that the first argument names holds, and holds what came of it against
 // what is recorded (README.md). What an export wrote is imported again, and must be the image.
+#![tactic(auto)]
+
 mod compare;
 mod trial;
 

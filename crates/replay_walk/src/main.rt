@@ -1,5 +1,7 @@
 // Walks each case of the file that the first argument names, and holds what came of it against what is recorded; then each
 // instruction of the file that the second argument names against what a disassembler tells of it (README.md).
+#![tactic(auto)]
+
 mod compare;
 mod told;
 mod trial;

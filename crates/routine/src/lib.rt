@@ -1,5 +1,7 @@
 // A routine, instruction by instruction, from an address on: where each instruction starts, and where the calls and jumps
 // lead. The walk is linear: jumps are shown and not followed.
+#![tactic(auto)]
+
 ghost use Rattle.std.specs.Prelude.{◌≡◌};
 ghost use Rattle.routine.specs.Outcome.{walk_number, why_number};
 

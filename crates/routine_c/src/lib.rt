@@ -1,4 +1,6 @@
 // The exported function for walks, of a static library of its own. callers/walk.h says for C callers what each parameter is.
+#![tactic(auto)]
+
 ghost use Rattle.std.specs.Prelude.{◌≡◌};
 ghost use Rattle.image.specs.Cover.{no_stretches, gathered};
 ghost use Rattle.routine.specs.Outcome.{outcome};

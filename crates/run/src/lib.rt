@@ -1,4 +1,6 @@
 // The whole run, from an image and a library to the list: what the caller asks, and what the caller gets.
+#![tactic(auto)]
+
 use image::cover::Stretches;
 use lent::refusal::Refusal;
 use listing_rules::Skip;

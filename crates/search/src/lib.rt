@@ -1,4 +1,6 @@
 // The search of an image for segments that are stored in lent memory.
+#![tactic(auto)]
+
 pub mod byte_index;
 pub mod depth;
 pub mod entry;

@@ -1,4 +1,6 @@
 // The rules of the search: what is asked of it, and the symbols that it places and the names that it notes, as rows.
+#![tactic(auto)]
+
 use image::fixup::Rules;
 use lent::part::Part;
 use segments::SegmentNumber;

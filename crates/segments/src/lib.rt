@@ -1,4 +1,6 @@
 // Segments that the search looks for, as the collection makes them from the modules.
+#![tactic(auto)]
+
 pub mod append;
 pub mod masks;
 pub mod put;

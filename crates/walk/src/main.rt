@@ -1,5 +1,7 @@
 // Walks a routine of an image from an address on: the command line is taken apart, the file read, and what the walk shows
 // printed, an instruction a line.
+#![tactic(auto)]
+
 mod address;
 mod forms;
 mod print;

@@ -1,0 +1,14 @@
+-- `clear` leaves zeros. The invariant: zeros up to i, and from there what was lent. Assumes nothing.
+use Prim.Native.Nat.{◌≤◌, ◌-◌}
+use mathlib.Core.Path.{◌≡◌}
+use mathlib.Core.List.{◌++◌}
+use lib.ListN.{length, drop, replicate}
+use Rattle.lent.proofs.rows.clear.Given as goal
+
+abbrev pub invariant-loop-i : goal.invariant-loop-i
+invariant-loop-i l =
+    (l.i ≤ length l.initial.rows) × (length l.rows ≡ length l.initial.rows) × (l.rows ≡ replicate l.i 0 ++ drop l.i l.initial.rows)
+
+abbrev pub decreases-loop-i : goal.decreases-loop-i
+decreases-loop-i l =
+    length l.initial.rows - l.i
