@@ -6,7 +6,7 @@ use run::Answer;
 
 // What is found on a board: the answer of the run, of which the lines are those of all banks, how many banks there are, and how
 // many lines each has. A refusal has no bank and no line.
-#[derive(Drop)]
+#[derive(Clone, Copy)]
 pub struct BankAnswer {
     pub answer: Answer,
     pub banks: usize,

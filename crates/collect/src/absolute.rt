@@ -15,7 +15,7 @@ use tables::zeros::block_flags;
 
 // The absolute contents of a module: the link to the first of them, whether their symbols keep their own addresses (see
 // `is_own`), and the number of the module's first segment.
-#[derive(Drop)]
+#[derive(Clone, Copy)]
 pub struct Absolutes {
     pub link: u32,
     pub own: bool,

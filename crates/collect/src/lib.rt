@@ -13,7 +13,7 @@ use crate::stored::CollectCounts;
 use lent::refusal::Refusal;
 
 // What the collection comes to: how many rows and pattern bytes were written, or why there are none.
-#[derive(Drop)]
+#[derive(Clone, Copy)]
 pub enum Collection {
     Done(CollectCounts),
     Refused(Refusal),

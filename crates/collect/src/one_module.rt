@@ -6,7 +6,7 @@ use library::Places;
 
 // A module that is to be stored: where its parts stand, and whether the symbols of its absolute contents keep their own
 // addresses (see `is_own`).
-#[derive(Drop)]
+#[derive(Clone, Copy)]
 pub struct ModuleTask {
     pub at: Places,
     pub own: bool,

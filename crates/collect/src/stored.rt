@@ -3,7 +3,7 @@ pub mod row;
 pub mod rules;
 
 // How much is stored so far: rows of segments, references and symbols, and bytes of pattern memory.
-#[derive(Drop)]
+#[derive(Clone, Copy)]
 pub struct CollectCounts {
     pub segments: usize,
     pub references: usize,
@@ -12,7 +12,7 @@ pub struct CollectCounts {
 }
 
 // Whether all that was asked for is stored; if there was no room, nobody looks at what the memory holds, and it is cleared.
-#[derive(Drop)]
+#[derive(Clone, Copy)]
 pub enum Stored {
     Rows(CollectCounts),
     NoRoom,

@@ -10,14 +10,14 @@ use crate::words;
 use image::cover::{Stretches, no_stretches};
 
 // What the next word may be: a file or an option, or only the value of the option before it.
-#[derive(Drop)]
+#[derive(Clone, Copy)]
 pub enum Expected {
     Any,
     Value(Valued),
 }
 
 // What is known of the words so far. A file is told by the number of its word; 0, the program's own name, stands for a file that is not named yet.
-#[derive(Drop)]
+#[derive(Clone, Copy)]
 pub struct Given {
     pub image: usize,
     pub library: usize,
@@ -26,35 +26,35 @@ pub struct Given {
 }
 
 // What one word more leads to.
-#[derive(Drop)]
+#[derive(Clone, Copy)]
 pub enum Step {
     Next(Given),
     Wrong(Mistake),
 }
 
 // The same, and what is withheld by then. It stands beside the step: no case of an enum may hold its numbers.
-#[derive(Drop)]
+#[derive(Clone, Copy)]
 pub struct Reached {
     pub step: Step,
     pub withheld: Stretches,
 }
 
 // What a whole command line asks for: what to do with which two files.
-#[derive(Drop)]
+#[derive(Clone, Copy)]
 pub struct Request {
     pub image: usize,
     pub library: usize,
     pub settings: Plain,
 }
 
-#[derive(Drop)]
+#[derive(Clone, Copy)]
 pub enum Requested {
     Whole(Request),
     Wrong(Mistake),
 }
 
 // All that a command line asks for.
-#[derive(Drop)]
+#[derive(Clone, Copy)]
 pub struct Asked {
     pub requested: Requested,
     pub withheld: Stretches,

@@ -3,7 +3,7 @@ use crate::message::say_unreadable;
 use lent::names::name;
 use lent::part::Part;
 
-#[derive(Drop)]
+#[derive(Clone, Copy)]
 pub enum Loaded {
     Size(usize),
     Unreadable,

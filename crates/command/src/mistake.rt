@@ -1,7 +1,7 @@
 // What is wrong with a command line, and how that is said.
 use crate::message::{about, say, say_number};
 
-#[derive(Drop)]
+#[derive(Clone, Copy)]
 pub enum Fault {
     TooLong,
     Unknown,
@@ -18,7 +18,7 @@ pub enum Fault {
 }
 
 // Which fault, and the number of the word that has it; 0 for a word that is not there.
-#[derive(Drop)]
+#[derive(Clone, Copy)]
 pub struct Mistake {
     pub fault: Fault,
     pub word: usize,

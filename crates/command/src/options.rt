@@ -8,7 +8,7 @@ use crate::values::{Read, number_value, rules_value};
 use lent::names::same;
 
 // The options that have a value, which is the next word.
-#[derive(Drop)]
+#[derive(Clone, Copy)]
 pub enum Valued {
     Rules,
     Edition,
@@ -19,7 +19,7 @@ pub enum Valued {
 }
 
 // What a word is that is no option's value.
-#[derive(Drop)]
+#[derive(Clone, Copy)]
 pub enum Kind {
     NoCheck,
     Valued(Valued),
@@ -28,21 +28,21 @@ pub enum Kind {
 }
 
 // The value of an option that takes a number or the rules' word, if the option is given.
-#[derive(Drop)]
+#[derive(Clone, Copy)]
 pub enum Value {
     Absent,
     Given(Read),
 }
 
 // The values of --withhold, which may be given more than once: all so far are stretches, or the first that is none.
-#[derive(Drop)]
+#[derive(Clone, Copy)]
 pub enum Held {
     Stretches,
     Wrong(Mistake),
 }
 
 // The options so far. `check` is false once --no-check is given; that --depth is not given beside it is asked behind the last word.
-#[derive(Drop)]
+#[derive(Clone, Copy)]
 pub struct Options {
     pub rules: Value,
     pub edition: Value,

@@ -10,7 +10,7 @@ use listing_rules::Skip;
 use run::Settings;
 
 // Settings but for what is withheld.
-#[derive(Drop)]
+#[derive(Clone, Copy)]
 pub struct Plain {
     pub rules: u64,
     pub edition: u64,
@@ -19,7 +19,7 @@ pub struct Plain {
     pub skip: Skip,
 }
 
-#[derive(Drop)]
+#[derive(Clone, Copy)]
 pub enum Wanted {
     Settings(Plain),
     Wrong(Mistake),

@@ -9,7 +9,7 @@ use image::Stretch;
 use image::cover::{Stretches, one_more};
 
 // What the value of --withhold comes to.
-#[derive(Drop)]
+#[derive(Clone, Copy)]
 pub enum Withheld {
     Stretch(Stretch),
     Wrong(Mistake),

@@ -8,7 +8,7 @@ use crate::words::is_too_long;
 use lent::names::same;
 
 // What an option's value, which is word i, comes to.
-#[derive(Drop)]
+#[derive(Clone, Copy)]
 pub enum Read {
     Number(u64),
     Wrong(Mistake),

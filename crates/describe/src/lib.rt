@@ -8,7 +8,7 @@ pub mod words;
 use crate::words::Saying;
 
 // What the words of a name say, in the order in which the description is written; a word that is missing says nothing.
-#[derive(Drop)]
+#[derive(Clone, Copy)]
 pub struct Sentence {
     pub sign: Saying,
     pub kind: Saying,
@@ -18,14 +18,14 @@ pub struct Sentence {
 }
 
 // What the words of a name come to: a sentence, or nothing.
-#[derive(Drop)]
+#[derive(Clone, Copy)]
 pub enum Parsed {
     Whole(Sentence),
     Nothing,
 }
 
 // How many bytes of description were written; or that they do not fit; or that the name has no description.
-#[derive(Drop)]
+#[derive(Clone, Copy)]
 pub enum Described {
     Written(usize),
     NoRoom,
@@ -34,7 +34,7 @@ pub enum Described {
 
 // What a word says that may be missing, and where the name goes on. A missing word says nothing,
 // and the name goes on at the same place.
-#[derive(Drop)]
+#[derive(Clone, Copy)]
 pub struct Piece {
     pub says: Saying,
     pub next: usize,

@@ -1,8 +1,8 @@
 -- What the exported functions hand over: plain numbers instead of an answer.
 use Rattle.std.specs.Prelude.{ℕ, List, set}
-use Rattle.hex.specs.declared.Answer.{Answer}
-use Rattle.hex.specs.declared.Answer.TheVariants.{Done, Refused}
-use Rattle.hex.specs.Outcome.{hex_number}
+use Rattle.intel_hex.specs.declared.Answer.{Answer}
+use Rattle.intel_hex.specs.declared.Answer.TheVariants.{Done, Refused}
+use Rattle.intel_hex.specs.Outcome.{hex_number}
 
 abbrev pub number_of : Answer → ℕ
 number_of (Done n) = 0

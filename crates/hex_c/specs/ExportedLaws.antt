@@ -1,7 +1,7 @@
 -- What is handed over, piece by piece. Assumes nothing.
 use Rattle.std.specs.Prelude.{ℕ, ◌≤◌, ◌≡◌, refl, List, [], ◌∷◌, length, set}
 use Rattle.std.proofs.Common.{ap, arith}
-use Rattle.hex.specs.declared.Answer.{Answer}
+use Rattle.intel_hex.specs.declared.Answer.{Answer}
 use Rattle.hex_c.specs.Exported.{Handed, number_of, size_of, handed}
 
 pub no-counts : (counts : List ℕ) (size : ℕ) → length counts ≤ 0 → counts ≡ set counts 0 size

@@ -1,9 +1,9 @@
 -- The exported functions have one outcome each, by their contracts alone. Assumes nothing.
 use Rattle.std.specs.Prelude.{ℕ, ◌≡◌, List}
 use Rattle.lent.specs.OneOutcome.{Determines, by-equation}
-use Rattle.hex.specs.Outcome.{stored}
-use Rattle.hex.specs.Import.{imported}
-use Rattle.hex.specs.Export.{exported}
+use Rattle.intel_hex.specs.Outcome.{stored}
+use Rattle.intel_hex.specs.Import.{imported}
+use Rattle.intel_hex.specs.Export.{exported}
 use Rattle.hex_c.specs.Exported.{handed}
 
 pub hex-import-one : (text out counts : List ℕ) → Determines (λ h. h ≡ handed (stored (imported text) out) counts)

@@ -3,14 +3,14 @@
 #![tactic(auto)]
 
 ghost use Rattle.std.specs.Prelude.{◌≡◌, set};
-ghost use Rattle.hex.specs.Outcome.{stored};
-ghost use Rattle.hex.specs.Import.{imported};
-ghost use Rattle.hex.specs.Export.{exported};
+ghost use Rattle.intel_hex.specs.Outcome.{stored};
+ghost use Rattle.intel_hex.specs.Import.{imported};
+ghost use Rattle.intel_hex.specs.Export.{exported};
 ghost use Rattle.hex_c.specs.Exported.{number_of, size_of, handed};
 
-use hex::Answer;
-use hex::export::export_image;
-use hex::import::import_text;
+use intel_hex::Answer;
+use intel_hex::export::export_image;
+use intel_hex::import::import_text;
 
 // The number of an answer: 0, or that of the refusal.
 fn number_of(answer: Answer) -> u8
@@ -18,7 +18,7 @@ fn number_of(answer: Answer) -> u8
 {
     match answer {
         Answer::Done(n) => 0,
-        Answer::Refused(r) => hex::number(r),
+        Answer::Refused(r) => intel_hex::number(r),
     }
 }
 

@@ -4,9 +4,9 @@ use crate::words::{say_refused, say_text_too_long};
 use command::file;
 use command::file::{Loaded, bytes_of, load};
 use command::message::say_unwritten;
-use hex::Answer;
-use hex::export::export_image;
-use hex::import::import_text;
+use intel_hex::Answer;
+use intel_hex::export::export_image;
+use intel_hex::import::import_text;
 use libc::STDOUT_FILENO;
 
 // No text is longer: enough for every image in records of one byte, with CR LF.

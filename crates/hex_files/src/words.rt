@@ -1,6 +1,6 @@
 // A refusal in words, with its number: one line on standard error.
 use command::message::{say, say_number};
-use hex::{HexRefusal, number};
+use intel_hex::{HexRefusal, number};
 
 fn result_words(r: HexRefusal) {
     match r {

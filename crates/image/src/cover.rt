@@ -10,7 +10,7 @@ pub const MOST_STRETCHES: usize = 16;
 
 // The stretches of settings: the first `count` pairs of a start and a length. A count above 16 says that there are more
 // than the pairs have room for.
-#[derive(Drop)]
+#[derive(Clone, Copy)]
 pub struct Stretches {
     pub count: usize,
     pub pairs: [u64; 32],

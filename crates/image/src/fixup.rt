@@ -5,14 +5,14 @@ ghost use Rattle.image.specs.fixup.Target.{signed as signed_of, top_bits, addr16
 ghost use Rattle.image.specs.fixup.AddressLaws.{page11};
 
 // The two rule sets: 0, as found, and 1, as documented.
-#[derive(Drop)]
+#[derive(Clone, Copy)]
 pub enum Rules {
     AsFound,
     Documented,
 }
 
 // The three kinds of fixup that leave a reference.
-#[derive(Drop)]
+#[derive(Clone, Copy)]
 pub enum Kind {
     Relative,
     Word,
@@ -21,7 +21,7 @@ pub enum Kind {
 
 // The target of a reference: an address; or none, since its bytes pass the image's end, or, where they do not, since one
 // of them is withheld.
-#[derive(Drop)]
+#[derive(Clone, Copy)]
 pub enum Target {
     At(u64),
     PastEnd,

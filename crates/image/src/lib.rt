@@ -17,21 +17,21 @@ pub mod fixup;
 pub const LONGEST_IMAGE: usize = 65536;
 
 // A stretch of the image that is withheld: `len` bytes from `start` on.
-#[derive(Drop)]
+#[derive(Clone, Copy)]
 pub struct Stretch {
     pub start: usize,
     pub len: usize,
 }
 
 // Where a pattern may stand: that of a kept segment anywhere, that of an absolute content only at its address.
-#[derive(Drop)]
+#[derive(Clone, Copy)]
 pub enum Seat {
     Anywhere,
     Only(usize),
 }
 
 // The first place at which a pattern matches, if there is one.
-#[derive(Drop)]
+#[derive(Clone, Copy)]
 pub enum FirstPlace {
     At(usize),
     Nothing,

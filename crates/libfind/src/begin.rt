@@ -16,14 +16,14 @@ const DEEPEST: u64 = 4;
 
 // Whether something is accepted, or a refusal: of an image for itself, or the first of refusals 1, 30, 17, the image's own, 3,
 // 16 and 4 that applies.
-#[derive(Drop)]
+#[derive(Clone, Copy)]
 pub enum Checked {
     Accepted,
     Refused(Refusal),
 }
 
 // The place where the library's modules start, or the first refusal of the settings, the lengths or the reading that applies.
-#[derive(Drop)]
+#[derive(Clone, Copy)]
 pub enum Beginning {
     At(usize),
     Refused(Refusal),

@@ -7,7 +7,7 @@ pub mod decoded;
 pub mod entries;
 
 // Where a walk over entries stands: at a place in the body of a record, with the place of the next record.
-#[derive(Drop)]
+#[derive(Clone, Copy)]
 pub struct Cursor {
     pub frame: Frame,
     pub at: usize,
@@ -15,14 +15,14 @@ pub struct Cursor {
 }
 
 // The next entry of a walk: the cursor that stands at the entry, and where the entry ends.
-#[derive(Drop)]
+#[derive(Clone, Copy)]
 pub enum Step {
     Entry { here: Cursor, end: usize },
     Done,
 }
 
 // The next definition of a module, and the cursor behind it.
-#[derive(Drop)]
+#[derive(Clone, Copy)]
 pub enum NextDefinition {
     Item {
         definition: Definition,
@@ -32,14 +32,14 @@ pub enum NextDefinition {
 }
 
 // The next fixup of a content, and the cursor behind it.
-#[derive(Drop)]
+#[derive(Clone, Copy)]
 pub enum NextFixup {
     Item { fixup: Fixup, rest: Cursor },
     Done,
 }
 
 // The next content of a module, a cursor before its fixups, and the place after these.
-#[derive(Drop)]
+#[derive(Clone, Copy)]
 pub enum NextContent {
     Item {
         content: Content,

@@ -13,7 +13,7 @@ use lent::refusal::Refusal;
 pub const LONGEST_LIBRARY: usize = 1048576;
 
 // Where the definitions and the contents of a whole module start, and the place after the module.
-#[derive(Drop)]
+#[derive(Clone, Copy)]
 pub struct Places {
     pub definitions: usize,
     pub contents: usize,
@@ -21,7 +21,7 @@ pub struct Places {
 }
 
 // What stands at a place where a module may stand: a whole module, no module, or a refusal.
-#[derive(Drop)]
+#[derive(Clone, Copy)]
 pub enum ModuleAt {
     Whole(Places),
     Stop,
@@ -29,7 +29,7 @@ pub enum ModuleAt {
 }
 
 // Modules in a row: how many there are, and the place after them; or a refusal.
-#[derive(Drop)]
+#[derive(Clone, Copy)]
 pub enum Counted {
     Modules { count: usize, next: usize },
     Refused(Refusal),
@@ -37,7 +37,7 @@ pub enum Counted {
 
 // What reading a file comes to: where its first module stands, and how many modules stand
 // there one after another; or a refusal.
-#[derive(Drop)]
+#[derive(Clone, Copy)]
 pub enum Reading {
     Modules { first: usize, count: usize },
     Refused(Refusal),

@@ -13,7 +13,7 @@ pub mod position;
 use lent::refusal::Refusal;
 
 // How many rows the search wrote, and how many lines the list.
-#[derive(Drop)]
+#[derive(Clone, Copy)]
 pub struct FindCounts {
     pub placed: usize,
     pub noted: usize,
@@ -21,7 +21,7 @@ pub struct FindCounts {
 }
 
 // What search and list come to: how many rows and lines were written, or a refusal.
-#[derive(Drop)]
+#[derive(Clone, Copy)]
 pub enum FindAnswer {
     Done(FindCounts),
     Refused(Refusal),

@@ -5,7 +5,7 @@ pub mod noted;
 pub mod placed;
 
 // How many lines of the position have the best grade so far, and that grade.
-#[derive(Drop)]
+#[derive(Clone, Copy)]
 pub struct Best {
     pub count: usize,
     pub grade: u8,

@@ -9,14 +9,14 @@ pub mod rows;
 use lent::part::Part;
 
 // The skip amount: a position with more names than this is left out of the list.
-#[derive(Drop)]
+#[derive(Clone, Copy)]
 pub enum Skip {
     Never,
     Above(usize),
 }
 
 // A line of the list: an address, the grade of a name there, and the name.
-#[derive(Drop)]
+#[derive(Clone, Copy)]
 pub struct Line {
     pub address: u64,
     pub grade: u8,

@@ -4,7 +4,7 @@ use lent::refusal::Refusal;
 pub mod one;
 
 // Whether what was looked at is refused.
-#[derive(Drop)]
+#[derive(Clone, Copy)]
 pub enum Verdict {
     Passed,
     Refused(Refusal),

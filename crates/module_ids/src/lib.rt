@@ -10,7 +10,7 @@ pub mod scan;
 pub mod table;
 
 // What the first definition of a sort (segment, external) says for an id: there is none, it is not code, or it is code.
-#[derive(Drop)]
+#[derive(Clone, Copy)]
 pub enum Mark {
     Missing,
     Other,
@@ -18,14 +18,14 @@ pub enum Mark {
 }
 
 // The place of the first kept segment of an id among the kept segments of its module, and its size.
-#[derive(Drop)]
+#[derive(Clone, Copy)]
 pub enum KeptAs {
     None,
     Place { place: usize, size: usize },
 }
 
 // What an id leads to: its first segment, its first kept segment, and its first external with its name.
-#[derive(Drop)]
+#[derive(Clone, Copy)]
 pub struct IdRow {
     pub segment: Mark,
     pub kept: KeptAs,

@@ -10,14 +10,14 @@ use omf51::Fixup;
 use segments::{Goal, Reference, SegmentNumber};
 
 // The kind of a fixup, if it is one of the three that leave a reference.
-#[derive(Drop)]
+#[derive(Clone, Copy)]
 pub enum Known {
     Kind(Kind),
     Other,
 }
 
 // The reference that a fixup leaves, or nothing.
-#[derive(Drop)]
+#[derive(Clone, Copy)]
 pub enum Leaves {
     One(Reference),
     Nothing,

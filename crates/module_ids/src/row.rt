@@ -8,7 +8,7 @@ use lent::part::Part;
 use omf51::ModuleId;
 
 // The numbers of a kept segment: which of its module's kept segments it is, counted from 1, and its size.
-#[derive(Drop)]
+#[derive(Clone, Copy)]
 struct KeptPair {
     ordinal: usize,
     size: usize,

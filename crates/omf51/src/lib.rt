@@ -16,11 +16,11 @@ pub mod record;
 pub mod types;
 
 // The id by which a module speaks of one of its segments or externals. An id means nothing outside its module.
-#[derive(Drop)]
+#[derive(Clone, Copy)]
 pub struct ModuleId(pub u16);
 
 // A record: its type (called `kind`, since `type` is a word of the language), and where its body starts and ends.
-#[derive(Drop)]
+#[derive(Clone, Copy)]
 pub struct Frame {
     pub kind: u8,
     pub body: usize,
@@ -28,14 +28,14 @@ pub struct Frame {
 }
 
 // The reading edition: 1 is document 01's; 2 also wants every record to sum to 0, and bodies and the file to be used up.
-#[derive(Drop)]
+#[derive(Clone, Copy)]
 pub enum Edition {
     One,
     Two,
 }
 
 // How a reading ends: read up to a place; stopped, since what should be read does not stand there; or refused.
-#[derive(Drop)]
+#[derive(Clone, Copy)]
 pub enum End {
     At(usize),
     Stop,
@@ -43,7 +43,7 @@ pub enum End {
 }
 
 // The three sorts of entries in definition records.
-#[derive(Drop)]
+#[derive(Clone, Copy)]
 pub enum Definition {
     Segment {
         id: ModuleId,
@@ -65,7 +65,7 @@ pub enum Definition {
 }
 
 // A content: data for the segment of an id, from an offset on. A content of id 0 is absolute, and its offset is its address.
-#[derive(Drop)]
+#[derive(Clone, Copy)]
 pub struct Content {
     pub id: ModuleId,
     pub offset: usize,
@@ -74,7 +74,7 @@ pub struct Content {
 
 // A fixup: a location in the content before it where an address is missing, how it is written (kind), and of what it is
 // the address (block and id), with an offset added.
-#[derive(Drop)]
+#[derive(Clone, Copy)]
 pub struct Fixup {
     pub location: usize,
     pub kind: u8,

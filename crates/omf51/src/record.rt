@@ -3,7 +3,7 @@ use crate::Frame;
 use lent::refusal::Refusal;
 
 // What reading a record comes to: a record; that none stands there; or a refusal.
-#[derive(Drop)]
+#[derive(Clone, Copy)]
 pub enum Framed {
     Read(Frame),
     Stop,

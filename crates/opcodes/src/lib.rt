@@ -44,7 +44,7 @@ const LEADS: [u8; 256] = *b"\x00\x01\x03\x00\x00\x00\x00\x00\x00\x00\x00\x00\x00
 
 // Where an instruction leads: nowhere that its bytes tell; AJMP, ACALL; LJMP, LCALL; or a jump by a signed byte, which
 // stands behind the opcode, or behind one more byte.
-#[derive(Drop)]
+#[derive(Clone, Copy)]
 pub enum Leads {
     Nowhere,
     PageJump,

@@ -13,7 +13,7 @@ mod sizes;
 use listing_rules::{Line, rows};
 
 // How many bytes were written, or that they do not fit.
-#[derive(Drop)]
+#[derive(Clone, Copy)]
 pub enum Printed {
     Written(usize),
     NoRoom,

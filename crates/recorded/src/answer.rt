@@ -30,7 +30,7 @@ pub fn digests_of(
 }
 
 // The last two numbers.
-#[derive(Drop)]
+#[derive(Clone, Copy)]
 pub struct Last {
     pub size: usize,
     pub digest: u64,

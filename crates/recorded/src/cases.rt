@@ -10,13 +10,13 @@ use lent::part::Part;
 use lent::rows::clear_bytes;
 
 // How long image and library are.
-#[derive(Drop)]
+#[derive(Clone, Copy)]
 pub struct Scene {
     pub image: usize,
     pub library: usize,
 }
 
-#[derive(Drop)]
+#[derive(Clone, Copy)]
 pub enum Next {
     Case(Scene),
     End,

@@ -77,7 +77,7 @@ fn compare(head: &[u8], input: &[u8], tally: &mut [u64]) {
 }
 
 // The next case of the file: how long its input is, which then stands at the front of the room.
-#[derive(Drop)]
+#[derive(Clone, Copy)]
 enum Next {
     Case(usize),
     End,

@@ -1,7 +1,7 @@
 // One case: what a function answers and leaves in its buffer, which is full of A5h before.
-use hex::Answer;
-use hex::export::export_image;
-use hex::import::import_text;
+use intel_hex::Answer;
+use intel_hex::export::export_image;
+use intel_hex::import::import_text;
 use lent::names::{name, same};
 use lent::part::Part;
 use recorded::digest::of_bytes;
@@ -9,7 +9,7 @@ use recorded::digest::of_bytes;
 // No case has a longer input or buffer.
 pub const ROOM: usize = 70000;
 
-#[derive(Drop)]
+#[derive(Clone, Copy)]
 pub struct Came {
     pub number: u64,
     pub size: u64,
@@ -28,7 +28,7 @@ fn told(answer: Answer, out: &[u8]) -> Came {
             left: of_bytes(out),
         },
         Answer::Refused(r) => Came {
-            number: hex::number(r) as u64,
+            number: intel_hex::number(r) as u64,
             size: 0,
             left: of_bytes(out),
         },

@@ -60,7 +60,7 @@ fn compare(head: &[u8], pairs: &[u8], image: &[u8], tally: &mut [u64]) {
 }
 
 // The next case of the file: how long its image is, which then stands in the room behind zeros.
-#[derive(Drop)]
+#[derive(Clone, Copy)]
 enum Next {
     Case(usize),
     End,
@@ -101,7 +101,7 @@ fn next_case(fd: i32, head: &mut [u8], pairs: &mut [u8], room: &mut [u8]) -> Nex
     )
 }
 
-#[derive(Drop)]
+#[derive(Clone, Copy)]
 enum Compared {
     One,
     End,

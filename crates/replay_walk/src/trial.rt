@@ -10,7 +10,7 @@ use routine::walk::walk_routine;
 // No case has more numbers lent.
 pub const ROOM: usize = 800;
 
-#[derive(Drop)]
+#[derive(Clone, Copy)]
 pub struct Came {
     pub number: u64,
     pub steps: u64,

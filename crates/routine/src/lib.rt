@@ -9,7 +9,7 @@ pub mod step;
 pub mod walk;
 
 // Why there is no walk; specs/Outcome.antt gives each refusal its number.
-#[derive(Drop)]
+#[derive(Clone, Copy)]
 pub enum WalkRefusal {
     ImageTooLong,
     TooManyStretches,
@@ -20,7 +20,7 @@ pub enum WalkRefusal {
 
 // Why a walk stopped: behind a return; behind 256 instructions; or before an instruction, which is the reserved A5h, or
 // passes the image's end, or touches withheld bytes.
-#[derive(Drop)]
+#[derive(Clone, Copy)]
 pub enum Why {
     Return,
     Limit,
@@ -31,7 +31,7 @@ pub enum Why {
 
 // An instruction that is shown: where it starts, whether it is a call (1), a jump (2) or neither (0), and to which address
 // a call or a jump leads; else 0.
-#[derive(Drop)]
+#[derive(Clone, Copy)]
 pub struct Row {
     pub address: u64,
     pub what: u64,
@@ -39,7 +39,7 @@ pub struct Row {
 }
 
 // How many instructions are shown at the front of the lent rows, and why no more are; or why there are none.
-#[derive(Drop)]
+#[derive(Clone, Copy)]
 pub enum Walked {
     Done { steps: usize, why: Why },
     Refused(WalkRefusal),

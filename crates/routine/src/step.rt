@@ -11,7 +11,7 @@ use image::is_apart;
 use opcodes::{Leads, is_return, leads_of, length_of};
 
 // An instruction that is shown, where the next one starts, and whether it is a return; or why the walk stops before it.
-#[derive(Drop)]
+#[derive(Clone, Copy)]
 pub enum Step {
     Shown { row: Row, next: usize, last: bool },
     Stopped(Why),

@@ -8,7 +8,7 @@ use listing_rules::Skip;
 // What the caller asks: the number of the rule set (0 as found, 1 as documented), the number of the edition in which the
 // library is read (1 as document 01 reads it, 2 with sums and nothing left over), the depth to which references are checked
 // (0 to 4), how many masks other than 0 make a match valid, the skip amount, and the stretches of the image that are withheld.
-#[derive(Drop)]
+#[derive(Clone, Copy)]
 pub struct Settings {
     pub rules: u64,
     pub edition: u64,
@@ -19,7 +19,7 @@ pub struct Settings {
 }
 
 // How many rows each stage wrote, and how many pattern bytes.
-#[derive(Drop)]
+#[derive(Clone, Copy)]
 pub struct Counts {
     pub segments: usize,
     pub references: usize,
@@ -31,7 +31,7 @@ pub struct Counts {
 }
 
 // The answer of a run: its counts, or a refusal. The rows are in lent memory.
-#[derive(Drop)]
+#[derive(Clone, Copy)]
 pub enum Answer {
     Done(Counts),
     Refused(Refusal),

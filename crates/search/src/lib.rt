@@ -17,14 +17,14 @@ pub mod visit;
 use lent::refusal::Refusal;
 
 // How many rows of placed symbols and of noted names were written.
-#[derive(Drop)]
+#[derive(Clone, Copy)]
 pub struct SearchCounts {
     pub placed: usize,
     pub noted: usize,
 }
 
 // What the search comes to: how many rows were written, or a refusal.
-#[derive(Drop)]
+#[derive(Clone, Copy)]
 pub enum Searched {
     Done(SearchCounts),
     Refused(Refusal),

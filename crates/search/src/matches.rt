@@ -9,7 +9,7 @@ use image::{FirstPlace, Seat, match_at, next_match};
 
 // Where the search for a pattern stands: at a link of the anchor's byte, at a place from which on each place is tried,
 // at the one address to try, or past the last match.
-#[derive(Drop)]
+#[derive(Clone, Copy)]
 pub enum MatchCursor {
     Along { anchor: usize, link: u32 },
     Plain(usize),
@@ -18,7 +18,7 @@ pub enum MatchCursor {
 }
 
 // The next match, and where the search goes on.
-#[derive(Drop)]
+#[derive(Clone, Copy)]
 pub enum Next {
     At { at: usize, rest: MatchCursor },
     Done,

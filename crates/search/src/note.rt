@@ -6,7 +6,7 @@ use search_rules::Failed;
 use tables::fill::Fill;
 
 // The first of the references that were gone over that fails, and how far the rows of noted names are filled after them.
-#[derive(Drop)]
+#[derive(Clone, Copy)]
 pub struct Referred {
     pub failed: Failed,
     pub fill: Fill,

@@ -10,7 +10,7 @@ const MOST_SEGMENTS: usize = 8192;
 const DEPTHS: u64 = 4;
 
 // What an answer says to a question: nothing, if it is another one's and does not settle it.
-#[derive(Drop)]
+#[derive(Clone, Copy)]
 pub enum Recalled {
     Nothing,
     Holds,

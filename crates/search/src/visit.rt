@@ -6,7 +6,7 @@ pub mod segment;
 use tables::fill::Fill;
 
 // How far the rows of placed symbols and of noted names are filled.
-#[derive(Drop)]
+#[derive(Clone, Copy)]
 pub struct Fills {
     pub placed: Fill,
     pub noted: Fill,

@@ -7,7 +7,7 @@ use segments::SegmentNumber;
 
 // What is asked of a search: the rule set, the depth to which references are checked (0: they are not), and how many masks
 // other than 0 make a match valid.
-#[derive(Drop)]
+#[derive(Clone, Copy)]
 pub struct Asked {
     pub rules: Rules,
     pub depth: u64,
@@ -16,7 +16,7 @@ pub struct Asked {
 
 // Why a reference of a match fails at a depth: its bytes pass the image's end; one of them is withheld; the segment to which
 // it refers does not match at its target; or it does, and that match does not hold at one depth less.
-#[derive(Drop)]
+#[derive(Clone, Copy)]
 pub enum Why {
     PastEnd,
     Withheld,
@@ -25,7 +25,7 @@ pub enum Why {
 }
 
 // The first reference of a match that fails, by its number among the references of the match, from 0 on; or none does.
-#[derive(Drop)]
+#[derive(Clone, Copy)]
 pub enum Failed {
     Nothing,
     Reference { number: usize, why: Why },
@@ -39,7 +39,7 @@ pub const NOTED_WIDTH: usize = 6;
 
 // A symbol placed at a position, by the match of a segment at `base`. A link is one more than the number of an earlier row, or
 // 0: `link` leads to the newest row with the same position, `alike` to the newest row in the same bucket of position and name.
-#[derive(Drop)]
+#[derive(Clone, Copy)]
 pub struct Placed {
     pub position: usize,
     pub name: Part,
@@ -52,7 +52,7 @@ pub struct Placed {
 
 // A name noted at a target by a reference. `link` leads to the newest earlier row with the same low 16 bits of the
 // target, `alike` to the newest in the same bucket of target and name.
-#[derive(Drop)]
+#[derive(Clone, Copy)]
 pub struct Noted {
     pub target: u64,
     pub name: Part,

@@ -15,7 +15,7 @@ use omf51::Content;
 use tables::links::{next_at, place_at};
 
 // Where a content is merged: the start and size of its segment's pattern, and the offset in it.
-#[derive(Drop)]
+#[derive(Clone, Copy)]
 pub struct Spot {
     pub start: usize,
     pub size: usize,

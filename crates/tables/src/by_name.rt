@@ -26,7 +26,7 @@ const HEADS: usize = 131072;
 pub const NEAR: usize = 2147483648;
 
 // What a search looks at in a row: its key, its name, and its link to an earlier row of its bucket.
-#[derive(Drop)]
+#[derive(Clone, Copy)]
 struct Tag {
     key: u64,
     name: Part,

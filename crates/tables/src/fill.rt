@@ -4,7 +4,7 @@ ghost use Rattle.tables.specs.fill.FilledRows.{one_more};
 
 // How many rows were put, and whether there was no room for a further row. Once `over` is set no row is put any more,
 // and the number of rows means nothing.
-#[derive(Drop)]
+#[derive(Clone, Copy)]
 pub struct Fill {
     pub rows: usize,
     pub over: bool,

@@ -3,7 +3,7 @@ use command::mistake::Mistake;
 use command::values::{Read, number_value};
 use command::words;
 
-#[derive(Drop)]
+#[derive(Clone, Copy)]
 pub enum Address {
     At(usize),
     Wrong(Mistake),

@@ -6,7 +6,7 @@ use command::options::{Kind, Valued, kind_of};
 use command::words;
 
 // What a word is: --withhold, whose value is the next word; an option of another command; or anything else.
-#[derive(Drop)]
+#[derive(Clone, Copy)]
 enum Word {
     Withhold,
     Other,

@@ -15,7 +15,7 @@ use segment_parts::symbols_by_offset::names::name_inside;
 
 // From what an absolute content is stored: the content and its fixups, whether its symbols keep their own addresses (see
 // `is_own`), and how many public definitions of id 0 there are.
-#[derive(Drop)]
+#[derive(Clone, Copy)]
 pub struct AbsoluteFrom {
     pub content: Content,
     pub fixups: Cursor,

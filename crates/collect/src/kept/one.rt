@@ -12,7 +12,7 @@ use segment_parts::references::refer_along;
 use segment_parts::symbols::name_along;
 
 // From what a kept segment is stored: the links to its first content and to its first public definition, and its size.
-#[derive(Drop)]
+#[derive(Clone, Copy)]
 pub struct KeptFrom {
     pub content: u32,
     pub public: u32,

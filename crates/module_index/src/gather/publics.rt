@@ -13,14 +13,14 @@ use omf51::{Definition, ModuleId};
 use tables::links::thing;
 
 // Which public definitions are gathered, and by which key: all of them by id, or those of id 0 by offset.
-#[derive(Drop)]
+#[derive(Clone, Copy)]
 pub enum PublicsBy {
     Id,
     Offset,
 }
 
 // The key of a public definition, or that it is not one of those that are gathered.
-#[derive(Drop)]
+#[derive(Clone, Copy)]
 enum Keyed {
     By(u16),
     Apart,

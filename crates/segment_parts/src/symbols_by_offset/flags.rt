@@ -7,7 +7,7 @@ ghost use Rattle.segment_parts.specs.symbols_by_offset.Flags.{FlagsBlock, FlagsA
 use tables::links::{next_at, number_at};
 
 // Bounds of the flagged blocks: all of them lie from `low` on and below `high`.
-#[derive(Drop)]
+#[derive(Clone, Copy)]
 pub struct Blocks {
     pub low: usize,
     pub high: usize,
