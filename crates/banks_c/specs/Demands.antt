@@ -10,7 +10,7 @@ use Rattle.image.specs.ViewLaws.{Agree}
 use Rattle.run.specs.declared.Settings.{Settings}
 use Rattle.run.specs.Run.{Lent, number_of, cover}
 use Rattle.run.specs.Answers.{SameLengths}
-use Rattle.libfind_c.specs.Exported.{counts_in}
+use Rattle.exported.specs.Exported.{counts_in}
 use Rattle.bank_rules.specs.Banks.{BankOutcome, find_banks}
 use Rattle.banks.specs.Exactly.{GivenBoard, NoneGiven}
 use Rattle.banks.specs.Demands.{refused-exactly as board-refused, answered-exactly as board-answered, same-lengths as board-lengths, sixteen as board-sixteen, stretch-alone as board-alone}

@@ -4,7 +4,7 @@ use Rattle.std.proofs.Common.{sym, ap, ◌∙◌}
 use Rattle.lent.specs.Rows.{put_row}
 use Rattle.run.specs.declared.Settings.{Settings}
 use Rattle.run.specs.Run.{Lent, number_of}
-use Rattle.libfind_c.specs.Exported.{counts_in}
+use Rattle.exported.specs.Exported.{counts_in}
 use Rattle.bank_rules.specs.Banks.{BankOutcome, find_banks}
 
 -- what the caller gets: the number, the counts, the lines of each bank, and the lent lists

@@ -1,7 +1,7 @@
 // References out of a pattern: their kinds, and the targets to which the bytes of the image lead.
 ghost use Rattle.std.specs.Prelude.{◌≡◌, ◌+◌, ◌<◌, nat_lt};
 ghost use Rattle.image.specs.View.{stretches_in, view, cell_at};
-ghost use Rattle.image.specs.fixup.Target.{signed as signed_of, top_bits, addr16 as addr16Of, reads, leads_to, counted as countedBy, target};
+ghost use Rattle.image.specs.fixup.Target.{signed as signed_of, top_bits, addr16 as addr16Of, reads, leads_to, counted as counted_by, target};
 ghost use Rattle.image.specs.fixup.AddressLaws.{page11};
 
 // The two rule sets: 0, as found, and 1, as documented.
@@ -125,7 +125,7 @@ fn leads_to(rules: Rules, pos: u64, kind: Kind, a: u8, b: u8) -> u64
 
 // A target as the program counter holds it: as documented it has 16 bits, as found a target keeps its 64.
 fn counted(rules: Rules, t: u64) -> u64
-    ensures { result ≡ countedBy rules t }
+    ensures { result ≡ counted_by rules t }
 {
     match rules {
         Rules::AsFound => t,

@@ -1,6 +1,6 @@
 // Names are parts of the library: what their bytes are, whether two names are the same, and which comes first in byte order.
 ghost use Rattle.std.specs.Prelude.{◌+◌, ◌≤◌, min, ◌≡◌, length};
-ghost use Rattle.lent.specs.Parts.{bytes_of, same as sameBytes, before as beforeBytes, part_alike, AlikeUpTo, same_name, name_before};
+ghost use Rattle.lent.specs.Parts.{bytes_of, same as same_bytes, before as before_bytes, part_alike, AlikeUpTo, same_name, name_before};
 
 use crate::part::Part;
 
@@ -66,7 +66,7 @@ fn parts_alike(a: &[u8], b: &[u8], n: usize) -> usize
 
 // Whether two strings of bytes are the same.
 pub fn same(a: &[u8], b: &[u8]) -> bool
-    ensures { result ≡ sameBytes a.now b.now }
+    ensures { result ≡ same_bytes a.now b.now }
 {
     if a.len() != b.len() {
         return false;
@@ -83,7 +83,7 @@ pub fn same(a: &[u8], b: &[u8]) -> bool
 
 // Whether one string of bytes comes before another in byte order.
 pub fn before(a: &[u8], b: &[u8]) -> bool
-    ensures { result ≡ beforeBytes a.now b.now }
+    ensures { result ≡ before_bytes a.now b.now }
 {
     let mut i = parts_alike(a, b, shorter(a.len(), b.len()));
     while i < b.len() {

@@ -7,11 +7,9 @@ ghost use Rattle.listing_rules.specs.LineLayout.{line_at};
 ghost use Rattle.listing_rules.specs.Print.{heading, printed_line, printed};
 ghost use Rattle.printing.specs.PrintedText.{fitted_text, stored_lines};
 ghost use Rattle.run.specs.Run.{lent_lists};
-ghost use Rattle.libfind_c.specs.Exported.{settings_of, handed_run, written_in, said_in, width_of};
+ghost use Rattle.exported.specs.Exported.{settings_of, handed_run, written_in, said_in, width_of};
 
-pub mod numbers;
-
-use crate::numbers::{hand_over, length_of, settings_of, size_of};
+use exported::numbers::{hand_over, length_of, settings_of, size_of};
 use libfind::entry::find_names;
 use listing_rules::rows::{LINE_WIDTH, line_at};
 use search_rules::{NOTED_WIDTH, PLACED_WIDTH};

@@ -5,7 +5,7 @@ ghost use Rattle.std.specs.Prelude.{◌≡◌};
 ghost use Rattle.omf51.specs.Module.{section_by, sections_by};
 ghost use Rattle.omf51.specs.declared.Edition.TheVariants.{One};
 ghost use Rattle.omf51.specs.Ends.{end_of};
-ghost use Rattle.library.specs.Passes.{allowed_for, holds as holdsType, record_end, all_end_by, sections_end_by};
+ghost use Rattle.library.specs.Passes.{allowed_for, holds as holds_type, record_end, all_end_by, sections_end_by};
 ghost use Rattle.library.specs.EndLaws.{own_end};
 
 use omf51::End;
@@ -28,7 +28,7 @@ fn allowed_for(what: Entries) -> Allowed
 
 // Whether a record of a type holds such entries; a record that holds none is skipped.
 pub fn holds(what: Entries, kind: u8) -> bool
-    ensures { result ≡ holdsType what kind }
+    ensures { result ≡ holds_type what kind }
 {
     match what {
         Entries::Definitions => defines(kind),

@@ -1,7 +1,7 @@
 // The row of an id in the table: three numbers of 32 bits, each of which holds a number below 2^24 and one below 256.
 ghost use Rattle.std.specs.Prelude.{◌≡◌, [], ◌∷◌, ◌≤◌, ◌<◌};
 ghost use Rattle.lent.specs.Rows.{cell_of, put_row};
-ghost use Rattle.module_ids.specs.IdRows.{mark_number, mark_from, kept_cells, kept_from, name_from, packed as packedNumber, id_cells, id_row_at, Small};
+ghost use Rattle.module_ids.specs.IdRows.{mark_number, mark_from, kept_cells, kept_from, name_from, packed as packed_number, id_cells, id_row_at, Small};
 
 use crate::{IdRow, KeptAs, Mark};
 use lent::part::Part;
@@ -81,7 +81,7 @@ fn name_from(n: u32) -> Part
 // Two numbers in one.
 fn packed(high: usize, low: usize) -> u32
     requires { (high < 16777216) × (low < 256) }
-    ensures { result ≡ packedNumber high low }
+    ensures { result ≡ packed_number high low }
 {
     (high * 256 + low) as u32
 }

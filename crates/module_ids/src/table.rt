@@ -4,7 +4,7 @@ ghost use Rattle.omf51.specs.Module.{definitions_at};
 ghost use Rattle.library.specs.Gathered.{items_at};
 ghost use Rattle.segments.specs.Ids.{code_info, is_kept, id_of};
 ghost use Rattle.module_ids.specs.IdRows.{id_row_at, Small};
-ghost use Rattle.module_ids.specs.Noted.{first_mark, first_name, first_kept_as, changed as changedRow, note_in, StaysSmall, kept_after, no_row, Tells, Fillable, Filled};
+ghost use Rattle.module_ids.specs.Noted.{first_mark, first_name, first_kept_as, changed as changed_row, note_in, StaysSmall, kept_after, no_row, Tells, Fillable, Filled};
 
 use crate::row::{id_row, put_id};
 use crate::{IdRow, KeptAs, Mark};
@@ -107,7 +107,7 @@ fn first_kept(old: KeptAs, kept: bool, place: usize, size: usize) -> KeptAs
 
 // The row of a definition's id after the definition; the module has `n` kept segments before it.
 fn changed(row: IdRow, n: usize, d: Definition) -> IdRow
-    ensures { result ≡ changedRow row n d }
+    ensures { result ≡ changed_row row n d }
 {
     let segment = row.segment;
     let kept = row.kept;
@@ -139,7 +139,7 @@ fn changed(row: IdRow, n: usize, d: Definition) -> IdRow
 // Changes the table by one definition; the module has `n` kept segments before it. No id leads to a public definition.
 fn note(table: &mut [u32], n: usize, d: Definition)
     requires { StaysSmall n d }
-    ensures { (table.new ≡ note_in table.old n d) × ((id_of d).0 < 65536) × Small (changedRow (id_row_at table.old (id_of d)) n d) }
+    ensures { (table.new ≡ note_in table.old n d) × ((id_of d).0 < 65536) × Small (changed_row (id_row_at table.old (id_of d)) n d) }
 {
     let id = id_of(d);
     if let Definition::Public { id, offset, name } = d {

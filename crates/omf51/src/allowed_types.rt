@@ -1,7 +1,7 @@
 // The types of records: which types are known, and which are allowed at a place of the file.
 ghost use Rattle.std.specs.Prelude.{◌≡◌};
-ghost use Rattle.omf51.specs.Module.{is_known, defines as definesType, fills as fillsType, fixes as fixesType, rests as restsType, is_idle};
-ghost use Rattle.omf51.specs.Expected.{allows as allowedTypes};
+ghost use Rattle.omf51.specs.Module.{is_known, defines as defines_type, fills as fills_type, fixes as fixes_type, rests as rests_type, is_idle};
+ghost use Rattle.omf51.specs.Expected.{allows as allowed_types};
 
 use crate::types::Allowed;
 
@@ -20,7 +20,7 @@ fn is_known(kind: u8) -> bool
 
 // Whether records of a type hold definitions: segments, public names, externals, with ids of one byte or of two.
 pub fn defines(kind: u8) -> bool
-    ensures { result ≡ definesType kind }
+    ensures { result ≡ defines_type kind }
 {
     match kind {
         0x0e | 0x16 | 0x18 => true,
@@ -31,7 +31,7 @@ pub fn defines(kind: u8) -> bool
 
 // Whether records of a type are contents.
 pub fn fills(kind: u8) -> bool
-    ensures { result ≡ fillsType kind }
+    ensures { result ≡ fills_type kind }
 {
     match kind {
         0x06 => true,
@@ -42,7 +42,7 @@ pub fn fills(kind: u8) -> bool
 
 // Whether records of a type hold fixups.
 fn fixes(kind: u8) -> bool
-    ensures { result ≡ fixesType kind }
+    ensures { result ≡ fixes_type kind }
 {
     match kind {
         0x08 => true,
@@ -53,7 +53,7 @@ fn fixes(kind: u8) -> bool
 
 // Whether records of a known type are skipped among contents.
 fn rests(kind: u8) -> bool
-    ensures { result ≡ restsType kind }
+    ensures { result ≡ rests_type kind }
 {
     match kind {
         0x10 | 0x12 => true,
@@ -74,7 +74,7 @@ fn idles(kind: u8) -> bool
 
 // Whether a record of a type may stand at a place where `what` is allowed.
 pub fn allows(what: Allowed, kind: u8) -> bool
-    ensures { result ≡ allowedTypes what kind }
+    ensures { result ≡ allowed_types what kind }
 {
     match what {
         Allowed::One(one) => one == kind,

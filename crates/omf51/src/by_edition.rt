@@ -2,7 +2,7 @@
 ghost use Rattle.std.specs.Prelude.{◌≡◌, ◌%◌, ◌≤◌, eqb, length};
 ghost use Rattle.lent.specs.Lists.{total};
 ghost use Rattle.omf51.specs.Record.{edition_of, record_sum, expected_by, leaves_over};
-ghost use Rattle.omf51.specs.Expected.{allows as allowedTypes, frame_read};
+ghost use Rattle.omf51.specs.Expected.{allows as allowed_types, frame_read};
 
 use crate::Edition;
 use crate::read_record::record_at;
@@ -44,7 +44,7 @@ fn sums_to_zero(library: &[u8], at: usize, next: usize) -> bool
 // The record at a place in an edition, if its type is allowed there. Edition 2 refuses a record whose bytes, its checksum
 // among them, do not sum to 0 (14).
 pub fn record_by(library: &[u8], edition: Edition, what: Allowed, at: usize) -> Framed
-    ensures { frame_read result ≡ expected_by edition library.now (allowedTypes what) at }
+    ensures { frame_read result ≡ expected_by edition library.now (allowed_types what) at }
 {
     let framed = record_at(library, what, at);
     let Edition::Two = edition else {

@@ -3,7 +3,7 @@
 ghost use Rattle.std.specs.Prelude.{◌≡◌, ◌<◌};
 ghost use Rattle.lent.specs.Parts.{byte_at, word_at};
 ghost use Rattle.omf51.specs.Record.{frame_at, expected};
-ghost use Rattle.omf51.specs.Expected.{allows as allowedTypes, frame_read};
+ghost use Rattle.omf51.specs.Expected.{allows as allowed_types, frame_read};
 
 use crate::Frame;
 use crate::allowed_types::allows;
@@ -69,7 +69,7 @@ fn frame_at(library: &[u8], at: usize) -> Framed
 // The record at a place, if its type is allowed there. The type comes first, so that a record
 // of another type never gives a refusal.
 pub fn record_at(library: &[u8], what: Allowed, at: usize) -> Framed
-    ensures { frame_read result ≡ expected library.now (allowedTypes what) at }
+    ensures { frame_read result ≡ expected library.now (allowed_types what) at }
 {
     if allows(what, byte_at(library, at)) {
         return frame_at(library, at);

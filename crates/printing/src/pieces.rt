@@ -5,7 +5,7 @@ ghost use Rattle.lent.specs.Lists.{one};
 ghost use Rattle.describe.specs.Describe.{describe};
 ghost use Rattle.describe.specs.Described.{Put};
 ghost use Rattle.listing_rules.specs.Print.{digit as digit_of, digits, remark, printed_line};
-ghost use Rattle.printing.specs.Pieces.{address_column, name_column, opening as openingOf, closing as closingOf};
+ghost use Rattle.printing.specs.Pieces.{address_column, name_column, opening as opening_of, closing as closing_of};
 
 use crate::sizes;
 use describe::Described;
@@ -85,7 +85,7 @@ fn put_address(out: &mut [u8], at: usize, address: u64) -> usize
 // The sign before a name: ( for a name that is only noted (grade 0), [ for a symbol that is
 // not borne out (grade 1), else a blank.
 fn opening(grade: u8) -> u8
-    ensures { result ≡ openingOf grade }
+    ensures { result ≡ opening_of grade }
 {
     if grade == 0 {
         return b'(';
@@ -95,7 +95,7 @@ fn opening(grade: u8) -> u8
 
 // The sign behind a name, as that before it.
 fn closing(grade: u8) -> u8
-    ensures { result ≡ closingOf grade }
+    ensures { result ≡ closing_of grade }
 {
     if grade == 0 {
         return b')';

@@ -1,7 +1,7 @@
 // How many bytes the pieces of a printed line take.
 ghost use Rattle.std.specs.Prelude.{◌≡◌, ◌+◌, ◌-◌, ◌/◌, length};
 ghost use Rattle.describe.specs.Describe.{describe};
-ghost use Rattle.listing_rules.specs.Print.{more_digits, remark as remarkOf, printed_line};
+ghost use Rattle.listing_rules.specs.Print.{more_digits, remark as remark_of, printed_line};
 ghost use Rattle.printing.specs.Pieces.{address_column, name_column};
 
 use describe::Described;
@@ -52,7 +52,7 @@ fn name(grade: u8, bytes: &[u8]) -> usize
 
 // How many bytes the description takes, with the blank before it; 0 if the name has none.
 fn remark(bytes: &[u8]) -> usize
-    ensures { result ≡ length (remarkOf (describe bytes.now)) }
+    ensures { result ≡ length (remark_of (describe bytes.now)) }
 {
     let mut words = [0u8; LONGEST];
     match describe::entry::describe(bytes, &mut words) {

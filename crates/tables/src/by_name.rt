@@ -1,8 +1,8 @@
 // Rows that have a key and a name, found by links. A row's first three numbers are its key and its name's place and length; its
 // last number is the link to an earlier row in the same bucket of key and name. A link is one more than a row's number, or 0.
 ghost use Rattle.std.specs.Prelude.{◌≡◌, ◌+◌, ◌-◌, ◌<◌, ◌&&◌, length, drop, ◌==◌};
-ghost use Rattle.lent.specs.Parts.{bytes_of, same as sameBytes};
-ghost use Rattle.tables.specs.by_name.Sheet.{spread as spreadBytes, ends, name_bucket};
+ghost use Rattle.lent.specs.Parts.{bytes_of, same as same_bytes};
+ghost use Rattle.tables.specs.by_name.Sheet.{spread as spread_bytes, ends, name_bucket};
 ghost use Rattle.tables.specs.by_name.Heads.{head_at, low_head, head_set, heads_with};
 ghost use Rattle.tables.specs.by_name.Tables.{followed};
 ghost use Rattle.tables.specs.by_name.Tags.{Whole, tag_at, other_length, may_be, named_at, Stops};
@@ -66,7 +66,7 @@ fn tag_at(m: &[u64], width: usize, i: usize) -> Tag
 
 // Whether a row's tag has this key, and a name of these bytes.
 fn is_tagged(library: &[u8], tag: Tag, key: u64, bytes: &[u8]) -> bool
-    ensures { result ≡ (tag.key == key && sameBytes (bytes_of library.now tag.name) bytes.now) }
+    ensures { result ≡ (tag.key == key && same_bytes (bytes_of library.now tag.name) bytes.now) }
 {
     if tag.key != key {
         return false;
@@ -202,7 +202,7 @@ pub fn find(library: &[u8], m: &[u64], width: usize, link: usize, key: u64, name
 // A number of 32 bits after bytes were mixed in.
 fn spread(from: u64, bytes: &[u8]) -> u64
     requires { from < 4294967296 }
-    ensures { result ≡ spreadBytes from bytes.now }
+    ensures { result ≡ spread_bytes from bytes.now }
 {
     let mut h = from;
     let mut i = 0;
@@ -216,7 +216,7 @@ fn spread(from: u64, bytes: &[u8]) -> u64
 // The same of a name: of a long one only the bytes at its ends are mixed in, so that its length does not count.
 fn spread_ends(from: u64, bytes: &[u8]) -> u64
     requires { from < 4294967296 }
-    ensures { result ≡ spreadBytes from (ends bytes.now) }
+    ensures { result ≡ spread_bytes from (ends bytes.now) }
 {
     let len = bytes.len();
     if len <= 16 {

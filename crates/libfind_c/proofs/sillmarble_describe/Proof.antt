@@ -1,6 +1,6 @@
 -- `sillmarble_describe` makes a number of the answer. Assumes nothing.
 use mathlib.Core.Path.{ap}
-use Rattle.libfind_c.specs.Exported.{said_in}
+use Rattle.exported.specs.Exported.{said_in}
 use borrow.Author.Rules.{rules}
 use Rattle.libfind_c.proofs.sillmarble_describe.Statement.{statement}
 use Rattle.libfind_c.proofs.sillmarble_describe.Tie as tie

@@ -1,6 +1,6 @@
 -- `sillmarble_find` makes the settings, runs, and hands over what came of it. Assumes nothing.
 use Rattle.run.specs.Run.{lent_lists}
-use Rattle.libfind_c.specs.ExportedLaws.{handed-over}
+use Rattle.exported.specs.ExportedLaws.{handed-over}
 use borrow.Author.Rules.{rules}
 use Rattle.libfind_c.proofs.sillmarble_find.Statement.{statement}
 use Rattle.libfind_c.proofs.sillmarble_find.Tie as tie

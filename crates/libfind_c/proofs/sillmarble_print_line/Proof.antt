@@ -3,7 +3,7 @@ use mathlib.Core.Path.{ap, ◌∙◌}
 use Rattle.listing_rules.specs.declared.Line.{Line}
 use Rattle.listing_rules.specs.Print.{printed_line}
 use Rattle.printing.specs.PrintedText.{fitted_text}
-use Rattle.libfind_c.specs.Exported.{written_in}
+use Rattle.exported.specs.Exported.{written_in}
 use borrow.Author.Rules.{rules}
 use Rattle.libfind_c.proofs.sillmarble_print_line.Statement.{statement}
 use Rattle.libfind_c.proofs.sillmarble_print_line.Tie as tie

@@ -3,7 +3,7 @@ use Prim.Native.Nat.{◌≤◌}
 use mathlib.Core.Path.{sym}
 use native.Mathlib.Omega.{arith}
 use lib.ListN.{get_or-eq_default}
-use Rattle.libfind_c.specs.Exported.{widths}
+use Rattle.exported.specs.Exported.{widths}
 use borrow.Author.Rules.{rules}
 use Rattle.libfind_c.proofs.sillmarble_row_width.Statement.{statement}
 use Rattle.libfind_c.proofs.sillmarble_row_width.Tie as tie

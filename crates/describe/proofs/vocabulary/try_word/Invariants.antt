@@ -1,0 +1,16 @@
+-- `listing::words::try_word` meets its contract: j letters agree, and what is left of the name and of the word decides.
+use Prim.Native.Nat.{◌-◌, ◌≤◌}
+use mathlib.Core.Path.{◌≡◌, sym, ◌∙◌}
+use native.Mathlib.Omega.{arith}
+use lib.ListN.{length, take, length-take}
+use lib.Seq.{get_or-take}
+use Rattle.describe.specs.WordLaws.{Reading, reading-starts, reading-more, reading-ends, reading-past, reading-other}
+use Rattle.describe.proofs.vocabulary.try_word.Given as goal
+
+abbrev pub invariant-loop-j : goal.invariant-loop-j
+invariant-loop-j l =
+    Reading l.name l.at (take l.len l.word) l.next l.j × (l.j ≤ l.len) × (l.j ≤ 5) × (length l.word ≡ 5)
+
+abbrev pub decreases-loop-j : goal.decreases-loop-j
+decreases-loop-j l =
+    5 - l.j

@@ -1,0 +1,43 @@
+-- `stands_at` asks for all that has a mask, at once or after the first bytes. Assumes nothing.
+use Rattle.std.proofs.Common.{sym, ◌∙◌, arith, rules}
+use borrow.Author.Tests.{not-true}
+use Rattle.image.specs.MatchLaws.{none-agreeing, match-past, part-within, part-whole}
+use Rattle.image.proofs.stands_at.Goals as goal
+
+pub returns-then-image-at : goal.returns-then-image-at
+returns-then-image-at c =
+    sym (match-past _ _ _ _ (omega arith))
+
+pub returns-then-image-at-2 : goal.returns-then-image-at-2
+returns-then-image-at-2 c =
+    sym (match-past _ _ _ _ (omega arith))
+
+pub rest_agrees-requires : goal.rest_agrees-requires
+rest_agrees-requires c =
+    (none-agreeing _ _ _ _ _, search rules)
+
+pub returns-then-n-lt32 : goal.returns-then-n-lt32
+returns-then-n-lt32 c =
+    let a = c.args in
+    let n = c.shorter-n in
+    c.rest_agrees.ensures
+    ∙ part-whole a.image.now a.bytes.now a.masks.now a.at n.result (omega arith) n.ensures (λ k. omega (arith, c.shared_slice_known-1.given k))
+
+pub rest_agrees-requires-2 : goal.rest_agrees-requires-2
+rest_agrees-requires-2 c =
+    (none-agreeing _ _ _ _ _, search rules)
+
+pub returns-then-not-rest_agrees : goal.returns-then-not-rest_agrees
+returns-then-not-rest_agrees c =
+    let a = c.args in
+    let n = c.shorter-n in
+    let first = sym c.rest_agrees-2.ensures ∙ c.if-not-rest_agrees.true in
+    sym (part-within a.image.now a.bytes.now a.masks.now a.at 0 4 n.result (omega arith) first)
+    ∙ part-whole a.image.now a.bytes.now a.masks.now a.at n.result (omega arith) n.ensures (λ k. omega (arith, c.shared_slice_known-1.given k))
+
+pub returns : goal.returns
+returns c =
+    let a = c.args in
+    let n = c.shorter-n in
+    c.rest_agrees-3.ensures
+    ∙ part-whole a.image.now a.bytes.now a.masks.now a.at n.result (omega arith) n.ensures (λ k. omega (arith, c.shared_slice_known-1.given k))

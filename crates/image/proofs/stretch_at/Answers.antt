@@ -1,0 +1,7 @@
+-- `stretch_at` reads a pair. Assumes nothing.
+use Rattle.std.proofs.Common.{◌≡◌, rules}
+use Rattle.image.proofs.stretch_at.Goals as goal
+
+pub returns : goal.returns
+returns c =
+    rw (c.place.ensures, c.place-2.ensures)

@@ -1,0 +1,32 @@
+-- `read` meets its contract: at each turn what is left of the text, with what the cells hold, comes to what the whole does. Assumes nothing.
+use Rattle.intel_hex.specs.Digits.{bytes_at}
+use Rattle.intel_hex.specs.Import.{given, walk}
+use Prim.Native.Nat.{ℕ, ◌+◌, ◌-◌, ◌≤◌, ◌<◌}
+use mathlib.Core.Path.{◌≡◌, refl, sym, ap, ◌∙◌}
+use mathlib.Core.List.{List}
+use native.Mathlib.Omega.{arith}
+use borrow.Author.Rules.{rules}
+use borrow.Author.Tests.{not-true, not-false}
+use lib.ListN.{length}
+use Rattle.intel_hex.specs.declared.record.Step.TheVariants.{Data}
+use Rattle.intel_hex.specs.Record.{record_at}
+use Rattle.intel_hex.specs.RecordCases.{Lies, found_at}
+use Rattle.intel_hex.specs.ImportLaws.{walk_at, walk-twice, walk-on, end-most}
+use Rattle.intel_hex.specs.Cells.{memory_in}
+use Rattle.intel_hex.specs.CellLaws.{all_noted, one-given}
+use Rattle.intel_hex.proofs.import.read.Given as goal
+
+pub record Turn (text cells₀ cells : List ℕ) (at end : ℕ) : Type 0 where
+  pub long : length cells ≡ 65536
+  pub within : end ≤ 65536
+  pub fuel : ℕ
+  pub enough : length text - at < fuel
+  pub same : walk text fuel at (memory_in cells) end ≡ walk text (length text + 1) 0 (memory_in cells₀) 0
+
+abbrev pub invariant-loop-r : goal.invariant-loop-r
+invariant-loop-r l =
+    Turn l.text l.initial.cells l.cells l.at l.end
+
+abbrev pub decreases-loop-r : goal.decreases-loop-r
+decreases-loop-r l =
+    length l.text - l.at

@@ -1,0 +1,25 @@
+-- `sum_of` meets its contract: what was summed and what is left come to the whole. Assumes nothing.
+use Prim.Native.Nat.{ℕ, ◌+◌, ◌*◌, ◌-◌, ◌/◌, ◌%◌, ◌<◌}
+use mathlib.Core.Path.{◌≡◌, sym, ap, ◌∙◌}
+use mathlib.Core.List.{List}
+use native.Mathlib.Omega.{arith}
+use borrow.Author.Rules.{rules}
+use borrow.Author.Tests.{eq-eqb, ne_eqb}
+use lib.Bits.{bit_or}
+use Rattle.intel_hex.specs.Digits.{digit_at, byte_at}
+use Rattle.intel_hex.specs.Record.{sum_of}
+use Rattle.intel_hex.specs.RecordLaws.{added, added_none, sum_more, sum-all}
+use Rattle.intel_hex.proofs.line.sum_of.Given as goal
+
+pub record Turn (text : List ℕ) (at n sum others k left : ℕ) : Type 0 where
+  pub place : k + 2 * left ≡ at + 2 * n
+  pub small : sum < 256
+  pub same : added others sum (sum_of text k left) ≡ sum_of text at n
+
+abbrev pub invariant-loop-left : goal.invariant-loop-left
+invariant-loop-left l =
+    Turn l.text l.at l.n l.sum l.others l.k l.left
+
+abbrev pub decreases-loop-left : goal.decreases-loop-left
+decreases-loop-left l =
+    l.left

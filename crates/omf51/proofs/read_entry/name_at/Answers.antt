@@ -1,0 +1,15 @@
+-- `name_at`: the bytes that are read are as many as the length byte says. Assumes nothing.
+use mathlib.Core.Path.{ap, ◌∙◌}
+use lib.ListN.{length}
+use Rattle.omf51.specs.EntryLaws.{name-long}
+use borrow.Author.Rules.{rules}
+use Rattle.omf51.proofs.read_entry.name_at.Goals as goal
+
+pub returns : goal.returns
+returns c =
+    let a = c.args in
+    rw (c.read_name-bytes.ensures, name-long a.library.now a.at c.requires)
+
+pub read_name-bytes-requires : goal.read_name-bytes-requires
+read_name-bytes-requires c =
+    c.requires

@@ -1,0 +1,108 @@
+use Rattle.std.proofs.Common.{◌≡◌, ℕ, ◌+◌, ◌-◌, ◌<◌, ◌≤◌, List, length, refl, subst, arith, length-set, rules}
+use Rattle.tables.specs.links.Index.{LinkedThings}
+use Rattle.tables.specs.links.LinkedLaws.{none_yet, small-key, small-link, one-linked}
+use Rattle.tables.proofs.links.link.Goals as goal
+
+pub loop-i-init : goal.loop-i-init
+loop-i-init c =
+    record { within = omega arith; things-long = refl; heads-long = refl; linked = none_yet c.args.things.now c.args.n c.requires.within c.args.first.now c.requires }
+
+pub offset_bounds-things-i : goal.offset_bounds-things-i
+offset_bounds-things-i c =
+    omega (arith, c.loop-i.invariant.within, c.requires.few)
+
+pub bounds-things-i : goal.bounds-things-i
+bounds-things-i c =
+    omega (arith, c.loop-i.invariant.within, c.loop-i.invariant.things-long, c.requires.within)
+
+pub offset_bounds-first-key : goal.offset_bounds-first-key
+offset_bounds-first-key c =
+    let so_far : 0 < c.loop-i.i → LinkedThings c.args.things.now c.args.n (c.loop-i.i - 1 + 1) c.loop-i.things c.loop-i.first = λ h. let a = c.args in
+    let l = c.loop-i in
+    let back : l.i ≡ l.i - 1 + 1 = omega arith in
+    subst (λ i. LinkedThings a.things.now a.n i l.things l.first) back l.invariant.linked in
+    let key : c.key_in-key.result < 65536 = rw c.key_in-key.ensures (small-key c.args.things.now c.args.n c.requires.within (c.loop-i.i - 1) (omega (arith, c.loop-i.invariant.within)) (so_far (omega arith))) in
+    omega (arith, key)
+
+pub bounds-first-key : goal.bounds-first-key
+bounds-first-key c =
+    let so_far : 0 < c.loop-i.i → LinkedThings c.args.things.now c.args.n (c.loop-i.i - 1 + 1) c.loop-i.things c.loop-i.first = λ h. let a = c.args in
+    let l = c.loop-i in
+    let back : l.i ≡ l.i - 1 + 1 = omega arith in
+    subst (λ i. LinkedThings a.things.now a.n i l.things l.first) back l.invariant.linked in
+    let key : c.key_in-key.result < 65536 = rw c.key_in-key.ensures (small-key c.args.things.now c.args.n c.requires.within (c.loop-i.i - 1) (omega (arith, c.loop-i.invariant.within)) (so_far (omega arith))) in
+    omega (arith, key, c.loop-i.invariant.heads-long, c.requires.heads)
+
+pub linked_to-requires : goal.linked_to-requires
+linked_to-requires c =
+    let so_far : 0 < c.loop-i.i → LinkedThings c.args.things.now c.args.n (c.loop-i.i - 1 + 1) c.loop-i.things c.loop-i.first = λ h. let a = c.args in
+    let l = c.loop-i in
+    let back : l.i ≡ l.i - 1 + 1 = omega arith in
+    subst (λ i. LinkedThings a.things.now a.n i l.things l.first) back l.invariant.linked in
+    rw c.key_in-key.ensures (small-link c.args.things.now c.args.n c.requires.within (c.loop-i.i - 1)
+    (omega (arith, c.loop-i.invariant.within)) (so_far (omega arith)) c.requires.few)
+
+pub offset_bounds-things-i-in-loop-i : goal.offset_bounds-things-i-in-loop-i
+offset_bounds-things-i-in-loop-i c =
+    omega (arith, c.loop-i.invariant.within, c.requires.few)
+
+pub bounds-things-i-in-loop-i : goal.bounds-things-i-in-loop-i
+bounds-things-i-in-loop-i c =
+    omega (arith, c.loop-i.invariant.within, c.loop-i.invariant.things-long, c.requires.within)
+
+pub overflow_add-first : goal.overflow_add-first
+overflow_add-first c =
+    omega (arith, c.loop-i.invariant.within, c.requires.few)
+
+pub overflow_cast-first : goal.overflow_cast-first
+overflow_cast-first c =
+    omega (arith, c.loop-i.invariant.within, c.requires.few)
+
+pub offset_bounds-first-key-in-loop-i : goal.offset_bounds-first-key-in-loop-i
+offset_bounds-first-key-in-loop-i c =
+    let so_far : 0 < c.loop-i.i → LinkedThings c.args.things.now c.args.n (c.loop-i.i - 1 + 1) c.loop-i.things c.loop-i.first = λ h. let a = c.args in
+    let l = c.loop-i in
+    let back : l.i ≡ l.i - 1 + 1 = omega arith in
+    subst (λ i. LinkedThings a.things.now a.n i l.things l.first) back l.invariant.linked in
+    let key : c.key_in-key.result < 65536 = rw c.key_in-key.ensures (small-key c.args.things.now c.args.n c.requires.within (c.loop-i.i - 1) (omega (arith, c.loop-i.invariant.within)) (so_far (omega arith))) in
+    omega (arith, key)
+
+pub bounds-first-key-in-loop-i : goal.bounds-first-key-in-loop-i
+bounds-first-key-in-loop-i c =
+    let so_far : 0 < c.loop-i.i → LinkedThings c.args.things.now c.args.n (c.loop-i.i - 1 + 1) c.loop-i.things c.loop-i.first = λ h. let a = c.args in
+    let l = c.loop-i in
+    let back : l.i ≡ l.i - 1 + 1 = omega arith in
+    subst (λ i. LinkedThings a.things.now a.n i l.things l.first) back l.invariant.linked in
+    let key : c.key_in-key.result < 65536 = rw c.key_in-key.ensures (small-key c.args.things.now c.args.n c.requires.within (c.loop-i.i - 1) (omega (arith, c.loop-i.invariant.within)) (so_far (omega arith))) in
+    omega (arith, key, c.loop-i.invariant.heads-long, c.requires.heads)
+
+pub loop-i-preserved : goal.loop-i-preserved
+loop-i-preserved c =
+    let so_far : 0 < c.loop-i.i → LinkedThings c.args.things.now c.args.n (c.loop-i.i - 1 + 1) c.loop-i.things c.loop-i.first = λ h. let a = c.args in
+    let l = c.loop-i in
+    let back : l.i ≡ l.i - 1 + 1 = omega arith in
+    subst (λ i. LinkedThings a.things.now a.n i l.things l.first) back l.invariant.linked in
+    let l = c.loop-i in
+    record {
+      within = omega (arith, l.invariant.within);
+      things-long = rw length-set l.invariant.things-long;
+      heads-long = rw length-set l.invariant.heads-long;
+      linked = rw
+          (c.linked_to.ensures, c.key_in-key.ensures)
+          (one-linked c.args.things.now c.args.n c.requires.within (l.i - 1) (omega (arith, l.invariant.within)) (so_far (omega arith)) c.requires.few);
+    }
+
+pub returns : goal.returns
+returns c =
+    let a = c.args in
+    let l = c.loop-i in
+    let end : l.i ≡ 0 = omega arith in
+    subst (λ i. LinkedThings a.things.now a.n i l.things l.first) end l.invariant.linked
+
+pub shape_of-things : goal.shape_of-things
+shape_of-things c =
+    c.loop-i.invariant.things-long
+
+pub shape_of-first : goal.shape_of-first
+shape_of-first c =
+    c.loop-i.invariant.heads-long

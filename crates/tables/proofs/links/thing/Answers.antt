@@ -1,0 +1,9 @@
+-- `thing` puts the place above the key. Assumes nothing.
+use Rattle.std.proofs.Common.{refl, arith, rules}
+use Rattle.tables.specs.links.Things.{thing_of}
+use Rattle.tables.proofs.links.thing.Goals as goal
+
+pub returns : goal.returns
+unfolding thing_of
+returns c =
+    (refl, omega arith)
