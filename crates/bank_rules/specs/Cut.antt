@@ -3,7 +3,7 @@ use Rattle.std.specs.Prelude.{ℕ, ◌+◌, ◌-◌, min, List, [], ◌∷◌}
 use Rattle.image.specs.declared.Stretch.{Stretch}
 use Rattle.image.specs.declared.cover.Stretches.{Stretches}
 use Rattle.run.specs.declared.Settings.{Settings}
-use Rattle.run.specs.Withheld.{withholding}
+use Rattle.run.proofs.Withheld.{withholding}
 use Rattle.bank_rules.specs.Banks.{bank_start}
 
 -- how many bytes of the first x of the file bank k's view shows: those of the common part, and those of the bank

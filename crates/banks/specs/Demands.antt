@@ -12,7 +12,7 @@ use Rattle.lent.specs.RefusalLaws.{numbered}
 use Rattle.lent.specs.Rows.{zeros}
 use Rattle.lent.specs.RowLaws.{padded-length}
 use Rattle.image.specs.View.{view}
-use Rattle.image.specs.ViewLaws.{Agree, same_view, view-length}
+use Rattle.image.proofs.ViewLaws.{Agree, same_view, view-length}
 use Rattle.image.specs.fixup.Target.{rules_of}
 use Rattle.omf51.specs.File.{modules_in}
 use Rattle.listing_rules.specs.declared.Line.{Line}
@@ -22,14 +22,14 @@ use Rattle.run.specs.declared.Settings.{Settings}
 use Rattle.run.specs.declared.Answer.{Answer}
 use Rattle.run.specs.declared.Answer.TheVariants.{Done, Refused}
 use Rattle.run.specs.Run.{Lent, Outcome, library_read, stages, counted, refusals, filled_with, outcome_of, number_of, counts_of, cover}
-use Rattle.run.specs.Answers.{SameLengths, SoundBy, sound-by, filled-lengths, kept_by}
-use Rattle.run.specs.ListedRows.{grades, row-is-line}
-use Rattle.run.specs.Demands.{Contract as SingleContract, memory as single-memory, answered-exactly as single-answered}
+use Rattle.run.proofs.Answers.{SameLengths, SoundBy, sound-by, filled-lengths, kept_by}
+use Rattle.run.proofs.ListedRows.{grades, row-is-line}
+use Rattle.run.proofs.Demands.{Contract as SingleContract, memory as single-memory, answered-exactly as single-answered}
 use Rattle.bank_rules.specs.Banks.{bank_cells, banks_in, not_banked, shown, lines_to, each_to, given_to, needed_to, BankOutcome, with_banks, banks_seen, find_banks}
 use Rattle.bank_rules.specs.declared.BankAnswer.{BankAnswer}
 use Rattle.bank_rules.specs.Cut.{cut_settings}
-use Rattle.bank_rules.specs.CutLaws.{Has, cut-cover, bank-view}
-use Rattle.bank_rules.specs.OverLaws.{lines-grow, given-needed, lines_next}
+use Rattle.bank_rules.proofs.CutLaws.{Has, cut-cover, bank-view}
+use Rattle.bank_rules.proofs.OverLaws.{lines-grow, given-needed, lines_next}
 use Rattle.banks.specs.EntryLaws.{has-banks, answer-is, single-is}
 use Rattle.banks.specs.Exactly.{Banked, is-banked, GivenBoard, NoneGiven, given-exactly, done-exactly}
 use Rattle.banks.specs.BoardLaws.{each-length}

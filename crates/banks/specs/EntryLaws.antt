@@ -13,7 +13,7 @@ use Rattle.lent.specs.Refusals.{zeroes}
 use Rattle.lent.specs.RefusalLaws.{same_number, zeroes-not}
 use Rattle.lent.specs.Rows.{zeros}
 use Rattle.image.specs.View.{view}
-use Rattle.image.specs.ViewLaws.{view-length}
+use Rattle.image.proofs.ViewLaws.{view-length}
 use Rattle.image.specs.fixup.Target.{rules_of}
 use Rattle.omf51.specs.Module.{module_at}
 use Rattle.omf51.specs.File.{file_refusal}
@@ -27,8 +27,8 @@ use Rattle.run.specs.declared.Counts.{Counts}
 use Rattle.run.specs.declared.Answer.{Answer}
 use Rattle.run.specs.declared.Answer.TheVariants.{Done, Refused}
 use Rattle.run.specs.Run.{Lent, lent_lists, Outcome, library_read, zeroed, filled_with, outcome_of, run_by, cover}
-use Rattle.run.specs.Answers.{SameLengths}
-use Rattle.run.specs.StageLaws.{when-none}
+use Rattle.run.proofs.Answers.{SameLengths}
+use Rattle.run.proofs.StageLaws.{when-none}
 use Rattle.libfind.specs.Begin.{settings_refusal, Begun}
 use Rattle.libfind.specs.Ends.{collectable, finding_by, Filled}
 use Rattle.libfind.specs.EndLaws as end

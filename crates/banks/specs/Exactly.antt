@@ -13,8 +13,8 @@ use Rattle.image.specs.View.{view}
 use Rattle.run.specs.declared.Settings.{Settings}
 use Rattle.run.specs.Run.{Lent, run_by, number_of, cover}
 use Rattle.run.specs.Given.{Shape, GivenBy, NothingRefusedBy}
-use Rattle.run.specs.StageLaws.{when-some, when-none, not-over, Worded}
-use Rattle.run.specs.Refused.{given_by, done-by}
+use Rattle.run.proofs.StageLaws.{when-some, when-none, not-over, Worded}
+use Rattle.run.proofs.Refused.{given_by, done-by}
 use Rattle.bank_rules.specs.Banks.{is_banked, banks_in, not_banked, given_to, needed_to, find_banks}
 use Rattle.banks.specs.EntryLaws.{has-banks, single-is}
 

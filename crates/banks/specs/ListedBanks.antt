@@ -13,9 +13,9 @@ use Rattle.lent.specs.Members.{◌among◌}
 use Rattle.listing_rules.specs.declared.Line.{Line}
 use Rattle.run.specs.declared.Settings.{Settings}
 use Rattle.run.specs.Run.{asked_of, stages}
-use Rattle.run.specs.ListedRows.{grades}
+use Rattle.run.proofs.ListedRows.{grades}
 use Rattle.bank_rules.specs.Banks.{bank_cells, shown, lines_to, each_to}
-use Rattle.bank_rules.specs.OverLaws.{lines-grow}
+use Rattle.bank_rules.proofs.OverLaws.{lines-grow}
 use Rattle.banks.specs.BoardLaws.{each-length}
 
 module _ (cells library : List ℕ) (s : Settings) where

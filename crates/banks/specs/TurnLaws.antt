@@ -27,14 +27,14 @@ use Rattle.run.specs.declared.Answer.{Answer}
 use Rattle.run.specs.declared.Answer.TheVariants.{Done, Refused}
 use Rattle.run.specs.Run.{Lent, lent_lists, Yield, Outcome, asked_of, stages, counted, zeroed, filled_with, left_by, outcome_of}
 use Rattle.run.specs.Given.{SearchOver, ListOver}
-use Rattle.run.specs.Answers.{SameLengths}
+use Rattle.run.proofs.Answers.{SameLengths}
 use Rattle.libfind.specs.Ends.{collectable, findable, concluded, finding_by, Filled}
 use Rattle.libfind.specs.FindingLaws.{finding-nine, finding-none, finding-late}
 use Rattle.libfind.specs.FoundLaws.{found-then}
 use Rattle.bank_rules.specs.Banks.{bank_cells, shown, lines_to, last_to, most_to, given_to, needed_to}
-use Rattle.bank_rules.specs.CutLaws.{Has, cells-length}
+use Rattle.bank_rules.proofs.CutLaws.{Has, cells-length}
 use Rattle.banks.specs.Turns.{with_lines, FindsView}
-use Rattle.bank_rules.specs.OverLaws.{search-next, next-search, lines_next}
+use Rattle.bank_rules.proofs.OverLaws.{search-next, next-search, lines_next}
 
 -- lines in numbers
 numbers-length : (lines : List Line) → length (line_numbers lines) ≡ length lines * line_width

@@ -2,7 +2,7 @@
 ghost use Rattle.std.specs.Prelude.{◌≡◌, length};
 ghost use Rattle.tables.specs.zeros.Zeros.{zero_list};
 ghost use Rattle.bank_rules.specs.Banks.{bank_cells};
-ghost use Rattle.bank_rules.specs.CutLaws.{Has};
+ghost use Rattle.bank_rules.proofs.CutLaws.{Has};
 
 use crate::board::BANK;
 

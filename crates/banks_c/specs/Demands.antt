@@ -6,10 +6,10 @@ use Rattle.lent.specs.declared.refusal.Refusal.{Refusal}
 use Rattle.lent.specs.Rows.{put_row}
 use Rattle.lent.specs.OneOutcome.{Determines, by-equation}
 use Rattle.lent.specs.Refusals.{refusal_number}
-use Rattle.image.specs.ViewLaws.{Agree}
+use Rattle.image.proofs.ViewLaws.{Agree}
 use Rattle.run.specs.declared.Settings.{Settings}
 use Rattle.run.specs.Run.{Lent, number_of, cover}
-use Rattle.run.specs.Answers.{SameLengths}
+use Rattle.run.proofs.Answers.{SameLengths}
 use Rattle.exported.specs.Exported.{counts_in}
 use Rattle.bank_rules.specs.Banks.{BankOutcome, find_banks}
 use Rattle.banks.specs.Exactly.{GivenBoard, NoneGiven}

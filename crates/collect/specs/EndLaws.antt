@@ -16,9 +16,9 @@ use Rattle.image.specs.declared.fixup.Rules.{Rules}
 use Rattle.omf51.specs.Module.{Module}
 use Rattle.segments.specs.Collect.{Collected, collect}
 use Rattle.segments.specs.Refuse.{collect_refusal}
-use Rattle.segments.specs.RefuseLaws.{collect-late}
+use Rattle.segments.proofs.RefuseLaws.{collect-late}
 use Rattle.segments.specs.SegmentRows.{segment_cells, reference_cells, symbol_cells, segment_rows, segment_numbers, reference_numbers, symbol_numbers, pattern_bytes, pattern_masks}
-use Rattle.segments.specs.SegmentRowLaws.{bytes_take, masks-take}
+use Rattle.segments.proofs.SegmentRowLaws.{bytes_take, masks-take}
 use Rattle.collect.specs.declared.stored.CollectCounts.{CollectCounts}
 use Rattle.collect.specs.stored.Stores.{CollectLists, references_in, symbols_in, Room, Stores, SameLengths}
 use Rattle.collect.specs.stored.Segments.{lists}

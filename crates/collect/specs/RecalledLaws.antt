@@ -11,9 +11,9 @@ use Rattle.image.specs.declared.fixup.Rules.{Rules}
 use Rattle.omf51.specs.Module.{Module}
 use Rattle.segments.specs.Collect.{Collected, collect}
 use Rattle.segments.specs.SegmentRows.{segment_width, segment_numbers, reference_numbers, symbol_numbers, pattern_bytes, pattern_masks}
-use Rattle.segments.specs.SegmentRowLaws.{segments-take, references-take, symbols-take, bytes_take, masks-take, masks-like-bytes}
+use Rattle.segments.proofs.SegmentRowLaws.{segments-take, references-take, symbols-take, bytes_take, masks-take, masks-like-bytes}
 use Rattle.segments.specs.recalled.Recall.{recalled}
-use Rattle.segments.specs.recalled.RecallLaws.{Filled, recalled-all}
+use Rattle.segments.proofs.recalled.RecallLaws.{Filled, recalled-all}
 use Rattle.collect.specs.stored.Stores.{CollectLists}
 use Rattle.collect.specs.Outcome.{counted_in, too_few, collect_zeroed, collect_filled}
 

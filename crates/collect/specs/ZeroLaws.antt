@@ -2,7 +2,7 @@
 use Rattle.std.specs.Prelude.{ℕ, ◌*◌, ◌<◌, ◌≤◌, ◌≡◌, List, [], length}
 use Rattle.std.proofs.Common.{arith}
 use Rattle.module_ids.specs.Noted.{Tells}
-use Rattle.module_ids.specs.ClearLaws.{zeros-tell}
+use Rattle.module_ids.proofs.ClearLaws.{zeros-tell}
 use Rattle.module_index.specs.Indexed.{Blank}
 use Rattle.module_index.specs.IndexedTableLaws.{zeros-blank}
 use Rattle.collect.specs.all_modules.Modules.{Workable}

@@ -16,7 +16,7 @@ use Rattle.lent.specs.Rows.{zeros, padded, cell_of}
 use Rattle.lent.specs.RowLaws.{padded-length, cell-there, cell-lacks, put-there, put-lacks, put-length}
 use Rattle.image.specs.declared.cover.Stretches.{Stretches}
 use Rattle.image.specs.View.{within, view}
-use Rattle.image.specs.ViewLaws.{Inside, Agree}
+use Rattle.image.proofs.ViewLaws.{Inside, Agree}
 use Rattle.image.specs.Cover.{cover_of}
 use Rattle.omf51.specs.File.{modules_in}
 use Rattle.listing_rules.specs.declared.Line.{Line}
@@ -26,10 +26,10 @@ use Rattle.run.specs.declared.Settings.{Settings}
 use Rattle.run.specs.declared.Answer.{Answer}
 use Rattle.run.specs.Run.{library_read, Lent, Outcome, counted, zeroed, filled_with, run_seen, run, number_of, counts_of, asked_of, cover}
 use Rattle.run.specs.Given.{Given, NothingRefused}
-use Rattle.run.specs.Answers.{SameLengths, Sound, yielded}
+use Rattle.run.proofs.Answers.{SameLengths, Sound, yielded}
 use Rattle.run.specs.Own.{Own}
-use Rattle.run.specs.Withheld.{Fit, withholding, same-cover-run, plain-run}
-use Rattle.run.specs.Demands.{memory as run-memory, same-lengths as run-lengths, refused-exactly as run-refused, answered-exactly as run-answered, own_row as run-own-row, stretch-alone as run_alone}
+use Rattle.run.proofs.Withheld.{Fit, withholding, same-cover-run, plain-run}
+use Rattle.run.proofs.Demands.{memory as run-memory, same-lengths as run-lengths, refused-exactly as run-refused, answered-exactly as run-answered, own_row as run-own-row, stretch-alone as run_alone}
 use Rattle.exported.specs.Exported.{Handed, handed, handed_run, counts_in, count_numbers}
 
 -- the contract of `sillmarble_find`: its number, and the counts and the eight lists as it leaves them, are those of the run;

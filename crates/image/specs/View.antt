@@ -19,6 +19,10 @@ stretches_in [] = []
 stretches_in (start ∷ []) = []
 stretches_in (start ∷ len ∷ rest) = record { start = start; len = len } ∷ stretches_in rest
 
+-- the stretch that begins at number i of a list of numbers; numbers past its end are 0
+abbrev pub pair_at : List ℕ → ℕ → Stretch
+pair_at s i = record { start = slice_index s i; len = slice_index s (i + 1) }
+
 -- the cell of a withheld byte
 abbrev pub withheld : ℕ
 withheld = 256

@@ -1,8 +1,7 @@
 // References out of a pattern: their kinds, and the targets to which the bytes of the image lead.
 ghost use Rattle.std.specs.Prelude.{◌≡◌, ◌+◌, ◌<◌, nat_lt};
 ghost use Rattle.image.specs.View.{stretches_in, view, cell_at};
-ghost use Rattle.image.specs.fixup.Target.{signed as signed_of, top_bits, addr16 as addr16Of, reads, leads_to, counted as counted_by, target};
-ghost use Rattle.image.specs.fixup.AddressLaws.{page11};
+ghost use Rattle.image.specs.fixup.Target.{signed as signed_of, top_bits, addr16 as addr16Of, reads, leads_to, counted as counted_by, target, page11};
 
 // The two rule sets: 0, as found, and 1, as documented.
 #[derive(Clone, Copy)]

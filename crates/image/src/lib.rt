@@ -4,10 +4,9 @@
 #![tactic(auto)]
 
 ghost use Rattle.std.specs.Prelude.{◌≡◌, ◌+◌, ◌<◌, ◌≤◌, min, length};
-ghost use Rattle.image.specs.View.{stretches_in, view};
+ghost use Rattle.image.specs.View.{stretches_in, view, pair_at};
 ghost use Rattle.image.specs.Match.{matches_at, part_agrees, Reaches, Agreeing};
 ghost use Rattle.image.specs.Window.{is_beside, is_apart};
-ghost use Rattle.image.specs.WindowLaws.{pair_at};
 ghost use Rattle.image.specs.Next.{next_match};
 
 pub mod cover;

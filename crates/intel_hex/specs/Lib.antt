@@ -5,17 +5,3 @@ pub mod Record
 pub mod Import
 pub mod Export
 pub mod Cells
-pub mod DigitLaws
-pub mod RecordLaws
-pub mod RecordCases
-pub mod CellLaws
-pub mod ImportLaws
-pub mod ExportLaws
-pub mod RoundTripLaws
-pub mod MemoryLaws
-pub mod RoundTrip
-pub mod SameCase
-pub mod Exactly
-pub mod Answers
-pub mod OneOutcome
-pub mod Examples

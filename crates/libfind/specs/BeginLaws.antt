@@ -12,7 +12,7 @@ use Rattle.lent.specs.declared.refusal.Refusal.TheVariants.{RuleSet, OtherEditio
 use Rattle.lent.specs.Choice.{when, or_else, leading}
 use Rattle.lent.specs.FirstOf.{none≢some}
 use Rattle.image.specs.Cover.{passes_end}
-use Rattle.image.specs.CoverLaws.{all_fit}
+use Rattle.image.proofs.CoverLaws.{all_fit}
 use Rattle.omf51.specs.Reader.{ReadOutcome, read, stop, refused}
 use Rattle.omf51.specs.Module.{Module}
 use Rattle.omf51.specs.Record.{edition_of}

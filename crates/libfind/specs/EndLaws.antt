@@ -16,7 +16,7 @@ use Rattle.lent.specs.Refusals.{refusal_number, zeroes}
 use Rattle.lent.specs.RefusalLaws.{same_number, zeroes-late, zeroes-not}
 use Rattle.lent.specs.Rows.{zeros}
 use Rattle.image.specs.Cover.{too_many_stretches, passes_end}
-use Rattle.image.specs.CoverLaws.{all_fit}
+use Rattle.image.proofs.CoverLaws.{all_fit}
 use Rattle.image.specs.fixup.Target.{rules_of}
 use Rattle.omf51.specs.Module.{Module, module_at}
 use Rattle.omf51.specs.Record.{edition_of}
@@ -24,7 +24,7 @@ use Rattle.omf51.specs.File.{file_refusal, modules_in}
 use Rattle.library.specs.Gathered.{items_at as modules_from}
 use Rattle.segments.specs.Collect.{Collected}
 use Rattle.segments.specs.Refuse.{collect_refusal}
-use Rattle.segments.specs.RefuseLaws.{collect-late}
+use Rattle.segments.proofs.RefuseLaws.{collect-late}
 use Rattle.collect.specs.declared.stored.CollectCounts.{CollectCounts as Stored}
 use Rattle.collect.specs.stored.Stores.{CollectLists as Collectable}
 use Rattle.collect.specs.declared.Collection.{Collection}
@@ -34,7 +34,7 @@ use Rattle.run.specs.declared.Settings.{Settings}
 use Rattle.run.specs.declared.Counts.{Counts}
 use Rattle.run.specs.declared.Answer.TheVariants.{Refused}
 use Rattle.run.specs.Run.{Lent, lent_lists, Yield, Outcome, library_read, segments_of, counts_with, other_edition, too_deep, collect_over, refusals, zeroed, outcome_of, run_by, cover}
-use Rattle.run.specs.StageLaws.{reading-stage}
+use Rattle.run.proofs.StageLaws.{reading-stage}
 use Rattle.libfind.specs.Begin.{settings_refusals, settings_refusal, Begun}
 use Rattle.libfind.specs.BeginLaws.{known-edition}
 use Rattle.libfind.specs.Ends.{collectable, findable, all_of, finding_by, Filled}

@@ -14,7 +14,7 @@ use Rattle.listing_rules.specs.Listing.{line_width}
 use Rattle.run.specs.declared.Counts.{Counts}
 use Rattle.run.specs.Run.{Lent, search_over, list_over}
 use Rattle.run.specs.Given.{SearchOver, ListOver}
-use Rattle.run.specs.StageLaws.{over, not-over, search-over}
+use Rattle.run.proofs.StageLaws.{over, not-over, search-over}
 use Rattle.libfind.specs.Ends.{finding_by}
 
 module _ (lent : Lent) (c : Counts) where

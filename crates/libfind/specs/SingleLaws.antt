@@ -12,7 +12,7 @@ use Rattle.lent.specs.Refusals.{zeroes}
 use Rattle.lent.specs.RefusalLaws.{same_number, zeroes-not}
 use Rattle.lent.specs.Rows.{zeros}
 use Rattle.image.specs.View.{view}
-use Rattle.image.specs.ViewLaws.{view-length}
+use Rattle.image.proofs.ViewLaws.{view-length}
 use Rattle.image.specs.fixup.Target.{rules_of}
 use Rattle.omf51.specs.Module.{module_at}
 use Rattle.omf51.specs.File.{file_refusal}
@@ -25,7 +25,7 @@ use Rattle.listing.specs.Outcome.{find_outcome}
 use Rattle.run.specs.declared.Settings.{Settings}
 use Rattle.run.specs.declared.Answer.TheVariants.{Refused}
 use Rattle.run.specs.Run.{Lent, lent_lists, Yield, asked_of, library_read, stages, counted, too_long, run_by, run_seen, run, cover}
-use Rattle.run.specs.StageLaws.{not-less}
+use Rattle.run.proofs.StageLaws.{not-less}
 use Rattle.libfind.specs.Begin.{settings_refusal, Begun}
 use Rattle.libfind.specs.Ends.{collectable, findable, concluded}
 use Rattle.libfind.specs.EndLaws as end

@@ -11,7 +11,7 @@ use Rattle.omf51.specs.Reader.{ReadOutcome, read, stop, refused}
 use Rattle.omf51.specs.Module.{Module}
 use Rattle.omf51.specs.File.{file_by, file_refusal, modules_in}
 use Rattle.omf51.specs.Reaches.{Ends}
-use Rattle.omf51.specs.OnePath.{reading-exactly}
+use Rattle.omf51.proofs.OnePath.{reading-exactly}
 use Rattle.library.specs.declared.Reading.{Reading}
 use Rattle.library.specs.Reading.{first_at, reading_of, reading, reading_number, reading_count}
 

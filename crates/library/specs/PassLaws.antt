@@ -15,7 +15,7 @@ use Rattle.omf51.specs.declared.entry.Entries.{Entries}
 use Rattle.omf51.specs.declared.entry.Entries.TheVariants.{Definitions, Fixups}
 use Rattle.omf51.specs.Reader.{ReadOutcome, read, stop, refused, Reader, and_then, at_least_one}
 use Rattle.omf51.specs.Record.{leaves_over, expected_by, used_up, whole, record_by}
-use Rattle.omf51.specs.RecordLaws.{FrameFits, fits_by, record-framed, used_all}
+use Rattle.omf51.proofs.RecordLaws.{FrameFits, fits_by, record-framed, used_all}
 use Rattle.omf51.specs.Entry.{definition_at, fixup_at}
 use Rattle.omf51.specs.Module.{fixups_by, definitions_by}
 use Rattle.omf51.specs.Expected.{allows}

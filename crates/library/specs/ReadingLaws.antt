@@ -17,7 +17,7 @@ use Rattle.omf51.specs.declared.End.TheVariants.{At, Stop, Refused}
 use Rattle.omf51.specs.declared.Frame.{Frame}
 use Rattle.omf51.specs.Reader.{ReadOutcome, read, stop, refused, and_then, ◌>>=◌, give, many, not_empty}
 use Rattle.omf51.specs.Record.{leaves_over, expected, expected_by, used_up, whole}
-use Rattle.omf51.specs.RecordLaws.{record-framed, used_all, not-allowed, not-expected, read_first}
+use Rattle.omf51.proofs.RecordLaws.{record-framed, used_all, not-allowed, not-expected, read_first}
 use Rattle.omf51.specs.Module.{Module, module_by}
 use Rattle.omf51.specs.File.{modules_by, plain_by, library_by, file_read, file_used, file_by}
 use Rattle.omf51.specs.Expected.{one_type}

@@ -14,9 +14,9 @@ use Rattle.omf51.specs.declared.End.TheVariants.{At, Stop, Refused}
 use Rattle.omf51.specs.declared.entry.Entries.TheVariants.{Fixups}
 use Rattle.omf51.specs.Reader.{ReadOutcome, read, stop, refused, and_then, give, many}
 use Rattle.omf51.specs.Record.{expected_by, whole, record_by}
-use Rattle.omf51.specs.RecordLaws.{record-framed, used_all}
+use Rattle.omf51.proofs.RecordLaws.{record-framed, used_all}
 use Rattle.omf51.specs.Entry.{id_size}
-use Rattle.omf51.specs.EntryLaws.{whole-within, cut-past}
+use Rattle.omf51.proofs.EntryLaws.{whole-within, cut-past}
 use Rattle.omf51.specs.Module.{fills, is_idle, fixups_by, content_body, Section, section_by, sections_by}
 use Rattle.omf51.specs.Ends.{end_of}
 use Rattle.library.specs.RepeatLaws.{Moved, Moves, then-moves, then-stays, many-stays}

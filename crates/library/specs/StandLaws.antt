@@ -12,10 +12,10 @@ use Rattle.omf51.specs.declared.Edition.{Edition}
 use Rattle.omf51.specs.declared.Edition.TheVariants.{One, Two}
 use Rattle.omf51.specs.Reader.{ReadOutcome, read, stop, refused, Reader, and_then, give}
 use Rattle.omf51.specs.Record.{expected, expected_by, record_by}
-use Rattle.omf51.specs.RecordLaws.{not-expected}
+use Rattle.omf51.proofs.RecordLaws.{not-expected}
 use Rattle.omf51.specs.Module.{Module, module_at}
 use Rattle.omf51.specs.File.{plain_by, library_by, file_read, file_by, modules_at, file, file_refusal, modules_in}
-use Rattle.omf51.specs.EditionLaws.{editions-agree}
+use Rattle.omf51.proofs.EditionLaws.{editions-agree}
 use Rattle.omf51.specs.Expected.{one_type}
 use Rattle.library.specs.declared.Reading.{Reading}
 use Rattle.library.specs.declared.Reading.TheVariants.{Modules, Refused}

@@ -16,7 +16,7 @@ use Rattle.listing_rules.specs.declared.Line.{Line}
 use Rattle.listing_rules.specs.declared.Skip.{Skip}
 use Rattle.listing_rules.specs.Listing.{noted_line, best_grade, best, crowded}
 use Rattle.listing_rules.specs.FrontLines.{Extends, LeadsTo}
-use Rattle.listing_rules.specs.FrontLineLaws.{extends-none, leads-first, leads-on, leads-same, leads-last}
+use Rattle.listing_rules.proofs.FrontLineLaws.{extends-none, leads-first, leads-on, leads-same, leads-last}
 use Rattle.listing.specs.position.RowsAt.{Known, stays_at, line_of, noted_at_it}
 use Rattle.listing.specs.position.RowLines.{noted-within}
 use Rattle.listing.specs.position.KnownLaws.{known-within}

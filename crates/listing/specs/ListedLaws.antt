@@ -14,7 +14,7 @@ use Rattle.search.specs.Fills.{Fitted}
 use Rattle.listing_rules.specs.declared.Skip.{Skip}
 use Rattle.listing_rules.specs.Listing.{lines_at, leftovers, listing, line_width, line_numbers}
 use Rattle.listing_rules.specs.FrontLines.{Front, Extends}
-use Rattle.listing_rules.specs.FrontLineLaws.{numbers-length}
+use Rattle.listing_rules.proofs.FrontLineLaws.{numbers-length}
 use Rattle.listing.specs.position.RowsAt.{Known, segments_of}
 use Rattle.listing.specs.Listed.{list_of, Leaves}
 

@@ -1,6 +1,3 @@
 -- Refusals 10 to 13 by what an id leads to.
 pub mod Faults
-pub mod FaultLaws
 pub mod Scan
-pub mod ScanLaws
-pub mod OneOutcome

@@ -1,4 +1,2 @@
 -- What a fixup leaves: a reference or nothing.
 pub mod LeftReference
-pub mod LeftReferenceLaws
-pub mod OneOutcome

@@ -3,8 +3,7 @@ ghost use Rattle.omf51.specs.Module.{sections_at, module_at};
 ghost use Rattle.library.specs.Gathered.{items_at};
 ghost use Rattle.library.specs.items.Left.{fixups_left};
 ghost use Rattle.module_ids.specs.Noted.{Fillable};
-ghost use Rattle.module_ids.specs.fault.Scan.{fixups_fault, section_fault, sections_fault, Says, Scanned};
-ghost use Rattle.module_ids.specs.fault.ScanLaws.{section_with};
+ghost use Rattle.module_ids.specs.fault.Scan.{fixups_fault, section_fault, sections_fault, Says, Scanned, section_with};
 
 use crate::fault::Verdict;
 use crate::fault::one::{content_fault, fixup_fault};

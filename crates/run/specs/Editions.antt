@@ -17,7 +17,7 @@ use Rattle.omf51.specs.declared.Edition.TheVariants.{Two}
 use Rattle.omf51.specs.Reader.{ReadOutcome}
 use Rattle.omf51.specs.Module.{Module}
 use Rattle.omf51.specs.File.{file_by, file, file_refusal, modules_in}
-use Rattle.omf51.specs.EditionLaws.{Stricter, same, wrong, over, file-stricter}
+use Rattle.omf51.proofs.EditionLaws.{Stricter, same, wrong, over, file-stricter}
 use Rattle.segments.specs.Refuse.{collect_refusal}
 use Rattle.run.specs.declared.Settings.{Settings}
 use Rattle.run.specs.Run.{Lent, Yield, Outcome, stages, counted, collect_over, search_over, list_over, too_deep, refusals, outcome_of, run_seen, run, number_of, cover}

@@ -5,13 +5,13 @@ use Rattle.lent.specs.declared.refusal.Refusal.TheVariants.{RuleSet, ImageTooLon
 use Rattle.lent.specs.declared.refusal.Refusal.TheVariants.{UnknownBlock, ContentPastSegment, NoKeptSegment, WrongSum, LeftOver, TooManyStretches, TooDeep, NotBanked, OtherEdition}
 use Rattle.lent.specs.FirstOf.{Quiet, First}
 use Rattle.image.specs.View.{view}
-use Rattle.image.specs.CoverLaws.{SomePasses, AllFit}
+use Rattle.image.proofs.CoverLaws.{SomePasses, AllFit}
 use Rattle.omf51.specs.declared.Edition.{Edition}
 use Rattle.omf51.specs.Record.{edition_of}
 use Rattle.omf51.specs.File.{modules_in}
 use Rattle.omf51.specs.Reaches.{NothingRead, BodyPasses, LengthIsZero, NamesApart, SumIsWrong, LeavesOver, FileRead}
 use Rattle.segments.specs.Refuse.{Test, test_refusal, tests}
-use Rattle.segments.specs.RefuseLaws.{KindAbove, BlockAbove, PastSegment, NowhereKept}
+use Rattle.segments.proofs.RefuseLaws.{KindAbove, BlockAbove, PastSegment, NowhereKept}
 use Rattle.segments.specs.SegmentRows.{segment_width, reference_width, symbol_width}
 use Rattle.search_rules.specs.SearchRows.{placed_width, noted_width}
 use Rattle.listing_rules.specs.Listing.{line_width}

@@ -16,11 +16,11 @@ use Rattle.omf51.specs.Module.{Section, Module}
 use Rattle.segments.specs.declared.Reference.{Reference}
 use Rattle.segments.specs.Ids.{kept, id_of}
 use Rattle.segments.specs.Collect.{Collected, data_of, data_masks, kept_segment, absolute_id, absolute_segment, collect}
-use Rattle.segments.specs.CollectLaws.{Source, Defined, Within}
+use Rattle.segments.proofs.CollectLaws.{Source, Defined, Within}
 use Rattle.search_rules.specs.declared.Asked.{Asked}
 use Rattle.search_rules.specs.Search.{is_valid, target_of, holds_to}
-use Rattle.search_rules.specs.SearchLaws.{Held}
-use Rattle.search_rules.specs.NotedLaws.{NotedBy, NotedAs}
+use Rattle.search_rules.proofs.SearchLaws.{Held}
+use Rattle.search_rules.proofs.NotedLaws.{NotedBy, NotedAs}
 
 -- why a match of a segment at a position counts for a name at an address: the segment is one of those collected; at a depth
 -- above 0 each of its references holds, those to segments by matches that hold to one depth less; and the match is valid, or

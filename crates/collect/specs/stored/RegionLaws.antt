@@ -11,7 +11,7 @@ use Rattle.lent.specs.Lists.{fold}
 use Rattle.lent.specs.Rows.{zeros}
 use Rattle.omf51.specs.Module.{Section}
 use Rattle.segments.specs.Masks.{ored, merged, filled}
-use Rattle.segments.specs.MaskLaws.{merged-length, filled-length}
+use Rattle.segments.proofs.MaskLaws.{merged-length, filled-length}
 use Rattle.segment_parts.specs.merge.MergedAt.{merged_at}
 use Rattle.segment_parts.specs.merge.MergeLaws.{merged-region}
 use Rattle.segment_parts.specs.Patterns.{merged_one, merged_all}

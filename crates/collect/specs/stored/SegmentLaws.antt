@@ -20,7 +20,7 @@ use Rattle.omf51.specs.Module.{Section, Module}
 use Rattle.segments.specs.Ids.{size_of, id_of}
 use Rattle.segments.specs.Collect.{leaves, references_of, symbol_of, symbols_of, kept_segment, absolute_id, inside_of, symbol_base, absolute_segment}
 use Rattle.module_index.specs.gather.Places.{public_key, is_public_definition}
-use Rattle.module_ids.specs.reference.LeftReferenceLaws.{leaves-by-row}
+use Rattle.module_ids.proofs.reference.LeftReferenceLaws.{leaves-by-row}
 use Rattle.segment_parts.specs.declared.carried.Carried.{Carried}
 use Rattle.segment_parts.specs.declared.carried.Carried.TheVariants.{All, Inside}
 use Rattle.segment_parts.specs.AddedReferences.{leaves_in, section_leaves}

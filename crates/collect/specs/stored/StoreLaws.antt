@@ -14,7 +14,7 @@ use Rattle.segments.specs.declared.SegmentRow.{SegmentRow}
 use Rattle.segments.specs.Collect.{Collected}
 use Rattle.segments.specs.SegmentRows.{following, segment_rows_from, segment_rows, no_row, pattern_bytes, pattern_masks}
 use Rattle.segments.specs.SegmentLayouts.{segment_layout, reference_layout, symbol_layout}
-use Rattle.segments.specs.SegmentLayoutLaws.{segment-width}
+use Rattle.segments.proofs.SegmentLayoutLaws.{segment-width}
 use Rattle.collect.specs.declared.stored.CollectCounts.{CollectCounts}
 use Rattle.collect.specs.declared.stored.Stored.{Stored}
 use Rattle.collect.specs.stored.Rows.{filled_to, since, row_of, stored_to, finished, finished_in}

@@ -1,5 +1,5 @@
 use Rattle.std.proofs.Common.{true, false, sym, ◌∙◌, arith}
-use Rattle.image.specs.WindowLaws.{first-turn, no-pair}
+use Rattle.image.proofs.WindowLaws.{first-turn, no-pair}
 use Rattle.image.proofs.+apart_from_all.Goals as goal
 
 pub returns-then-s-lt2 : goal.returns-then-s-lt2

@@ -1,6 +1,6 @@
 -- `is_apart`: without a pair nothing is asked. Assumes nothing.
 use Rattle.std.proofs.Common.{sym, rules}
-use Rattle.image.specs.WindowLaws.{no-pair}
+use Rattle.image.proofs.WindowLaws.{no-pair}
 use Rattle.image.proofs.is_apart.Goals as goal
 
 pub returns-then-s-lt2 : goal.returns-then-s-lt2

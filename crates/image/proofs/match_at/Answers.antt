@@ -2,7 +2,7 @@
 use Rattle.std.proofs.Common.{◌&&◌, length, sym, ap, ◌∙◌, rules}
 use Rattle.image.specs.View.{stretches_in}
 use Rattle.image.specs.Window.{is_apart}
-use Rattle.image.specs.ViewMatchLaws.{seen-both}
+use Rattle.image.proofs.ViewMatchLaws.{seen-both}
 use Rattle.image.proofs.match_at.Goals as goal
 
 pub returns-then-stands_at : goal.returns-then-stands_at

@@ -1,8 +1,8 @@
 use Rattle.std.proofs.Common.{◌≡◌, ℕ, ◌+◌, ◌-◌, List, length, sym, refl, ◌∙◌, arith, rules}
 use Rattle.image.specs.View.{stretches_in, view}
-use Rattle.image.specs.ViewLaws.{view-length}
+use Rattle.image.proofs.ViewLaws.{view-length}
 use Rattle.image.specs.Next.{next_match}
-use Rattle.image.specs.NextLaws.{next-match, next-other, next_past}
+use Rattle.image.proofs.NextLaws.{next-match, next-other, next_past}
 use Rattle.image.proofs.next_match.Goals as goal
 
 pub returns-then-image-bytes : goal.returns-then-image-bytes

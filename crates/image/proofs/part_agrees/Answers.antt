@@ -1,6 +1,6 @@
 use Rattle.std.proofs.Common.{◌≡◌, ℕ, ◌+◌, ◌-◌, ◌≤◌, eqb, List, sym, arith, rules}
 use Rattle.image.specs.Match.{part_agrees}
-use Rattle.image.specs.MatchLaws.{part_none, part-turn}
+use Rattle.image.proofs.MatchLaws.{part_none, part-turn}
 use Rattle.image.proofs.part_agrees.Goals as goal
 
 pub loop-j-init : goal.loop-j-init

@@ -1,7 +1,7 @@
 use Rattle.std.proofs.Common.{◌≡◌, ℕ, ◌+◌, ◌-◌, List, sym, ◌∙◌, arith, rules}
 use borrow.Author.Tests.{not-false}
 use Rattle.image.specs.Match.{Agreeing}
-use Rattle.image.specs.MatchLaws.{none-agreeing, part-fewer, part-joins}
+use Rattle.image.proofs.MatchLaws.{none-agreeing, part-fewer, part-joins}
 use Rattle.image.proofs.parts_agreeing.Goals as goal
 
 pub loop-i-init : goal.loop-i-init

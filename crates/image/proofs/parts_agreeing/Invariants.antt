@@ -2,7 +2,7 @@
 use Rattle.std.proofs.Common.{◌≡◌, ℕ, ◌+◌, ◌-◌, List, sym, ◌∙◌, arith, rules}
 use borrow.Author.Tests.{not-false}
 use Rattle.image.specs.Match.{Agreeing}
-use Rattle.image.specs.MatchLaws.{none-agreeing, part-fewer, part-joins}
+use Rattle.image.proofs.MatchLaws.{none-agreeing, part-fewer, part-joins}
 use Rattle.image.proofs.parts_agreeing.Given as goal
 
 pub record Inv (image bytes masks : List ℕ) (at n last i : ℕ) : Type 0 where

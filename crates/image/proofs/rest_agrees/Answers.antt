@@ -1,6 +1,6 @@
 use Rattle.std.proofs.Common.{◌≡◌, ◌+◌, ◌-◌, sym, arith, rules}
 use Rattle.image.specs.Match.{Agreeing}
-use Rattle.image.specs.MatchLaws.{part-next, part-fails}
+use Rattle.image.proofs.MatchLaws.{part-next, part-fails}
 use Rattle.image.proofs.rest_agrees.Goals as goal
 
 pub loop-i-init : goal.loop-i-init

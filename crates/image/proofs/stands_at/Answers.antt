@@ -1,7 +1,7 @@
 -- `stands_at` asks for all that has a mask, at once or after the first bytes. Assumes nothing.
 use Rattle.std.proofs.Common.{sym, ◌∙◌, arith, rules}
 use borrow.Author.Tests.{not-true}
-use Rattle.image.specs.MatchLaws.{none-agreeing, match-past, part-within, part-whole}
+use Rattle.image.proofs.MatchLaws.{none-agreeing, match-past, part-within, part-whole}
 use Rattle.image.proofs.stands_at.Goals as goal
 
 pub returns-then-image-at : goal.returns-then-image-at

@@ -22,6 +22,10 @@ kind_number Relative = 2
 kind_number Word = 4
 kind_number Inblock = 5
 
+-- an address of 11 bits within the page of the place after the instruction, kept to 16 bits
+abbrev pub page11 : ℕ → ℕ → ℕ → ℕ
+page11 next top b = (next / 2048 * 2048 + 256 * top + b) % 65536
+
 -- the kind of a number; fixups of other numbers leave no reference
 abbrev pub kind_of : ℕ → Option Kind
 kind_of n =

@@ -16,7 +16,7 @@ use Rattle.omf51.specs.declared.Content.{Content}
 use Rattle.omf51.specs.declared.Fixup.{Fixup}
 use Rattle.omf51.specs.Reader.{ReadOutcome, read, stop, refused, and_then, give, many}
 use Rattle.omf51.specs.Record.{expected, expected_by, whole, record_by, record_of}
-use Rattle.omf51.specs.RecordLaws.{record-framed, not-expected, first-expected}
+use Rattle.omf51.proofs.RecordLaws.{record-framed, not-expected, first-expected}
 use Rattle.omf51.specs.Entry.{ending, id_size}
 use Rattle.omf51.specs.Module.{fills, is_idle, content_body, Section, section_by, sections_by, fixups_at, section_at, sections_at}
 use Rattle.omf51.specs.Ends.{end_of}

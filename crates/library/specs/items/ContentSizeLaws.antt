@@ -10,7 +10,7 @@ use Rattle.omf51.specs.declared.Frame.{Frame}
 use Rattle.omf51.specs.declared.Content.{Content}
 use Rattle.omf51.specs.Reader.{ReadOutcome, read, stop, refused, many}
 use Rattle.omf51.specs.Record.{expected}
-use Rattle.omf51.specs.RecordLaws.{Framed, cut, empty, past, unclosed, whole, framed, not-expected, read_fits, first-expected}
+use Rattle.omf51.proofs.RecordLaws.{Framed, cut, empty, past, unclosed, whole, framed, not-expected, read_fits, first-expected}
 use Rattle.omf51.specs.Module.{fills, fixups_at, sections_at}
 use Rattle.omf51.specs.Ends.{end_of}
 use Rattle.library.specs.RepeatLaws.{Stayed, many-stays}

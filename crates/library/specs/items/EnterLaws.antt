@@ -10,7 +10,7 @@ use Rattle.omf51.specs.declared.Frame.{Frame}
 use Rattle.omf51.specs.declared.End.TheVariants.{At, Stop, Refused}
 use Rattle.omf51.specs.Reader.{ReadOutcome, read, stop, refused, Reader, and_then, at_least_one}
 use Rattle.omf51.specs.Record.{expected, expected_by, whole, record_by, record_of}
-use Rattle.omf51.specs.RecordLaws.{Fits, FrameFits, expected-fits}
+use Rattle.omf51.proofs.RecordLaws.{Fits, FrameFits, expected-fits}
 use Rattle.omf51.specs.Ends.{end_of}
 use Rattle.library.specs.Gathered.{items_at}
 use Rattle.library.specs.RepeatLaws.{items-turn, least-items}

@@ -21,7 +21,7 @@ use Rattle.segments.specs.recalled.Recall.{recalled_by, recalled_at, recalled}
 use Rattle.search_rules.specs.declared.Asked.{Asked}
 use Rattle.search_rules.specs.Search.{Placing, Noting, note_at, notes, is_valid, target_of, is_placed, is_noted}
 use Rattle.search_rules.specs.SearchRows.{placed_sheet, noted_sheet}
-use Rattle.search_rules.specs.FindableLaws.{placed-reads, noted-reads}
+use Rattle.search_rules.proofs.FindableLaws.{placed-reads, noted-reads}
 use Rattle.listing_rules.specs.Listing.{no_segment, borne_out, grade}
 use Rattle.listing.specs.grade.Grades.{is_found, asks_of, bears_out, references_of, grade_by, is_borne, row_grade}
 use Rattle.search.specs.Fills.{Sought}

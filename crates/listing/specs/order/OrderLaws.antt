@@ -6,7 +6,7 @@ use Rattle.lent.specs.Members.{◌among◌}
 use Rattle.lent.specs.Parts.{bytes_of, before}
 use Rattle.listing_rules.specs.declared.Line.{Line}
 use Rattle.listing.specs.order.InOrder.{Strict, Comparable, Rising}
-use Rattle.listing_rules.specs.NameOrderLaws.{before-never, before-through, before-neither}
+use Rattle.listing_rules.proofs.NameOrderLaws.{before-never, before-through, before-neither}
 use Rattle.listing.specs.order.InsertLaws.{every-mine, turned}
 use Rattle.listing.specs.order.InOrderLaws.{in_order}
 use Rattle.listing.specs.order.Order.{by_name, Apart}

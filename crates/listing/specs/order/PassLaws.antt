@@ -9,7 +9,7 @@ use Rattle.lent.specs.Lists.{sorted}
 use Rattle.lent.specs.ListLaws.{rows-length}
 use Rattle.lent.specs.Members.{◌among◌}
 use Rattle.listing_rules.specs.Listing.{line_width, line_cells, line_numbers}
-use Rattle.listing_rules.specs.LineLayoutLaws.{line-width}
+use Rattle.listing_rules.proofs.LineLayoutLaws.{line-width}
 use Rattle.listing.specs.order.InOrder.{Rising}
 use Rattle.listing.specs.order.InsertLaws.{every-mine}
 use Rattle.listing.specs.order.InOrderLaws.{in_order}

@@ -16,7 +16,7 @@ use Rattle.lent.specs.RowLaws.{cell-there, cell-past, put-there, Wide, Back}
 use Rattle.listing_rules.specs.declared.Line.{Line}
 use Rattle.listing_rules.specs.Listing.{line_width, line_cells, line_numbers}
 use Rattle.listing_rules.specs.LineLayout.{line_layout, line_at}
-use Rattle.listing_rules.specs.LineLayoutLaws.{line-width, line-back}
+use Rattle.listing_rules.proofs.LineLayoutLaws.{line-width, line-back}
 use Rattle.listing.specs.order.Order.{Region, memory}
 use Rattle.listing.specs.order.Passes.{no_line, placed}
 

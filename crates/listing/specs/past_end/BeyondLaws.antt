@@ -14,12 +14,12 @@ use Rattle.tables.specs.by_name.Tables.{table, Tabled}
 use Rattle.tables.specs.by_name.TableLaws.{table-row}
 use Rattle.search_rules.specs.Search.{Noting}
 use Rattle.search_rules.specs.SearchRows.{noted_sheet}
-use Rattle.search_rules.specs.FindableLaws.{noted-reads}
+use Rattle.search_rules.proofs.FindableLaws.{noted-reads}
 use Rattle.listing_rules.specs.declared.Skip.{Skip}
 use Rattle.listing_rules.specs.declared.Line.{Line}
 use Rattle.listing_rules.specs.Listing.{noted_line, crowded, is_leftover, leftovers}
 use Rattle.listing_rules.specs.FrontLines.{LeadsTo}
-use Rattle.listing_rules.specs.FrontLineLaws.{leads-first, leads-on, leads-same, leads-last, leads-over}
+use Rattle.listing_rules.proofs.FrontLineLaws.{leads-first, leads-on, leads-same, leads-last, leads-over}
 use Rattle.listing.specs.past_end.SortLaws.{keep_same, keep-none, by_key, at, ordered, ordered-turn, ordered-skip, ordered-none}
 use Rattle.listing.specs.past_end.Beyond.{target_at, sought, lines_of, spanned, NonePast, NoneBefore, ListsSpan, ListsBeyond}
 use Rattle.listing.specs.past_end.BucketLaws.{no_noting}

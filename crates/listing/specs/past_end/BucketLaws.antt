@@ -10,7 +10,7 @@ use Rattle.search_rules.specs.declared.Noted.{Noted}
 use Rattle.search_rules.specs.Search.{Noting}
 use Rattle.search_rules.specs.SearchRows.{noted_sheet}
 use Rattle.search_rules.specs.SearchLayouts.{noted_at}
-use Rattle.search_rules.specs.FindableLaws.{noted-reads}
+use Rattle.search_rules.proofs.FindableLaws.{noted-reads}
 use Rattle.listing.specs.past_end.Beyond.{noting_of, sought, Onward, HeadedBy}
 
 -- what a row's number gives where there is no row

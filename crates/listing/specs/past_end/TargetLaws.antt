@@ -15,7 +15,7 @@ use Rattle.listing_rules.specs.declared.Skip.{Skip}
 use Rattle.listing_rules.specs.declared.Line.{Line}
 use Rattle.listing_rules.specs.Listing.{noted_line, crowded, line_width}
 use Rattle.listing_rules.specs.FrontLines.{Front, Extends, LeadsTo}
-use Rattle.listing_rules.specs.FrontLineLaws.{extends-none, extends-over, leads-on}
+use Rattle.listing_rules.proofs.FrontLineLaws.{extends-none, extends-over, leads-on}
 use Rattle.listing.specs.past_end.Beyond.{sought, lines_of, spanned, NotedBy, HeadedBy, Counts, Wrote, WritesAll, ListsBucket, ListsTarget, ListsSpan}
 use Rattle.listing.specs.past_end.BucketLaws.{first-none}
 use Rattle.listing.specs.past_end.WriteLaws.{front-more}

@@ -13,7 +13,7 @@ use Rattle.lent.specs.RowLaws.{put-there}
 use Rattle.listing_rules.specs.declared.Line.{Line}
 use Rattle.listing_rules.specs.Listing.{line_width, line_cells, line_numbers}
 use Rattle.listing_rules.specs.FrontLines.{Fronts}
-use Rattle.listing_rules.specs.FrontLineLaws.{numbers-length}
+use Rattle.listing_rules.proofs.FrontLineLaws.{numbers-length}
 use Rattle.listing.specs.past_end.Beyond.{Wrote}
 
 -- none yet

@@ -11,7 +11,7 @@ use Rattle.lent.specs.RowLaws.{put-lacks, put-length}
 use Rattle.listing_rules.specs.declared.Line.{Line}
 use Rattle.listing_rules.specs.Listing.{best_grade, best, line_width, line_cells}
 use Rattle.listing_rules.specs.FrontLines.{Fronts}
-use Rattle.listing_rules.specs.FrontLineLaws.{put_front, put_next}
+use Rattle.listing_rules.proofs.FrontLineLaws.{put_front, put_next}
 use Rattle.listing.specs.declared.position.Best.{Best}
 use Rattle.listing.specs.position.Bests.{Region, Bests}
 

@@ -12,7 +12,7 @@ use Rattle.listing_rules.specs.declared.Line.{Line}
 use Rattle.listing_rules.specs.declared.Skip.{Skip}
 use Rattle.listing_rules.specs.Listing.{noted_line, best, crowded, graded_at, lines_at, line_width, line_numbers}
 use Rattle.listing_rules.specs.FrontLines.{Fronts, Front}
-use Rattle.listing_rules.specs.FrontLineLaws.{numbers-length}
+use Rattle.listing_rules.proofs.FrontLineLaws.{numbers-length}
 use Rattle.listing.specs.order.Order.{by_name, Apart, Region, Orders}
 use Rattle.listing.specs.order.OrderLaws.{sorted-reverse}
 use Rattle.listing.specs.declared.position.Best.{Best}

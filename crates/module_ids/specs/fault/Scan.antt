@@ -3,6 +3,7 @@ use Rattle.std.specs.Prelude.{ℕ, ◌≡◌, List, [], map}
 use Rattle.std.proofs.Math.Option.{Option}
 use Rattle.lent.specs.declared.refusal.Refusal.{Refusal}
 use Rattle.lent.specs.Choice.{or_else, leading}
+use Rattle.omf51.specs.declared.Content.{Content}
 use Rattle.omf51.specs.declared.Definition.{Definition}
 use Rattle.omf51.specs.declared.Fixup.{Fixup}
 use Rattle.omf51.specs.Module.{Section, Module}
@@ -23,6 +24,10 @@ section_fault definitions s = or_else (fixups_fault definitions s.fixups) (conte
 
 abbrev pub sections_fault : List Definition → List Section → Option Refusal
 sections_fault definitions sections = leading (map (section_fault definitions) sections)
+
+-- a content with its fixups
+abbrev pub section_with : Content → List Fixup → Section
+section_with content fixups = record { content = content; fixups = fixups }
 
 -- a verdict on what a table tells of
 abbrev pub Says : (List Definition → Option Refusal) → List ℕ → Verdict → Type 0

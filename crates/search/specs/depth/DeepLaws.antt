@@ -24,8 +24,8 @@ use Rattle.search_rules.specs.declared.Why.TheVariants as Why
 use Rattle.search_rules.specs.declared.Failed.{Failed}
 use Rattle.search_rules.specs.declared.Failed.TheVariants as Failed
 use Rattle.search_rules.specs.Search.{no_segment, segment_of, positions_of, leads, holds_to, failure, failed, failed_from, failed_to}
-use Rattle.search_rules.specs.FailedLaws.{is_nothing, holds-exactly}
-use Rattle.search_rules.specs.DepthLaws.{holds-every-less}
+use Rattle.search_rules.proofs.FailedLaws.{is_nothing, holds-exactly}
+use Rattle.search_rules.proofs.DepthLaws.{holds-every-less}
 use Rattle.search.specs.targets.Seats.{IsMatch}
 use Rattle.search.specs.failed.Failures.{FailsBy, FirstToFail}
 use Rattle.search.specs.depth.Depths.{why_to, among, HoldsSo, FailsAt, FailsAmong, Refers, Carries, FailsTo, KeepsOut}

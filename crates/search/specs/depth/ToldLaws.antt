@@ -10,7 +10,7 @@ use Rattle.image.specs.declared.fixup.Rules.{Rules}
 use Rattle.segments.specs.declared.SegmentNumber.{SegmentNumber}
 use Rattle.segments.specs.Collect.{Collected}
 use Rattle.search_rules.specs.Search.{segment_of, holds_to}
-use Rattle.search_rules.specs.DepthLaws.{holds-every-less}
+use Rattle.search_rules.proofs.DepthLaws.{holds-every-less}
 use Rattle.search.specs.declared.told.Recalled.TheVariants as Recalled
 use Rattle.search.specs.told.Answers.{answer_of, recall_of, remembered}
 use Rattle.search.specs.told.AnswerLaws.{its-number, its-depth, its-answer, Of, recalled-answer, after_one}

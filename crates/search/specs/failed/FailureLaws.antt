@@ -19,7 +19,7 @@ use Rattle.search_rules.specs.declared.Why.TheVariants as Why
 use Rattle.search_rules.specs.declared.Failed.{Failed}
 use Rattle.search_rules.specs.declared.Failed.TheVariants as Failed
 use Rattle.search_rules.specs.Search.{leads, failure, failed, failed_from}
-use Rattle.search_rules.specs.FailedLaws.{is_nothing}
+use Rattle.search_rules.proofs.FailedLaws.{is_nothing}
 use Rattle.search.specs.targets.Seats.{IsMatch}
 use Rattle.search.specs.failed.Failures.{at_once, why_of, FailsBy}
 

@@ -9,11 +9,11 @@ use Rattle.std.specs.Int.Bits.{xor_add_and}
 use Rattle.lent.specs.ChoiceLaws.{same_test}
 use Rattle.image.specs.declared.Stretch.{Stretch}
 use Rattle.image.specs.View.{view, cell_at, is_byte}
-use Rattle.image.specs.ViewLaws.{view-length}
+use Rattle.image.proofs.ViewLaws.{view-length}
 use Rattle.image.specs.Match.{agrees, matches_at}
-use Rattle.image.specs.MatchLaws.{matches-at, matches-seen}
+use Rattle.image.proofs.MatchLaws.{matches-at, matches-seen}
 use Rattle.image.specs.Next.{matches_from}
-use Rattle.image.specs.NextLaws.{from-other, from_past}
+use Rattle.image.proofs.NextLaws.{from-other, from_past}
 use Rattle.tables.specs.links.FirstLaws.{first-none, first-hit, first-miss}
 use Rattle.tables.specs.links.Index.{key_at, link_from}
 use Rattle.search.specs.byte_index.Anchor.{Anchor}

@@ -10,11 +10,11 @@ use Rattle.image.specs.declared.FirstPlace.TheVariants.{At as FoundAt, Nothing}
 use Rattle.image.specs.declared.Seat.TheVariants.{Anywhere, Only}
 use Rattle.image.specs.declared.Stretch.{Stretch}
 use Rattle.image.specs.View.{view}
-use Rattle.image.specs.ViewLaws.{view-length}
+use Rattle.image.proofs.ViewLaws.{view-length}
 use Rattle.image.specs.Match.{matches_at, matches}
-use Rattle.image.specs.MatchLaws.{matches-at}
+use Rattle.image.proofs.MatchLaws.{matches-at}
 use Rattle.image.specs.Next.{matches_from, next_match}
-use Rattle.image.specs.NextLaws.{matches-from-0, from-match, from-other, from_past, next-match, next-other, next_past}
+use Rattle.image.proofs.NextLaws.{matches-from-0, from-match, from-other, from_past, next-match, next-other, next_past}
 use Rattle.tables.specs.links.Index.{link_from}
 use Rattle.search.specs.declared.matches.MatchCursor.{MatchCursor}
 use Rattle.search.specs.declared.matches.MatchCursor.TheVariants.{Along, Plain, Once, Over}

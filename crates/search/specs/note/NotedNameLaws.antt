@@ -19,7 +19,7 @@ use Rattle.tables.specs.by_name.TakeLaws.{takes_one}
 use Rattle.search_rules.specs.Search.{Noting, notes_it, is_noted, also_noted, note}
 use Rattle.search_rules.specs.SearchRows.{noted_sheet, noted_cells}
 use Rattle.search_rules.specs.SearchLayouts.{noted_at}
-use Rattle.search_rules.specs.FindableLaws.{noted-reads}
+use Rattle.search_rules.proofs.FindableLaws.{noted-reads}
 use Rattle.search.specs.note.NotedNames.{validated}
 
 module _ (library : List ℕ) (new : Noting) where

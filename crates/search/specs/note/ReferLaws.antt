@@ -23,7 +23,7 @@ use Rattle.search_rules.specs.declared.Failed.{Failed}
 use Rattle.search_rules.specs.declared.Failed.TheVariants as Failed
 use Rattle.search_rules.specs.Search.{leads, failed, failed_from, note_at, note}
 use Rattle.search_rules.specs.SearchRows.{noted_sheet}
-use Rattle.search_rules.specs.FailedLaws.{is_nothing}
+use Rattle.search_rules.proofs.FailedLaws.{is_nothing}
 use Rattle.search.specs.failed.Failures.{why_of, FailsBy}
 use Rattle.search.specs.failed.FailureLaws.{fails-led, or_else, goes_on, all_asked}
 use Rattle.search.specs.note.NotedNames.{NotesOne, NotesAt, notes_of, Refers}

@@ -17,11 +17,11 @@ use Rattle.image.specs.declared.fixup.Rules.{Rules}
 use Rattle.image.specs.declared.fixup.Kind.{Kind}
 use Rattle.image.specs.declared.fixup.Target.TheVariants.{PastEnd}
 use Rattle.image.specs.fixup.Target.{target}
-use Rattle.image.specs.fixup.TargetLaws.{target_past}
+use Rattle.image.proofs.fixup.TargetLaws.{target_past}
 use Rattle.image.specs.declared.Seat.{Seat}
 use Rattle.image.specs.declared.Seat.TheVariants.{Anywhere, Only}
 use Rattle.image.specs.Match.{matches_at, tried, matches}
-use Rattle.image.specs.NextLaws.{all-places}
+use Rattle.image.proofs.NextLaws.{all-places}
 use Rattle.segments.specs.declared.SegmentNumber.{SegmentNumber}
 use Rattle.segments.specs.declared.SegmentRow.{SegmentRow}
 use Rattle.segments.specs.SegmentLayouts.{segment_row_at}

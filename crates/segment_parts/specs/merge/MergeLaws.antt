@@ -5,7 +5,7 @@ use Rattle.std.proofs.Math.Nat.{add-sub_cancel_left}
 use Rattle.std.proofs.lemmas.Bool.{lt-leb}
 use Rattle.lent.specs.ChoiceLaws.{chosen}
 use Rattle.segments.specs.Masks.{ored, merged}
-use Rattle.segments.specs.MaskLaws.{merged-length}
+use Rattle.segments.proofs.MaskLaws.{merged-length}
 use Rattle.segment_parts.specs.merge.MergedAt.{merged_at}
 
 -- a pattern's part from an offset to its end: what was ORed into it is merged into the whole

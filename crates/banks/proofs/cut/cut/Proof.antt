@@ -1,7 +1,7 @@
 -- `cut`: the pairs are cut, and all else is as it was. Assumes nothing.
 use mathlib.Core.Path.{ap}
 use borrow.Author.Rules.{rules}
-use Rattle.run.specs.Withheld.{withholding}
+use Rattle.run.proofs.Withheld.{withholding}
 use Rattle.banks.proofs.cut.cut.Statement.{statement}
 use Rattle.banks.proofs.cut.cut.Tie as tie
 

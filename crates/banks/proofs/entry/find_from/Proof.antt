@@ -10,7 +10,7 @@ use Rattle.collect.specs.stored.Stores.{CollectLists}
 use Rattle.collect.specs.stored.Segments.{lists}
 use Rattle.collect.specs.Outcome.{CollectOutcome, collection}
 use Rattle.run.specs.Run.{Lent, lent_lists, cover}
-use Rattle.run.specs.Answers.{SameLengths}
+use Rattle.run.proofs.Answers.{SameLengths}
 use Rattle.libfind.specs.Ends.{collectable, Filled}
 use Rattle.bank_rules.specs.Banks.{banks_in}
 use Rattle.banks.specs.Turns.{board_by}

@@ -5,11 +5,11 @@ use mathlib.Core.List.{List}
 use native.Mathlib.Omega.{arith}
 use lib.ListN.{length, set}
 use Rattle.image.specs.View.{view}
-use Rattle.image.specs.ViewLaws.{view-length}
+use Rattle.image.proofs.ViewLaws.{view-length}
 use Rattle.run.specs.declared.Answer.{Answer}
 use Rattle.run.specs.Run.{Lent, lent_lists, cover}
-use Rattle.run.specs.Answers.{SameLengths}
-use Rattle.bank_rules.specs.CutLaws.{Has}
+use Rattle.run.proofs.Answers.{SameLengths}
+use Rattle.bank_rules.proofs.CutLaws.{Has}
 use Rattle.banks.specs.Turns.{with_lines, FindsView, joined_counts, no_banks}
 use Rattle.banks.specs.BoardLaws.{Shown, shown-starts, shown-room, shown-on, shown-stops, shown-ends}
 use borrow.Author.Rules.{rules}

@@ -4,7 +4,7 @@ use Rattle.omf51.specs.Module.{module_at}
 use Rattle.library.specs.Gathered.{items_at}
 use Rattle.segments.specs.Collect.{collect}
 use Rattle.segments.specs.Refuse.{collect_refusal}
-use Rattle.module_ids.specs.fault.ScanLaws.{told}
+use Rattle.module_ids.proofs.fault.ScanLaws.{told}
 use Rattle.collect.specs.stored.Stores.{After}
 use Rattle.collect.specs.stored.Segments.{lists}
 use Rattle.collect.specs.EndLaws.{done-is, lacks-is, refused-is}

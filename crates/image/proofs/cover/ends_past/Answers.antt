@@ -1,6 +1,6 @@
 -- `ends_past`: the sum is never made. Assumes nothing.
 use Rattle.std.proofs.Common.{◌+◌, sym, arith, lt-ltb}
-use Rattle.image.specs.CoverLaws.{past_end}
+use Rattle.image.proofs.CoverLaws.{past_end}
 use Rattle.image.proofs.cover.ends_past.Goals as goal
 
 pub returns-then-len-s : goal.returns-then-len-s

@@ -1,7 +1,7 @@
 use Rattle.std.proofs.Common.{◌≡◌, ℕ, ◌+◌, ◌-◌, ◌≤◌, List, length, drop, sym, ap, ◌∙◌, arith, rules}
 use Rattle.image.specs.declared.cover.Stretches.{Stretches}
 use Rattle.image.specs.Cover.{no_stretches, gathered}
-use Rattle.image.specs.CoverLaws.{gathered-turn, gathered-last, gathered-end}
+use Rattle.image.proofs.CoverLaws.{gathered-turn, gathered-last, gathered-end}
 use Rattle.image.proofs.cover.gather.Goals as goal
 
 pub loop-i-init : goal.loop-i-init

@@ -2,7 +2,7 @@
 use Rattle.std.proofs.Common.{◌≡◌, ℕ, ◌+◌, ◌-◌, ◌≤◌, true, false, List, length, drop, sym, refl, ap, ◌∙◌, arith, rules}
 use Rattle.image.specs.View.{stretches_in}
 use Rattle.image.specs.Cover.{ends_past, passes_end}
-use Rattle.image.specs.CoverLaws.{ends-turn, ends-none}
+use Rattle.image.proofs.CoverLaws.{ends-turn, ends-none}
 use Rattle.image.proofs.cover.passes_end.Given as goal
 
 pub record Inv (s : List ℕ) (len i : ℕ) : Type 0 where

@@ -1,7 +1,7 @@
 -- `addr11` joins bits that do not overlap. Assumes nothing.
 use Rattle.std.proofs.Common.{arith, rules}
 use Rattle.image.specs.fixup.Target.{top_bits}
-use Rattle.image.specs.fixup.AddressLaws.{top_small, joined11}
+use Rattle.image.proofs.fixup.AddressLaws.{top_small, joined11}
 use Rattle.image.proofs.fixup.addr11.Goals as goal
 
 pub returns : goal.returns

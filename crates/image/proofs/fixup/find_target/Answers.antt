@@ -3,8 +3,8 @@ use Rattle.std.proofs.Common.{◌≡◌, ◌+◌, ◌<◌, ◌≤◌, true, fals
 use Rattle.image.specs.View.{stretches_in}
 use Rattle.image.specs.Window.{is_apart}
 use Rattle.image.specs.fixup.Target.{reads}
-use Rattle.image.specs.fixup.TargetLaws.{Bytes, target_past, target-withheld}
-use Rattle.image.specs.fixup.AddressLaws.{reads-some, target_at}
+use Rattle.image.proofs.fixup.TargetLaws.{Bytes, target_past, target-withheld}
+use Rattle.image.proofs.fixup.AddressLaws.{reads-some, target_at}
 use Rattle.image.specs.declared.fixup.Target.TheVariants.{At}
 use borrow.Author.Tests.{not-true, not-false}
 use Rattle.image.proofs.fixup.find_target.Goals as goal

@@ -1,6 +1,6 @@
 -- `signed` by its two cases. Assumes nothing.
 use Rattle.std.proofs.Common.{◌+◌, sym, ap, ◌∙◌, rules}
-use Rattle.image.specs.fixup.AddressLaws.{signed_low, signed_high}
+use Rattle.image.proofs.fixup.AddressLaws.{signed_low, signed_high}
 use Rattle.image.proofs.fixup.signed.Goals as goal
 
 pub returns-then-a-lt128 : goal.returns-then-a-lt128

@@ -2,7 +2,7 @@
 use native.Mathlib.Omega.{arith}
 use borrow.Author.Tests.{lt-ltb, le-ltb}
 use lib.Bits.{or_add_and}
-use Rattle.intel_hex.specs.DigitLaws.{figure, letter, value-by}
+use Rattle.intel_hex.proofs.DigitLaws.{figure, letter, value-by}
 use borrow.Author.Rules.{rules}
 use Rattle.intel_hex.proofs.digits.value.Goals as goal
 

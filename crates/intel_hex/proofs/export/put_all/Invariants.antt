@@ -7,7 +7,7 @@ use borrow.Author.Rules.{rules}
 use lib.ListN.{length, take, drop}
 use lib.Seq.{sets}
 use Rattle.intel_hex.specs.Export.{records, text_of, record_line}
-use Rattle.intel_hex.specs.ExportLaws.{lines_from, end_line, line-length, part_length, part-is, lines_more, lines-all, lines_none, room-more}
+use Rattle.intel_hex.proofs.ExportLaws.{lines_from, end_line, line-length, part_length, part-is, lines_more, lines-all, lines_none, room-more}
 use Rattle.intel_hex.proofs.export.put_all.Given as goal
 
 pub record Turn (image out₀ out : List ℕ) (at i : ℕ) : Type 0 where

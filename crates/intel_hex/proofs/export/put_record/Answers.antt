@@ -1,7 +1,7 @@
 -- `put_record` meets its contract: colon, head, data, check byte and LF stand one behind another. Assumes nothing.
 use native.Mathlib.Omega.{arith}
 use lib.ListN.{length-set}
-use Rattle.intel_hex.specs.ExportLaws.{line-stored}
+use Rattle.intel_hex.proofs.ExportLaws.{line-stored}
 use borrow.Author.Rules.{rules}
 use Rattle.intel_hex.proofs.export.put_record.Goals as goal
 

@@ -4,8 +4,8 @@ use mathlib.Core.Path.{sym, ap, ◌∙◌}
 use native.Mathlib.Omega.{arith}
 use lib.ListN.{length}
 use Rattle.intel_hex.specs.Outcome.{stored}
-use Rattle.intel_hex.specs.CellLaws.{no_length}
-use Rattle.intel_hex.specs.ImportLaws.{came, end-within, unfilled, filled}
+use Rattle.intel_hex.proofs.CellLaws.{no_length}
+use Rattle.intel_hex.proofs.ImportLaws.{came, end-within, unfilled, filled}
 use Rattle.intel_hex.proofs.import.import_text.Goals as goal
 
 pub slice_bounds-read-end : goal.slice_bounds-read-end

@@ -10,10 +10,10 @@ use borrow.Author.Tests.{not-true, not-false}
 use lib.ListN.{length}
 use Rattle.intel_hex.specs.declared.record.Step.TheVariants.{Data}
 use Rattle.intel_hex.specs.Record.{record_at}
-use Rattle.intel_hex.specs.RecordCases.{Lies, found_at}
-use Rattle.intel_hex.specs.ImportLaws.{walk_at, walk-twice, walk-on, end-most}
+use Rattle.intel_hex.proofs.RecordCases.{Lies, found_at}
+use Rattle.intel_hex.proofs.ImportLaws.{walk_at, walk-twice, walk-on, end-most}
 use Rattle.intel_hex.specs.Cells.{memory_in}
-use Rattle.intel_hex.specs.CellLaws.{all_noted, one-given}
+use Rattle.intel_hex.proofs.CellLaws.{all_noted, one-given}
 use Rattle.intel_hex.proofs.import.read.Given as goal
 
 pub record Turn (text cells₀ cells : List ℕ) (at end : ℕ) : Type 0 where

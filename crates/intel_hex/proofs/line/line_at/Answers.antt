@@ -4,7 +4,7 @@ use Prim.Native.Nat.{◌+◌, ◌*◌}
 use mathlib.Core.Bool.{false≢true}
 use native.Mathlib.Omega.{arith}
 use Rattle.intel_hex.specs.Record.{size_at, ending_at, sum_of}
-use Rattle.intel_hex.specs.RecordLaws.{no-digits, ending-most, line-bad, line-is}
+use Rattle.intel_hex.proofs.RecordLaws.{no-digits, ending-most, line-bad, line-is}
 use borrow.Author.Rules.{rules}
 use Rattle.intel_hex.proofs.line.line_at.Goals as goal
 

@@ -7,7 +7,7 @@ use borrow.Author.Tests.{eq-eqb, ne_eqb}
 use lib.Bits.{bit_or}
 use Rattle.intel_hex.specs.Digits.{digit_at, byte_at}
 use Rattle.intel_hex.specs.Record.{sum_of}
-use Rattle.intel_hex.specs.RecordLaws.{added, added_none, sum_more, sum-all}
+use Rattle.intel_hex.proofs.RecordLaws.{added, added_none, sum_more, sum-all}
 use Rattle.intel_hex.proofs.line.sum_of.Goals as goal
 
 pub loop-left-init : goal.loop-left-init

@@ -8,7 +8,7 @@ use borrow.Author.Tests.{eq-eqb, ne_eqb}
 use lib.Bits.{bit_or}
 use Rattle.intel_hex.specs.Digits.{digit_at, byte_at}
 use Rattle.intel_hex.specs.Record.{sum_of}
-use Rattle.intel_hex.specs.RecordLaws.{added, added_none, sum_more, sum-all}
+use Rattle.intel_hex.proofs.RecordLaws.{added, added_none, sum_more, sum-all}
 use Rattle.intel_hex.proofs.line.sum_of.Given as goal
 
 pub record Turn (text : List ℕ) (at n sum others k left : ℕ) : Type 0 where

@@ -6,7 +6,7 @@ use borrow.Author.Rules.{rules}
 use lib.ListN.{length, length-set}
 use lib.Seq.{sets}
 use Rattle.intel_hex.specs.Cells.{image_in}
-use Rattle.intel_hex.specs.CellLaws.{bytes_from, fill_none, fill_more, fill-all}
+use Rattle.intel_hex.proofs.CellLaws.{bytes_from, fill_none, fill_more, fill-all}
 use Rattle.intel_hex.proofs.memory.fill.Goals as goal
 
 pub loop-i-init : goal.loop-i-init

@@ -6,9 +6,9 @@ use borrow.Author.Rules.{rules}
 use lib.Bits.{bit_or}
 use lib.ListN.{length, length-set, get_or, set}
 use Rattle.intel_hex.specs.Digits.{byte_at, bytes_at}
-use Rattle.intel_hex.specs.DigitLaws.{byte-below}
+use Rattle.intel_hex.proofs.DigitLaws.{byte-below}
 use Rattle.intel_hex.specs.Cells.{taken}
-use Rattle.intel_hex.specs.CellLaws.{taken_more, taken-all}
+use Rattle.intel_hex.proofs.CellLaws.{taken_more, taken-all}
 use Rattle.intel_hex.proofs.memory.take.Goals as goal
 
 pub loop-to-init : goal.loop-to-init

@@ -3,8 +3,8 @@ use Prim.Native.Nat.{◌+◌}
 use mathlib.Core.Path.{sym, ◌∙◌}
 use native.Mathlib.Omega.{arith}
 use borrow.Author.Tests.{eq-eqb, ne_eqb, lt-ltb, le-ltb}
-use Rattle.intel_hex.specs.DigitLaws.{byte-below}
-use Rattle.intel_hex.specs.RecordLaws.{whole-line, past-text, of-line}
+use Rattle.intel_hex.proofs.DigitLaws.{byte-below}
+use Rattle.intel_hex.proofs.RecordLaws.{whole-line, past-text, of-line}
 use borrow.Author.Rules.{rules}
 use Rattle.intel_hex.proofs.record.record_at.Goals as goal
 

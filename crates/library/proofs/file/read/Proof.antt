@@ -4,7 +4,7 @@ use native.Mathlib.Omega.{arith}
 use Rattle.lent.specs.Parts.{byte_at}
 use Rattle.omf51.specs.declared.record.Framed.{Framed}
 use Rattle.omf51.specs.Record.{expected_by}
-use Rattle.omf51.specs.RecordLaws.{read_by}
+use Rattle.omf51.proofs.RecordLaws.{read_by}
 use Rattle.omf51.specs.Expected.{one_type, frame_read}
 use Rattle.library.specs.ReadingLaws.{bare-known, library-read, library-halts, library-refuses}
 use borrow.Author.Rules.{rules}

@@ -3,7 +3,7 @@ use mathlib.Core.Path.{◌≡◌, sym, ap, ◌∙◌}
 use native.Mathlib.Omega.{arith}
 use Rattle.omf51.specs.declared.record.Framed.{Framed}
 use Rattle.omf51.specs.Record.{expected_by}
-use Rattle.omf51.specs.RecordLaws.{read_by}
+use Rattle.omf51.proofs.RecordLaws.{read_by}
 use Rattle.omf51.specs.Expected.{one_type, frame_read}
 use Rattle.omf51.specs.Ends.{end_of}
 use Rattle.library.specs.Reading.{type_end}

@@ -7,9 +7,9 @@ use Rattle.omf51.specs.declared.Edition.TheVariants.{One}
 use Rattle.omf51.specs.declared.Frame.{Frame}
 use Rattle.omf51.specs.declared.record.Framed.{Framed}
 use Rattle.omf51.specs.Record.{expected_by}
-use Rattle.omf51.specs.RecordLaws.{Fits, read_by, first-expected, record-framed}
+use Rattle.omf51.proofs.RecordLaws.{Fits, read_by, first-expected, record-framed}
 use Rattle.omf51.specs.Entry.{name_with}
-use Rattle.omf51.specs.EntryLaws.{named-cut, named-whole}
+use Rattle.omf51.proofs.EntryLaws.{named-cut, named-whole}
 use Rattle.omf51.specs.Expected.{frame_read, one_type}
 use borrow.Author.Rules.{rules}
 use Rattle.library.proofs.module.named_at.Statement.{statement}

@@ -5,7 +5,7 @@ use native.Mathlib.Omega.{arith}
 use Rattle.omf51.specs.declared.Edition.TheVariants.{One}
 use Rattle.omf51.specs.declared.record.Framed.{Framed}
 use Rattle.omf51.specs.Record.{expected_by}
-use Rattle.omf51.specs.RecordLaws.{read_by, first-expected}
+use Rattle.omf51.proofs.RecordLaws.{read_by, first-expected}
 use Rattle.omf51.specs.Expected.{allows, frame_read}
 use Rattle.omf51.specs.Ends.{entry_end}
 use Rattle.library.specs.Passes.{allowed_for}

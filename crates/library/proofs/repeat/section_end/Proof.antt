@@ -4,7 +4,7 @@ use native.Mathlib.Omega.{arith}
 use Rattle.omf51.specs.declared.Edition.TheVariants.{One}
 use Rattle.omf51.specs.declared.record.Framed.{Framed}
 use Rattle.omf51.specs.Record.{expected_by}
-use Rattle.omf51.specs.RecordLaws.{read_by, first-expected}
+use Rattle.omf51.proofs.RecordLaws.{read_by, first-expected}
 use Rattle.omf51.specs.Module.{fills, is_idle, sections_by}
 use Rattle.omf51.specs.Expected.{frame_read}
 use Rattle.omf51.specs.Ends.{end_of}

@@ -5,7 +5,7 @@ use native.Mathlib.Omega.{arith}
 use Rattle.omf51.specs.declared.Edition.TheVariants.{Two}
 use Rattle.omf51.specs.declared.record.Framed.{Framed}
 use Rattle.omf51.specs.Record.{expected_by}
-use Rattle.omf51.specs.RecordLaws.{Fits, read_by}
+use Rattle.omf51.proofs.RecordLaws.{Fits, read_by}
 use Rattle.omf51.specs.Module.{fills}
 use Rattle.omf51.specs.Expected.{frame_read}
 use Rattle.library.specs.SectionLaws.{content-halts, content-refuses, content-cut, content-whole}

@@ -6,7 +6,7 @@ use Rattle.omf51.specs.declared.entry.Entries.TheVariants.{Fixups}
 use Rattle.omf51.specs.declared.types.Allowed.TheVariants as Allowed
 use Rattle.omf51.specs.declared.record.Framed.{Framed}
 use Rattle.omf51.specs.Record.{expected_by}
-use Rattle.omf51.specs.RecordLaws.{read_by}
+use Rattle.omf51.proofs.RecordLaws.{read_by}
 use Rattle.omf51.specs.Expected.{allows, frame_read}
 use Rattle.library.specs.EndLaws.{used_end}
 use Rattle.library.specs.PassLaws.{record-halts, record-refuses, record-holds}

@@ -5,7 +5,7 @@ use Rattle.listing.proofs.all_rows.list_rows.Tie as tie
 use mathlib.Core.Path.{◌∙◌}
 use lib.ListN.{length}
 use Rattle.image.specs.View.{stretches_in, view}
-use Rattle.image.specs.ViewLaws.{view-length}
+use Rattle.image.proofs.ViewLaws.{view-length}
 use Rattle.listing.specs.ListedLaws.{names-tabled, all_listed}
 
 -- The ladder: places of the code that the answers cite, each as it is seen from a later place.

@@ -14,7 +14,7 @@ use Rattle.image.specs.View.{stretches_in, view}
 use Rattle.image.specs.declared.fixup.Rules.{Rules}
 use Rattle.segments.specs.declared.Reference.{Reference}
 use Rattle.segments.specs.SegmentLayouts.{reference_layout}
-use Rattle.segments.specs.recalled.RowsLaws.{rows_from, rows-past, rows_few, rows-within, rows-turn, rows_end}
+use Rattle.segments.proofs.recalled.RowsLaws.{rows_from, rows-past, rows_few, rows-within, rows-turn, rows_end}
 use Rattle.listing.specs.grade.Grades.{is_found, bears_out}
 use Rattle.listing.specs.grade.GradeLaws.{turned-true, turned-false, all-on, all-fails, all_end}
 use borrow.Author.Rules.{rules}

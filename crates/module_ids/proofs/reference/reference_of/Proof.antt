@@ -2,9 +2,9 @@
 use mathlib.Core.Path.{sym, ◌∙◌}
 use native.Mathlib.Omega.{arith}
 use borrow.Author.Tests.{not-true, not-false}
-use Rattle.module_ids.specs.fault.ScanLaws.{told}
+use Rattle.module_ids.proofs.fault.ScanLaws.{told}
 use Rattle.module_ids.specs.fault.Faults.{fixup_fault}
-use Rattle.module_ids.specs.reference.LeftReferenceLaws.{leaves-refused, leaves-other, leaves-kind, known}
+use Rattle.module_ids.proofs.reference.LeftReferenceLaws.{leaves-refused, leaves-other, leaves-kind, known}
 use borrow.Author.Rules.{rules}
 use Rattle.module_ids.proofs.reference.reference_of.Statement.{statement}
 use Rattle.module_ids.proofs.reference.reference_of.Tie as tie

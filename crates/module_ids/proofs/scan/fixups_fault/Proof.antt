@@ -12,7 +12,7 @@ use Rattle.module_ids.specs.Noted.{Tells}
 use Rattle.module_ids.specs.declared.fault.Verdict.{Verdict}
 use Rattle.module_ids.specs.fault.Faults.{verdict_of, fixup_fault}
 use Rattle.module_ids.specs.fault.Scan.{one_fault, fixups_fault}
-use Rattle.module_ids.specs.fault.ScanLaws.{refused-first, passed_first, none_first, told}
+use Rattle.module_ids.proofs.fault.ScanLaws.{refused-first, passed_first, none_first, told}
 use borrow.Author.Rules.{rules}
 use Rattle.module_ids.proofs.scan.fixups_fault.Statement.{statement}
 use Rattle.module_ids.proofs.scan.fixups_fault.Tie as tie

@@ -20,7 +20,7 @@ use Rattle.library.specs.WholeLaws.{module_of, modules-step, modules-end, module
 use Rattle.module_ids.specs.Noted.{Tells}
 use Rattle.module_ids.specs.fault.Faults.{verdict_of}
 use Rattle.module_ids.specs.fault.Scan.{sections_fault}
-use Rattle.module_ids.specs.fault.ScanLaws.{module-fault, no-module, told}
+use Rattle.module_ids.proofs.fault.ScanLaws.{module-fault, no-module, told}
 use borrow.Author.Rules.{rules}
 use Rattle.module_ids.proofs.scan.scan.Statement.{statement}
 use Rattle.module_ids.proofs.scan.scan.Tie as tie

@@ -5,7 +5,7 @@ use Rattle.module_ids.specs.IdRows.{id_row}
 use Rattle.library.specs.items.Left.{fixups_left}
 use Rattle.module_ids.specs.fault.Faults.{verdict_of, content_fault}
 use Rattle.module_ids.specs.fault.Scan.{fixups_fault}
-use Rattle.module_ids.specs.fault.ScanLaws.{told}
+use Rattle.module_ids.proofs.fault.ScanLaws.{told}
 use borrow.Author.Rules.{rules}
 use Rattle.module_ids.proofs.scan.section_fault.Statement.{statement}
 use Rattle.module_ids.proofs.scan.section_fault.Tie as tie

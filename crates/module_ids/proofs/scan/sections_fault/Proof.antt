@@ -10,9 +10,9 @@ use Rattle.library.specs.Gathered.{items_at}
 use Rattle.library.specs.items.Left.{fixups_left}
 use Rattle.library.specs.items.Yields.{sections_after, next-content-yields}
 use Rattle.module_ids.specs.Noted.{Tells}
-use Rattle.module_ids.specs.fault.Scan.{section_fault, sections_fault}
+use Rattle.module_ids.specs.fault.Scan.{section_fault, sections_fault, section_with}
 use Rattle.module_ids.specs.fault.Faults.{verdict_of}
-use Rattle.module_ids.specs.fault.ScanLaws.{refused-first, passed_first, none_first, told, section_with}
+use Rattle.module_ids.proofs.fault.ScanLaws.{refused-first, passed_first, none_first, told}
 use borrow.Author.Rules.{rules}
 use Rattle.module_ids.proofs.scan.sections_fault.Statement.{statement}
 use Rattle.module_ids.proofs.scan.sections_fault.Tie as tie

@@ -9,7 +9,7 @@ use Rattle.omf51.specs.declared.ModuleId.{ModuleId}
 use Rattle.library.specs.declared.items.Cursor.{Cursor}
 use Rattle.library.specs.items.Left.{definitions_left}
 use Rattle.library.specs.items.Yields.{definitions_after, next-definition-yields, definitions-start}
-use Rattle.module_ids.specs.ClearLaws.{Clearing, clearing-starts, none-small, clearing-step, cleared}
+use Rattle.module_ids.proofs.ClearLaws.{Clearing, clearing-starts, none-small, clearing-step, cleared}
 use borrow.Author.Rules.{rules}
 use Rattle.module_ids.proofs.table.clear.Statement.{statement}
 use Rattle.module_ids.proofs.table.clear.Tie as tie

@@ -14,9 +14,9 @@ use Rattle.library.specs.items.Yields.{definitions_after, next-definition-yields
 use Rattle.library.specs.items.ForwardLaws.{Ordered, Forward, definition-goes}
 use Rattle.library.specs.items.EntrySizeLaws.{definition-says}
 use Rattle.segments.specs.Ids.{is_kept}
-use Rattle.module_ids.specs.IdRowLaws.{changed-small}
+use Rattle.module_ids.proofs.IdRowLaws.{changed-small}
 use Rattle.module_ids.specs.Noted.{Tells}
-use Rattle.module_ids.specs.NotedLaws.{noted, kept_more, kept_step, none_kept, all_noted, note-length}
+use Rattle.module_ids.proofs.NotedLaws.{noted, kept_more, kept_step, none_kept, all_noted, note-length}
 use borrow.Author.Rules.{rules}
 use Rattle.module_ids.proofs.table.fill.Statement.{statement}
 use Rattle.module_ids.proofs.table.fill.Tie as tie

@@ -12,9 +12,9 @@ use Rattle.omf51.specs.declared.Definition.{Definition}
 use Rattle.omf51.specs.declared.Definition.TheVariants.{Segment, Public, External}
 use Rattle.segments.specs.Ids.{id_of}
 use Rattle.module_ids.specs.IdRows.{id_row_at, Small}
-use Rattle.module_ids.specs.IdRowLaws.{read_small}
+use Rattle.module_ids.proofs.IdRowLaws.{read_small}
 use Rattle.module_ids.specs.Noted.{changed, row_noted, note_in}
-use Rattle.module_ids.specs.NotedLaws.{note-steps}
+use Rattle.module_ids.proofs.NotedLaws.{note-steps}
 use borrow.Author.Rules.{rules}
 use Rattle.module_ids.proofs.table.note.Statement.{statement}
 use Rattle.module_ids.proofs.table.note.Tie as tie

@@ -1,7 +1,7 @@
 -- `fills` decides over two groups of types, the even ones and the odd ones. Assumes nothing.
 use mathlib.Core.List.{[], ◌∷◌}
 use Rattle.lent.specs.Lists.{is_in}
-use Rattle.omf51.specs.TypeLaws.{one_in, none_in, or-second}
+use Rattle.omf51.proofs.TypeLaws.{one_in, none_in, or-second}
 use Rattle.omf51.proofs.allowed_types.fills.Goals as goal
 
 pub returns-in-6 : goal.returns-in-6

@@ -2,7 +2,7 @@
 use Prim.Native.Nat.{◌+◌}
 use mathlib.Core.Path.{refl, sym, ap, ◌∙◌}
 use native.Mathlib.Omega.{arith}
-use Rattle.omf51.specs.EntryLaws.{fixup-short, fixup-plain, fixup-cut, fixup-longer}
+use Rattle.omf51.proofs.EntryLaws.{fixup-short, fixup-plain, fixup-cut, fixup-longer}
 use borrow.Author.Rules.{rules}
 use Rattle.omf51.proofs.read_entry.fixup_end.Goals as goal
 

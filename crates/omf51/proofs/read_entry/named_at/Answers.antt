@@ -6,9 +6,9 @@ use Rattle.lent.specs.Parts.{byte_at}
 use Rattle.omf51.specs.declared.Frame.{Frame}
 use Rattle.omf51.specs.Reader.{read}
 use Rattle.omf51.specs.Record.{expected_by}
-use Rattle.omf51.specs.RecordLaws.{Fits, read_by, record-framed}
+use Rattle.omf51.proofs.RecordLaws.{Fits, read_by, record-framed}
 use Rattle.omf51.specs.Entry.{name_with}
-use Rattle.omf51.specs.EntryLaws.{named-cut, named-whole, named-over}
+use Rattle.omf51.proofs.EntryLaws.{named-cut, named-whole, named-over}
 use Rattle.omf51.specs.Expected.{frame_read, one_type}
 use borrow.Author.Rules.{rules}
 use Rattle.omf51.proofs.read_entry.named_at.Goals as goal

@@ -1,7 +1,7 @@
 -- `frame_at` tests in document 01's order: two length bytes, 7, 6, the checksum byte. Assumes nothing.
 use mathlib.Core.Path.{sym, ◌∙◌}
 use native.Mathlib.Omega.{arith}
-use Rattle.omf51.specs.RecordLaws.{frame-cut, frame-empty, frame_past, frame-unclosed, frame-whole}
+use Rattle.omf51.proofs.RecordLaws.{frame-cut, frame-empty, frame_past, frame-unclosed, frame-whole}
 use borrow.Author.Rules.{rules}
 use Rattle.omf51.proofs.read_record.frame_at.Goals as goal
 

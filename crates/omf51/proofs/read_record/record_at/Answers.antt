@@ -1,7 +1,7 @@
 -- `record_at`: the type byte decides before anything else is looked at. Assumes nothing.
 use mathlib.Core.Path.{◌∙◌, sym, ap}
 use Rattle.omf51.specs.Expected.{allows}
-use Rattle.omf51.specs.RecordLaws.{expected-there, not-expected}
+use Rattle.omf51.proofs.RecordLaws.{expected-there, not-expected}
 use borrow.Author.Rules.{rules}
 use Rattle.omf51.proofs.read_record.record_at.Goals as goal
 

@@ -8,7 +8,7 @@ use Rattle.opcodes.specs.Leads.{leads_of, lead_number, place_of, bytes_of}
 use Rattle.opcodes.specs.OpcodeLaws.{ends-together}
 use Rattle.opcodes.specs.declared.Leads.{Leads}
 use Rattle.opcodes.specs.declared.Leads.TheVariants.{Nowhere, PageJump, PageCall, LongJump, LongCall, ShortJump, LaterJump}
-use Rattle.routine.specs.DirectLaws.{row-by}
+use Rattle.routine.proofs.DirectLaws.{row-by}
 use Rattle.routine.proofs.step.row_of.Statement.{statement}
 use Rattle.routine.proofs.step.row_of.Tie as tie
 

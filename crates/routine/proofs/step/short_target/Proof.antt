@@ -1,6 +1,6 @@
 -- `short_target`: a byte below 128, and from there on. Assumes nothing.
 use borrow.Author.Rules.{rules}
-use Rattle.routine.specs.DirectLaws.{short-low, short-high}
+use Rattle.routine.proofs.DirectLaws.{short-low, short-high}
 use Rattle.routine.proofs.step.short_target.Statement.{statement}
 use Rattle.routine.proofs.step.short_target.Tie as tie
 

@@ -7,12 +7,12 @@ use borrow.Author.Rules.{rules}
 use borrow.Author.Tests.{not-true, not-false}
 use Rattle.image.specs.View.{stretches_in, cell_at}
 use Rattle.image.specs.Window.{is_apart}
-use Rattle.image.specs.fixup.TargetLaws.{Bytes}
+use Rattle.image.proofs.fixup.TargetLaws.{Bytes}
 use Rattle.opcodes.specs.Lengths.{length_of, is_return}
 use Rattle.opcodes.specs.OpcodeLaws.{reserved, no_length}
 use Rattle.routine.specs.declared.step.Step.TheVariants.{Shown}
 use Rattle.routine.specs.Direct.{row_by}
-use Rattle.routine.specs.StepLaws.{step-beyond, step-hidden, step-reserved, step_past, step-touches, step-shown}
+use Rattle.routine.proofs.StepLaws.{step-beyond, step-hidden, step-reserved, step_past, step-touches, step-shown}
 use Rattle.routine.proofs.step.step_at.Statement.{statement}
 use Rattle.routine.proofs.step.step_at.Tie as tie
 

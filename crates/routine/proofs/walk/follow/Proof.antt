@@ -15,7 +15,7 @@ use Rattle.routine.specs.declared.step.Step.TheVariants.{Shown}
 use Rattle.routine.specs.Step.{step_at}
 use Rattle.routine.specs.Outcome.{numbers_in, laid}
 use Rattle.routine.specs.Walk.{walked}
-use Rattle.routine.specs.WalkLaws.{Going, begun, long, at-limit, at-stop, no_room, going_on, at_return}
+use Rattle.routine.proofs.WalkLaws.{Going, begun, long, at-limit, at-stop, no_room, going_on, at_return}
 use Rattle.routine.proofs.walk.follow.Statement.{statement}
 use Rattle.routine.proofs.walk.follow.Tie as tie
 

@@ -2,7 +2,7 @@
 use native.Mathlib.Omega.{arith}
 use lib.ListN.{length-set}
 use borrow.Author.Rules.{rules}
-use Rattle.routine.specs.WalkLaws.{not-stored, is-stored}
+use Rattle.routine.proofs.WalkLaws.{not-stored, is-stored}
 use Rattle.routine.proofs.walk.store.Statement.{statement}
 use Rattle.routine.proofs.walk.store.Tie as tie
 

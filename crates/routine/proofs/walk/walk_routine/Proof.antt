@@ -6,7 +6,7 @@ use Rattle.image.specs.View.{stretches_in, view}
 use Rattle.image.specs.Cover.{cover_of, passes_end}
 use Rattle.routine.specs.Walk.{walked}
 use Rattle.routine.specs.Outcome.{laid}
-use Rattle.routine.specs.OutcomeLaws.{too_long, too_many, stretch-past, start-past, is-walked}
+use Rattle.routine.proofs.OutcomeLaws.{too_long, too_many, stretch-past, start-past, is-walked}
 use Rattle.routine.proofs.walk.walk_routine.Statement.{statement}
 use Rattle.routine.proofs.walk.walk_routine.Tie as tie
 

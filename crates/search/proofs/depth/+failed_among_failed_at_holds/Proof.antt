@@ -7,7 +7,7 @@ use borrow.Fn.PlainCycle.{is, and}
 use Rattle.image.specs.View.{stretches_in, view}
 use Rattle.segments.specs.declared.Reference.{Reference}
 use Rattle.segments.specs.SegmentLayouts.{reference_layout}
-use Rattle.segments.specs.recalled.RowsLaws.{rows_from, rows-past, rows-within, rows-turn, rows_end}
+use Rattle.segments.proofs.recalled.RowsLaws.{rows_from, rows-past, rows-within, rows-turn, rows_end}
 use Rattle.search_rules.specs.declared.Why.{Why}
 use Rattle.search_rules.specs.Search.{failed_from}
 use Rattle.search.specs.targets.NowhereLaws.{nowhere}

@@ -1,7 +1,7 @@
 -- `search`: too long an image, too few rows, or all rows. Assumes nothing.
 use Rattle.std.proofs.Common.{◌∙◌, arith, rules}
 use Rattle.image.specs.View.{stretches_in, view}
-use Rattle.image.specs.ViewLaws.{view-length}
+use Rattle.image.proofs.ViewLaws.{view-length}
 use Rattle.search.specs.visit.Visits.{Stored, stored}
 use Rattle.search.specs.Outcome.{SearchLists}
 use Rattle.search.specs.EndLaws.{long-found, lacks-found, done-found, zeroed-same}

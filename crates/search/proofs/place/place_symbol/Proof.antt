@@ -5,9 +5,9 @@ use Rattle.tables.specs.by_name.NamedLaws.{bucket-small}
 use Rattle.tables.specs.by_name.Tables.{table}
 use Rattle.tables.specs.by_name.OneLaws.{takes-nothing, takes-over, takes-known, takes-new, takes-lacks}
 use Rattle.search_rules.specs.Search.{Placing, place}
-use Rattle.search_rules.specs.SearchLaws.{place-past, place-again, place-new}
+use Rattle.search_rules.proofs.SearchLaws.{place-past, place-again, place-new}
 use Rattle.search_rules.specs.SearchRows.{placed_sheet}
-use Rattle.search_rules.specs.FindableLaws.{placed-reads}
+use Rattle.search_rules.proofs.FindableLaws.{placed-reads}
 use Rattle.search.specs.place.PlacedSymbols.{placing_of}
 use Rattle.search.specs.place.PlacedSymbolLaws.{place-grows, place-single}
 use Rattle.search.proofs.place.place_symbol.Statement.{statement}

@@ -7,7 +7,7 @@ use Rattle.segments.specs.declared.SegmentNumber.{SegmentNumber}
 use Rattle.segments.specs.SegmentLayouts.{symbol_layout, symbol_at}
 use Rattle.tables.specs.by_name.Tables.{table, Takes, LeadsOn}
 use Rattle.tables.specs.by_name.TakeLaws.{takes_none, leads-all, lead-on, all-taken}
-use Rattle.segments.specs.recalled.RowsLaws.{rows_from, rows-past, rows_few, rows-within, rows-turn, rows_end}
+use Rattle.segments.proofs.recalled.RowsLaws.{rows_from, rows-past, rows_few, rows-within, rows-turn, rows_end}
 use Rattle.search_rules.specs.Search.{Placing, place}
 use Rattle.search_rules.specs.SearchRows.{placed_sheet}
 use Rattle.search.specs.place.PlacedSymbols.{placing_of}

@@ -2,7 +2,7 @@
 use mathlib.Core.Path.{ap, ◌∙◌}
 use lib.ListN.{length}
 use Rattle.segments.specs.Masks.{masks_of}
-use Rattle.segments.specs.MaskLaws.{masks-length}
+use Rattle.segments.proofs.MaskLaws.{masks-length}
 use Rattle.library.specs.items.Left.{fixups_left}
 use Rattle.segment_parts.specs.merge.MergedAt.{merged_at}
 use Rattle.segment_parts.specs.PatternLaws.{apart-read, apart-long, front_length}

@@ -2,7 +2,7 @@
 use mathlib.Core.Path.{refl}
 use native.Mathlib.Omega.{arith}
 use Rattle.segments.specs.SegmentLayouts.{reference_layout}
-use Rattle.segments.specs.SegmentLayoutLaws.{reference-width}
+use Rattle.segments.proofs.SegmentLayoutLaws.{reference-width}
 use Rattle.tables.specs.fill.FilledRowLaws.{put-more-length}
 use Rattle.tables.specs.fill.AddedRowLaws.{adds_none, adds_one}
 use borrow.Author.Rules.{rules}

@@ -3,7 +3,7 @@ use mathlib.Core.Path.{refl, sym, ap, ◌∙◌}
 use native.Mathlib.Omega.{arith}
 use lib.ListN.{length}
 use Rattle.segments.specs.SegmentLayouts.{symbol_layout}
-use Rattle.segments.specs.SegmentLayoutLaws.{symbol-width}
+use Rattle.segments.proofs.SegmentLayoutLaws.{symbol-width}
 use Rattle.tables.specs.fill.FilledRowLaws.{put-more-length}
 use Rattle.tables.specs.fill.AddedRowLaws.{adds_none, adds_one}
 use Rattle.segment_parts.specs.AddedSymbols.{carries_at}

@@ -2,7 +2,7 @@
 use Prim.Native.Nat.{◌+◌}
 use mathlib.Core.Path.{ap, ◌∙◌}
 use lib.ListN.{set}
-use Rattle.segments.specs.MaskLaws.{mask-ignored, mask_word, mask-inblock, mask-other}
+use Rattle.segments.proofs.MaskLaws.{mask-ignored, mask_word, mask-inblock, mask-other}
 use borrow.Author.Rules.{rules}
 use Rattle.segments.proofs.masks.mask.Statement.{statement}
 use Rattle.segments.proofs.masks.mask.Tie as tie

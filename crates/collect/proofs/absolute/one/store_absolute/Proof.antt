@@ -9,7 +9,7 @@ use Rattle.lent.specs.Parts.{bytes_of}
 use Rattle.tables.specs.fill.FilledRows.{Adds}
 use Rattle.image.specs.declared.Seat.TheVariants.{Only}
 use Rattle.segments.specs.Masks.{masks_of}
-use Rattle.segments.specs.MaskLaws.{masks-length}
+use Rattle.segments.proofs.MaskLaws.{masks-length}
 use Rattle.segments.specs.SegmentRows.{pattern_bytes, pattern_masks}
 use Rattle.segments.specs.SegmentLayouts.{reference_layout, symbol_layout}
 use Rattle.library.specs.items.Left.{fixups_left}

@@ -6,7 +6,7 @@ use borrow.Author.Tests.{not-true, not-false, leb-true, leb-false}
 use lib.ListN.{length}
 use Rattle.tables.specs.fill.FilledRows.{Adds}
 use Rattle.image.specs.declared.Seat.TheVariants.{Anywhere}
-use Rattle.segments.specs.MaskLaws.{filled-length}
+use Rattle.segments.proofs.MaskLaws.{filled-length}
 use Rattle.segments.specs.Collect.{data_of, data_masks}
 use Rattle.segments.specs.SegmentRows.{pattern_bytes, pattern_masks}
 use Rattle.segments.specs.SegmentLayouts.{reference_layout, symbol_layout}

@@ -17,7 +17,7 @@ use Rattle.omf51.specs.declared.record.Framed.TheVariants as Framed
 use Rattle.omf51.specs.Reader.{read}
 use Rattle.omf51.specs.declared.Edition.TheVariants.{One}
 use Rattle.omf51.specs.Record.{expected}
-use Rattle.omf51.specs.RecordLaws.{Fits, read_fits}
+use Rattle.omf51.proofs.RecordLaws.{Fits, read_fits}
 use Rattle.omf51.specs.Module.{fills, sections_at}
 use Rattle.omf51.specs.Expected.{frame_read}
 use Rattle.omf51.specs.Ends.{end_of}

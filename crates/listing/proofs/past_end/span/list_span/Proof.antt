@@ -8,7 +8,7 @@ use mathlib.Core.List.{List}
 use lib.ListN.{length}
 use Rattle.tables.specs.declared.fill.Fill.{Fill}
 use Rattle.listing_rules.specs.declared.Skip.{Skip}
-use Rattle.listing_rules.specs.FrontLineLaws.{leads-first}
+use Rattle.listing_rules.proofs.FrontLineLaws.{leads-first}
 use Rattle.listing.specs.past_end.Beyond.{spanned}
 use Rattle.listing.specs.past_end.TargetLaws.{Spans, spans_on, spans_all}
 use borrow.Author.Rules.{rules}

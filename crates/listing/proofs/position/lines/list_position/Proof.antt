@@ -11,7 +11,7 @@ use Rattle.lent.specs.Lists.{keep}
 use Rattle.image.specs.View.{stretches_in, view}
 use Rattle.listing_rules.specs.Listing.{noted_line, lines_at}
 use Rattle.listing_rules.specs.FrontLines.{Front}
-use Rattle.listing_rules.specs.FrontLineLaws.{extends-over}
+use Rattle.listing_rules.proofs.FrontLineLaws.{extends-over}
 use Rattle.listing.specs.position.RowsAt.{segments_of, stays_at, line_of, noted_at_it}
 use Rattle.listing.specs.position.FinishLaws.{met-apart, met-small, met-listed}
 

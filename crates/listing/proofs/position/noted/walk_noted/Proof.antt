@@ -13,7 +13,7 @@ use Rattle.tables.specs.by_name.Sheet.{key_buckets}
 use Rattle.tables.specs.by_name.Tables.{table, Tabled}
 use Rattle.search_rules.specs.Search.{Noting}
 use Rattle.search_rules.specs.SearchRows.{noted_sheet}
-use Rattle.search_rules.specs.FindableLaws.{noted-reads}
+use Rattle.search_rules.proofs.FindableLaws.{noted-reads}
 use Rattle.listing_rules.specs.declared.Line.{Line}
 use Rattle.listing_rules.specs.Listing.{noted_line}
 use Rattle.listing_rules.specs.FrontLines.{Fronts}

@@ -15,7 +15,7 @@ use Rattle.tables.specs.by_name.Sheet.{key_buckets, key_bucket}
 use Rattle.search_rules.specs.declared.Placed.{Placed}
 use Rattle.search_rules.specs.Search.{Placing}
 use Rattle.search_rules.specs.SearchRows.{placed_sheet}
-use Rattle.search_rules.specs.FindableLaws.{placed-reads}
+use Rattle.search_rules.proofs.FindableLaws.{placed-reads}
 use Rattle.listing_rules.specs.declared.Line.{Line}
 use Rattle.listing.specs.declared.position.Best.{Best}
 use Rattle.listing.specs.position.Bests.{Bests}

@@ -2,7 +2,7 @@
 use mathlib.Core.Path.{sym, ap}
 use native.Mathlib.Omega.{arith}
 use Rattle.module_ids.specs.fault.Faults.{verdict_of}
-use Rattle.module_ids.specs.fault.FaultLaws.{no-segment, fits, too_long}
+use Rattle.module_ids.proofs.fault.FaultLaws.{no-segment, fits, too_long}
 use borrow.Author.Rules.{rules}
 use Rattle.module_ids.proofs.fault.one.content_fault.Statement.{statement}
 use Rattle.module_ids.proofs.fault.one.content_fault.Tie as tie

@@ -2,7 +2,7 @@
 use mathlib.Core.Path.{sym, ap, ◌∙◌}
 use borrow.Author.Tests.{not-true, not-false}
 use Rattle.module_ids.specs.fault.Faults.{verdict_of}
-use Rattle.module_ids.specs.fault.FaultLaws.{ignored, unknown-kind, unknown-block, not-segment, not_code, segment-fault}
+use Rattle.module_ids.proofs.fault.FaultLaws.{ignored, unknown-kind, unknown-block, not-segment, not_code, segment-fault}
 use borrow.Author.Rules.{rules}
 use Rattle.module_ids.proofs.fault.one.fixup_fault.Statement.{statement}
 use Rattle.module_ids.proofs.fault.one.fixup_fault.Tie as tie

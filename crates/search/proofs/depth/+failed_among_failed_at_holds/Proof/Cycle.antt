@@ -9,7 +9,7 @@ use Rattle.lent.specs.Choice.{if◌then◌else◌}
 use Rattle.image.specs.View.{stretches_in, view}
 use Rattle.image.specs.declared.fixup.Rules.{Rules}
 use Rattle.segments.specs.SegmentLayouts.{reference_layout}
-use Rattle.segments.specs.recalled.RowsLaws.{rows_from, rows_few}
+use Rattle.segments.proofs.recalled.RowsLaws.{rows_from, rows_few}
 use Rattle.search_rules.specs.declared.Why.{Why}
 use Rattle.search_rules.specs.declared.Why.TheVariants as Why
 use Rattle.search_rules.specs.declared.Failed.TheVariants as Failed

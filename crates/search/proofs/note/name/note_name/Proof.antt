@@ -6,7 +6,7 @@ use Rattle.tables.specs.by_name.Tables.{table}
 use Rattle.tables.specs.by_name.OneLaws.{takes-over, takes-known, found-is, takes-new, takes-lacks}
 use Rattle.search_rules.specs.Search.{Noting, note}
 use Rattle.search_rules.specs.SearchRows.{noted_sheet}
-use Rattle.search_rules.specs.FindableLaws.{noted-reads}
+use Rattle.search_rules.proofs.FindableLaws.{noted-reads}
 use Rattle.search.specs.note.NotedNameLaws.{note-new, note-grows, note-single, note-invalid, takes-valid}
 use Rattle.search.proofs.note.name.note_name.Statement.{statement}
 use Rattle.search.proofs.note.name.note_name.Tie as tie

@@ -8,7 +8,7 @@ use Rattle.image.specs.declared.fixup.Rules.{Rules}
 use Rattle.segments.specs.SegmentLayouts.{reference_layout}
 use Rattle.segments.specs.declared.Reference.{Reference}
 use Rattle.segments.specs.recalled.Recall.{rows_of}
-use Rattle.segments.specs.recalled.RowsLaws.{rows_from, rows-past, rows_few, rows-within, rows-turn, rows_end}
+use Rattle.segments.proofs.recalled.RowsLaws.{rows_from, rows-past, rows_few, rows-within, rows-turn, rows_end}
 use Rattle.search_rules.specs.declared.Failed.{Failed}
 use Rattle.search_rules.specs.declared.Failed.TheVariants as Failed
 use Rattle.search.specs.note.NotedNames.{Refers}

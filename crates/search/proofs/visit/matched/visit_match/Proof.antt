@@ -2,7 +2,7 @@
 use Rattle.std.proofs.Common.{ℕ, List, map, length, sym, subst, rules}
 use Rattle.lent.specs.Lists.{one}
 use Rattle.image.specs.View.{stretches_in, view}
-use Rattle.image.specs.ViewLaws.{view-length}
+use Rattle.image.proofs.ViewLaws.{view-length}
 use Rattle.segments.specs.SegmentLayouts.{symbol_layout}
 use Rattle.tables.specs.by_name.Tables.{table, Takes}
 use Rattle.tables.specs.by_name.TakeLaws.{takes_none}

@@ -10,7 +10,7 @@ use Rattle.library.specs.declared.items.Cursor.{Cursor}
 use Rattle.library.specs.items.Left.{fixups_left}
 use Rattle.library.specs.items.Yields.{fixups_after, next-fixup-yields}
 use Rattle.segments.specs.Masks.{masked}
-use Rattle.segments.specs.MaskLaws.{mask-length}
+use Rattle.segments.proofs.MaskLaws.{mask-length}
 use Rattle.segment_parts.specs.merge.MaskTurns.{masks-turn, masks-done}
 use Rattle.segment_parts.proofs.merge.masks.content_masks.Statement.{statement}
 use Rattle.segment_parts.proofs.merge.masks.content_masks.Tie as tie

@@ -1,0 +1,3 @@
+pub mod AddressLaws
+pub mod OneOutcome
+pub mod TargetLaws

@@ -1,0 +1,14 @@
+pub mod Answers
+pub mod CellLaws
+pub mod DigitLaws
+pub mod Exactly
+pub mod Examples
+pub mod ExportLaws
+pub mod ImportLaws
+pub mod MemoryLaws
+pub mod OneOutcome
+pub mod RecordCases
+pub mod RecordLaws
+pub mod RoundTrip
+pub mod RoundTripLaws
+pub mod SameCase

@@ -1,0 +1,11 @@
+pub mod CompleteLaws
+pub mod EarlierLaws
+pub mod FrontLineLaws
+pub mod LineLayoutLaws
+pub mod ListingLaws
+pub mod NameOrderLaws
+pub mod OnceLaws
+pub mod OneOutcome
+pub mod OrderLaws
+pub mod PositionLaws
+pub mod SortedLaws

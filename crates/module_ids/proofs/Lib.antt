@@ -1,0 +1,4 @@
+pub mod ClearLaws
+pub mod IdRowLaws
+pub mod NotedLaws
+pub mod OneOutcome

@@ -1,0 +1,2 @@
+pub mod LeftReferenceLaws
+pub mod OneOutcome

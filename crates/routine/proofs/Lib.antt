@@ -1,0 +1,9 @@
+pub mod DirectLaws
+pub mod Exactly
+pub mod Examples
+pub mod OneOutcome
+pub mod OutcomeLaws
+pub mod StepLaws
+pub mod StopsExactly
+pub mod WalkLaws
+pub mod Withheld

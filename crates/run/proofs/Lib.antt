@@ -1,0 +1,12 @@
+pub mod Answers
+pub mod Demands
+pub mod Exactly
+pub mod Examples
+pub mod ListedRows
+pub mod NotedAddress
+pub mod Order
+pub mod OwnAddress
+pub mod Refused
+pub mod SixteenBits
+pub mod StageLaws
+pub mod Withheld

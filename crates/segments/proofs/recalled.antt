@@ -1,0 +1,3 @@
+pub mod OneOutcome
+pub mod RecallLaws
+pub mod RowsLaws

@@ -1,1 +1,0 @@
--- Rows of the collection, put behind the rows before them.
