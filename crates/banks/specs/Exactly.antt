@@ -1,7 +1,7 @@
 -- Demand 1 for a board: each refusal exactly in its case, 18 in the place of 2. Assumes nothing.
 use Rattle.std.specs.Prelude.{ℕ, ◌+◌, ◌*◌, ◌%◌, ◌≤◌, ◌≡◌, refl, ◌↔◌, Bool, true, false, not, ◌||◌, List, eqb, length}
 use Rattle.std.proofs.Common.{sym, ap, arith, eq-eqb, le-leb}
-use Rattle.std.proofs.Math.Logic.{Iff·trans}
+use Rattle.std.proofs.Math.Logic.Iff
 use Rattle.std.proofs.Math.Option.{none, some}
 use Rattle.lent.specs.declared.refusal.Refusal.{Refusal}
 use Rattle.lent.specs.declared.refusal.Refusal.TheVariants.{ImageTooLong, NotBanked}
@@ -38,8 +38,8 @@ board size = record { size = size; Long = ⊥; Unbanked = Banked size → ⊥; F
 board-words : (size : ℕ) → Worded (board size) (not_banked size)
 board-words size = record {
   long = ((λ e. never (not (is_banked size)) e), λ e. absurd e);
-  unbanked = Iff·trans (when-some (not (is_banked size)) NotBanked) (Iff·trans (flips (is_banked size)) (not-over (is_banked size) (is-banked size)));
-  fine = Iff·trans (when-none (not (is_banked size)) NotBanked) (Iff·trans (flips-back (is_banked size)) (is-banked size));
+  unbanked = Iff.trans (when-some (not (is_banked size)) NotBanked) (Iff.trans (flips (is_banked size)) (not-over (is_banked size) (is-banked size)));
+  fine = Iff.trans (when-none (not (is_banked size)) NotBanked) (Iff.trans (flips-back (is_banked size)) (is-banked size));
   told = λ r e. two (not (is_banked size)) r e;
 }
   where

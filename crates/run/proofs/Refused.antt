@@ -2,7 +2,7 @@
 use Rattle.std.specs.Prelude.{ℕ, ◌+◌, ◌≤◌, ◌<◌, ◌≡◌, ◌⊎◌, ◌↔◌, Bool, ◌||◌, eqb, ltb, length}
 use Rattle.std.proofs.Math.Path.{refl, ap}
 use Rattle.std.proofs.Common.{sym, inl, inr, arith, ltb-true, lt-ltb}
-use Rattle.std.proofs.Math.Logic.{Iff·trans, Iff·and}
+use Rattle.std.proofs.Math.Logic.Iff
 use Rattle.std.proofs.Math.Bool.{true, false}
 use Rattle.std.proofs.lemmas.Bool.{false≢true}
 use mathlib.Core.List.{List, [], ◌∷◌, ◌++◌}
@@ -83,7 +83,7 @@ module _ (shape : Shape) (own : Option Refusal) (words : Worded shape own) (libr
 
   done-is : (number ≡ 0) ↔ Silent all-stages
   unfolding refusals
-  done-is = Iff·trans (go (leading (refusals own shape.size library s lent c))) (leading-none (λ g. g.out) all-stages, none-leading (λ g. g.out) all-stages)
+  done-is = Iff.trans (go (leading (refusals own shape.size library s lent c))) (leading-none (λ g. g.out) all-stages, none-leading (λ g. g.out) all-stages)
     where
       go : (o : Option Refusal) → (number_of (outcome_of library o y lent).answer ≡ 0) ↔ (o ≡ none)
       go none = ((λ e. refl), λ e. refl)
@@ -94,11 +94,11 @@ module _ (shape : Shape) (own : Option Refusal) (words : Worded shape own) (libr
   library-fine = not-less 1048576 (length library) LibraryTooLong
 
   stretch-fine : (stretch-stage.out ≡ none) ↔ AllFit shape.size (cover s)
-  stretch-fine = Iff·trans (when-none (passes_end shape.size (cover s)) StretchPastEnd) (all_fit shape.size (cover s))
+  stretch-fine = Iff.trans (when-none (passes_end shape.size (cover s)) StretchPastEnd) (all_fit shape.size (cover s))
 
   room-fine : (room-stage.out ≡ none) ↔ (CollectionOver lent c → ⊥)
   room-fine =
-      Iff·trans (when-none (collect_over lent c) TooFewRows)
+      Iff.trans (when-none (collect_over lent c) TooFewRows)
       (not-over (collect_over lent c) (collection-over lent c))
 
   tests-fine : (tests-stage.out ≡ none) ↔ Quiet test_refusal (tests (modules_in (library_read library s)))
@@ -107,8 +107,8 @@ module _ (shape : Shape) (own : Option Refusal) (words : Worded shape own) (libr
 
   rows-fine : Silent row-stages ↔ ((SearchOver lent c → ⊥) × (ListOver lent c → ⊥))
   rows-fine =
-      let search = Iff·trans (when-none (search_over lent c) TooFewRows) (not-over (search_over lent c) (search-over lent c)) in
-      let list = Iff·trans (when-none (list_over lent c) TooFewRows) (not-over (list_over lent c) (over line_width lent.lines c.lines)) in
+      let search = Iff.trans (when-none (search_over lent c) TooFewRows) (not-over (search_over lent c) (search-over lent c)) in
+      let list = Iff.trans (when-none (list_over lent c) TooFewRows) (not-over (list_over lent c) (over line_width lent.lines c.lines)) in
       ((λ q. (search.0 q.0, list.0 q.1.0)), λ h. (search.1 h.0, (list.1 h.1, tt)))
 
   -- up to a stage none refuses
@@ -135,7 +135,7 @@ module _ (shape : Shape) (own : Option Refusal) (words : Worded shape own) (libr
   all_read : Silent reading-stages ↔ (SettingsFine shape library s lent c × FileRead edition library)
   all_read =
       let read = reading-exactly edition library none in
-      Iff·trans (silent-both settings-stages (reading-stage edition library ∷ [])) (Iff·and accepted ((λ q. read.0 q.0), λ h. (read.1 h, tt)))
+      Iff.trans (silent-both settings-stages (reading-stage edition library ∷ [])) (Iff.and accepted ((λ q. read.0 q.0), λ h. (read.1 h, tt)))
 
   reached : Silent (reading-stages ++ room-stage ∷ []) ↔ ReachedBy shape library s lent c
   reached =
@@ -151,7 +151,7 @@ module _ (shape : Shape) (own : Option Refusal) (words : Worded shape own) (libr
   row-over : (first_of row-stages ≡ some TooFewRows) ↔ (SearchOver lent c ⊎ ListOver lent c)
   unfolding leading
   row-over =
-      Iff·trans (two (search_over lent c) (list_over lent c))
+      Iff.trans (two (search_over lent c) (list_over lent c))
       (or-true-iff (search_over lent c) (list_over lent c) (search-over lent c) (over line_width lent.lines c.lines))
     where
       two : (a b : Bool) → (leading (when a TooFewRows ∷ when b TooFewRows ∷ []) ≡ some TooFewRows) ↔ ((a || b) ≡ true)
@@ -178,7 +178,7 @@ module _ (shape : Shape) (own : Option Refusal) (words : Worded shape own) (libr
       later = after_none TooFewRows (tests-stage ∷ []) row-stages refl
 
       here : (room-stage.out ≡ some TooFewRows) ↔ CollectionOver lent c
-      here = Iff·trans (when-some (collect_over lent c) TooFewRows) (collection-over lent c)
+      here = Iff.trans (when-some (collect_over lent c) TooFewRows) (collection-over lent c)
 
       there : SettingsFine shape library s lent c × FileRead edition library → (room-stage.out ≡ some TooFewRows) ⊎ ((room-stage.out ≡ none) × (first_of rest ≡ some TooFewRows))
           → TooLittleBy shape library s lent c
@@ -195,13 +195,13 @@ module _ (shape : Shape) (own : Option Refusal) (words : Worded shape own) (libr
   -- 1, 30, 17, 2, 3, 16 and 4; 5 to 8, 14 and 15; 10 to 13
   by-settings : (r : Refusal) (before : List Stage) (g : Stage) (later : List Stage) → before ++ g ∷ later ≡ all-stages → Beyond r before → Beyond r later
       → (number ≡ refusal_number r) ↔ (Silent before × (g.out ≡ some r))
-  by-settings r before g later q e f = Iff·trans (number_is r) (rw q at (at_stage r before g later e f))
+  by-settings r before g later q e f = Iff.trans (number_is r) (rw q at (at_stage r before g later e f))
 
   by-own : (r : Refusal) {Case : Type 0} → (own ≡ some r) ↔ Case → Beyond r (rules-stage s ∷ edition-stage s ∷ depth-stage s ∷ [])
       → Beyond r (library-stage ∷ count-stage s ∷ stretch-stage ∷ reading-stage edition library ∷ later-stages)
       → (number ≡ refusal_number r) ↔ ((s.rules ≤ 1) × (NoEdition s.edition → ⊥) × (s.depth ≤ 4) × Case)
   by-own r this e f =
-      Iff·trans (by-settings r (rules-stage s ∷ edition-stage s ∷ depth-stage s ∷ []) image-stage
+      Iff.trans (by-settings r (rules-stage s ∷ edition-stage s ∷ depth-stage s ∷ []) image-stage
       (library-stage ∷ count-stage s ∷ stretch-stage ∷ reading-stage edition library ∷ later-stages) refl e f) (
         (λ h. ((rules-fine s).0 h.0.0, (edition-fine s).0 h.0.1.0, (depth-fine s).0 h.0.1.1.0, this.0 h.1)),
         λ h. (((rules-fine s).1 h.0, ((edition-fine s).1 h.1, ((depth-fine s).1 h.2, tt))), this.1 h.3),
@@ -209,32 +209,32 @@ module _ (shape : Shape) (own : Option Refusal) (words : Worded shape own) (libr
 
   by-reading : (r : Refusal) → Beyond r settings-stages → Beyond r later-stages → (number ≡ refusal_number r) ↔ (SettingsFine shape library s lent c × Ends edition library (some r))
   by-reading r e f =
-      Iff·trans (number_is r)
-      (Iff·trans (at_stage r settings-stages (reading-stage edition library) later-stages e f) (Iff·and accepted (reading-exactly edition library (some r))))
+      Iff.trans (number_is r)
+      (Iff.trans (at_stage r settings-stages (reading-stage edition library) later-stages e f) (Iff.and accepted (reading-exactly edition library (some r))))
 
   by_tests : (r : Refusal) (P : Test → Type 0) → ((t : Test) → (test_refusal t ≡ some r) ↔ P t) → Beyond r (reading-stages ++ room-stage ∷ [])
       → Beyond r row-stages
       → (number ≡ refusal_number r) ↔ (ReachedBy shape library s lent c × FirstTest shape library s lent c P)
   by_tests r P iff e f =
-      Iff·trans (number_is r)
-      (Iff·trans (at_stage r (reading-stages ++ room-stage ∷ []) tests-stage row-stages e f) (Iff·and reached (collect-gives (modules_in (library_read library s)) P iff)))
+      Iff.trans (number_is r)
+      (Iff.trans (at_stage r (reading-stages ++ room-stage ∷ []) tests-stage row-stages e f) (Iff.and reached (collect-gives (modules_in (library_read library s)) P iff)))
 
   -- EACH REFUSAL EXACTLY IN ITS CASE
   pub given_by : (r : Refusal) → (number_of (run_by own shape.size library s lent c y).answer ≡ refusal_number r) ↔ GivenBy shape library s lent c r
   unfolding all
   given_by RuleSet =
       let this = less 1 s.rules RuleSet in
-      Iff·trans (by-settings RuleSet [] (rules-stage s)
+      Iff.trans (by-settings RuleSet [] (rules-stage s)
       (edition-stage s ∷ depth-stage s ∷ image-stage ∷ library-stage ∷ count-stage s ∷ stretch-stage ∷ reading-stage edition library ∷ later-stages) refl refl refl)
       ((λ h. this.0 h.1), λ h. (tt, this.1 h))
   given_by OtherEdition =
-      let this = Iff·trans (when-some (other_edition s.edition) OtherEdition) (edition-other s) in
-      Iff·trans (by-settings OtherEdition (rules-stage s ∷ []) (edition-stage s)
+      let this = Iff.trans (when-some (other_edition s.edition) OtherEdition) (edition-other s) in
+      Iff.trans (by-settings OtherEdition (rules-stage s ∷ []) (edition-stage s)
       (depth-stage s ∷ image-stage ∷ library-stage ∷ count-stage s ∷ stretch-stage ∷ reading-stage edition library ∷ later-stages) refl refl refl)
       ((λ h. ((rules-fine s).0 h.0.0, this.0 h.1)), λ h. (((rules-fine s).1 h.0, tt), this.1 h.1))
   given_by TooDeep =
       let this = less 4 s.depth TooDeep in
-      Iff·trans (by-settings TooDeep (rules-stage s ∷ edition-stage s ∷ []) (depth-stage s)
+      Iff.trans (by-settings TooDeep (rules-stage s ∷ edition-stage s ∷ []) (depth-stage s)
       (image-stage ∷ library-stage ∷ count-stage s ∷ stretch-stage ∷ reading-stage edition library ∷ later-stages) refl refl refl) (
         (λ h. ((rules-fine s).0 h.0.0, (edition-fine s).0 h.0.1.0, this.0 h.1)),
         λ h. (((rules-fine s).1 h.0, ((edition-fine s).1 h.1, tt)), this.1 h.2),
@@ -243,21 +243,21 @@ module _ (shape : Shape) (own : Option Refusal) (words : Worded shape own) (libr
   given_by NotBanked = by-own NotBanked words.unbanked refl refl
   given_by LibraryTooLong =
       let this = less 1048576 (length library) LibraryTooLong in
-      Iff·trans (by-settings LibraryTooLong (rules-stage s ∷ edition-stage s ∷ depth-stage s ∷ image-stage ∷ []) library-stage
+      Iff.trans (by-settings LibraryTooLong (rules-stage s ∷ edition-stage s ∷ depth-stage s ∷ image-stage ∷ []) library-stage
       (count-stage s ∷ stretch-stage ∷ reading-stage edition library ∷ later-stages) refl refl refl) (
         (λ h. ((rules-fine s).0 h.0.0, (edition-fine s).0 h.0.1.0, (depth-fine s).0 h.0.1.1.0, words.fine.0 h.0.1.1.1.0, this.0 h.1)),
         λ h. (((rules-fine s).1 h.0, ((edition-fine s).1 h.1, ((depth-fine s).1 h.2, (words.fine.1 h.3, tt)))), this.1 h.4),
       )
   given_by TooManyStretches =
       let this = less 16 s.withheld.count TooManyStretches in
-      Iff·trans (by-settings TooManyStretches (rules-stage s ∷ edition-stage s ∷ depth-stage s ∷ image-stage ∷ library-stage ∷ []) (count-stage s)
+      Iff.trans (by-settings TooManyStretches (rules-stage s ∷ edition-stage s ∷ depth-stage s ∷ image-stage ∷ library-stage ∷ []) (count-stage s)
       (stretch-stage ∷ reading-stage edition library ∷ later-stages) refl refl refl) (
         (λ h. ((rules-fine s).0 h.0.0, (edition-fine s).0 h.0.1.0, (depth-fine s).0 h.0.1.1.0, words.fine.0 h.0.1.1.1.0, library-fine.0 h.0.1.1.1.1.0, this.0 h.1)),
         λ h. (((rules-fine s).1 h.0, ((edition-fine s).1 h.1, ((depth-fine s).1 h.2, (words.fine.1 h.3, (library-fine.1 h.4, tt))))), this.1 h.5),
       )
   given_by StretchPastEnd =
-      let this = Iff·trans (when-some (passes_end shape.size (cover s)) StretchPastEnd) (some-passes shape.size (cover s)) in
-      Iff·trans (by-settings StretchPastEnd (rules-stage s ∷ edition-stage s ∷ depth-stage s ∷ image-stage ∷ library-stage ∷ count-stage s ∷ [])
+      let this = Iff.trans (when-some (passes_end shape.size (cover s)) StretchPastEnd) (some-passes shape.size (cover s)) in
+      Iff.trans (by-settings StretchPastEnd (rules-stage s ∷ edition-stage s ∷ depth-stage s ∷ image-stage ∷ library-stage ∷ count-stage s ∷ [])
       stretch-stage (reading-stage edition library ∷ later-stages) refl refl refl) (
         (λ h. (
           (rules-fine s).0 h.0.0,
@@ -276,7 +276,7 @@ module _ (shape : Shape) (own : Option Refusal) (words : Worded shape own) (libr
   given_by NamesDiffer = by-reading NamesDiffer refl refl
   given_by WrongSum = by-reading WrongSum refl refl
   given_by LeftOver = by-reading LeftOver refl refl
-  given_by TooFewRows = Iff·trans (number_is TooFewRows) too_few
+  given_by TooFewRows = Iff.trans (number_is TooFewRows) too_few
   given_by UnknownKind = by_tests UnknownKind KindAbove gives-10 refl refl
   given_by UnknownBlock = by_tests UnknownBlock BlockAbove gives-11 refl refl
   given_by ContentPastSegment = by_tests ContentPastSegment PastSegment gives-12 refl refl

@@ -1,7 +1,7 @@
 -- The refusals that each stage of a run can give, and when it gives them, in words. Assumes nothing.
 use Rattle.std.specs.Prelude.{ℕ, ◌*◌, ◌≤◌, ◌<◌, ◌≡◌, refl, ◌⊎◌, ◌↔◌, Bool, true, false, ◌&&◌, ◌||◌, List, eqb, leb, ltb, length}
 use Rattle.std.proofs.Common.{sym, inl, inr, arith, eq-eqb, le-leb, ltb-true, ltb-false, lt-ltb, le-ltb}
-use Rattle.std.proofs.Math.Logic.{Iff·trans}
+use Rattle.std.proofs.Math.Logic.Iff
 use Rattle.std.proofs.Math.Bool.{or-true}
 use Rattle.std.proofs.lemmas.Bool.{false≢true}
 use Rattle.std.proofs.Math.Option.{Option, none, some}
@@ -111,10 +111,10 @@ search-over lent c = or-true-iff _ _ (over placed_width lent.placed c.placed) (o
 
 -- a refusal by a comparison of numbers
 pub less : (a b : ℕ) (r : Refusal) → (when (ltb a b) r ≡ some r) ↔ (a < b)
-less a b r = Iff·trans (when-some (ltb a b) r) (ltb-true a b, lt-ltb a b)
+less a b r = Iff.trans (when-some (ltb a b) r) (ltb-true a b, lt-ltb a b)
 
 pub not-less : (a b : ℕ) (r : Refusal) → (when (ltb a b) r ≡ none) ↔ (b ≤ a)
-not-less a b r = Iff·trans (when-none (ltb a b) r) (ltb-false a b, le-ltb a b)
+not-less a b r = Iff.trans (when-none (ltb a b) r) (ltb-false a b, le-ltb a b)
 
 -- how an image's own refusal is told in words; it is 2 or 18
 pub record Worded (shape : Shape) (own : Option Refusal) : Type 0 where
@@ -144,7 +144,7 @@ module _ (s : Settings) where
   edition-other = or-true-iff (ltb s.edition 1) (ltb 2 s.edition) (ltb-true s.edition 1, lt-ltb s.edition 1) (ltb-true 2 s.edition, lt-ltb 2 s.edition)
 
   pub edition-fine : (edition-stage.out ≡ none) ↔ (NoEdition s.edition → ⊥)
-  edition-fine = Iff·trans (when-none (other_edition s.edition) OtherEdition) (not-over (other_edition s.edition) edition-other)
+  edition-fine = Iff.trans (when-none (other_edition s.edition) OtherEdition) (not-over (other_edition s.edition) edition-other)
 
   pub depth-fine : (depth-stage.out ≡ none) ↔ (s.depth ≤ 4)
   depth-fine = not-less 4 s.depth TooDeep

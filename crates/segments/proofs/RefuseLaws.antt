@@ -1,7 +1,7 @@
 -- When each of refusals 10 to 13 is given, in document 01's words. Assumes nothing.
 use Rattle.std.specs.Prelude.{◌+◌, ◌≤◌, ◌<◌, ◌≡◌, refl, ◌↔◌, Bool, true, false, not, ◌&&◌, List, eqb, ltb}
 use Rattle.std.proofs.Common.{sym, ap, ◌∙◌, arith, ltb-true, ltb-false, lt-ltb, eqb-true, eq-eqb}
-use Rattle.std.proofs.Math.Logic.{Iff·rfl}
+use Rattle.std.proofs.Math.Logic.Iff
 use Rattle.std.proofs.lemmas.Bool.{false≢true, eqb-false, not-true}
 use Rattle.std.proofs.Math.Option.{Option, none, some}
 use Rattle.lent.specs.declared.refusal.Refusal.{Refusal}
@@ -148,7 +148,7 @@ unfolding collect_refusal
 collect-late modules {r} e = late f.here f.holds
   where
     f : First test_refusal (λ t. test_refusal t ≡ some r) (tests modules)
-    f = (leading_at test_refusal (λ t. test_refusal t ≡ some r) (λ t. Iff·rfl) (tests modules)).0 e
+    f = (leading_at test_refusal (λ t. test_refusal t ≡ some r) (λ t. Iff.rfl) (tests modules)).0 e
 
     fixup : (m : Module) (x : Fixup) {o : Option Refusal} → FixupCase m x o → o ≡ some r → (10 ≤ refusal_number r) × (refusal_number r ≤ 13)
     fixup m x (ignored b) e = absurd (none≢some e)

@@ -34,9 +34,12 @@ reference-wide r = ap (λ n. suc (suc (suc n))) (go r.goal)
     go (Goal.Name name) = refl
 
 pub rows-from : (last : SegmentRow) (segments : List Collected) → length (segment_rows_from last segments) ≡ length segments
-unfolding segment_rows_from
-rows-from last [] = refl
-rows-from last (g ∷ rest) = ap suc (rows-from _ rest)
+rows-from last segments = go segments last
+  where
+    go : (gs : List Collected) (row : SegmentRow) → length (segment_rows_from row gs) ≡ length gs
+    unfolding segment_rows_from
+    go [] row = refl
+    go (g ∷ rest) row = ap suc (go rest _)
 
 pub segments-take : (segments : List Collected) → length (segment_numbers segments) ≡ length segments * segment_width
 unfolding segment_numbers

@@ -11,3 +11,6 @@ returns-in-8 c =
 pub returns-in-9 : goal.returns-in-9
 returns-in-9 c =
     or-second (is_in (0x08 ∷ []) c.args.kind) (one_in 0x09 [] c.args.kind c.in-9.is)
+
+pub returns-in_default : goal.returns-in_default
+returns-in_default c = rw (none_in _ _ c.args.kind c.in_default.in_default-own.rest.0.1, none_in _ _ c.args.kind c.in_default.in_default-own.rest.1)

@@ -11,3 +11,6 @@ returns-in-16 c =
 pub returns-in-19 : goal.returns-in-19
 returns-in-19 c =
     or-second (is_in (0x10 ∷ 0x12 ∷ []) c.args.kind) (one_in 0x13 [] c.args.kind c.in-19.is)
+
+pub returns-in_default : goal.returns-in_default
+returns-in_default c = rw (none_in _ _ c.args.kind c.in_default.in_default-own.rest.0.1, none_in _ _ c.args.kind c.in_default.in_default-own.rest.1)

@@ -7,7 +7,7 @@ use Rattle.tables.proofs.by_name.set_heads.Goals as goal
 
 pub overflow_add-bucket : goal.overflow_add-bucket
 overflow_add-bucket c =
-    omega (arith, c.set_head.auto.0, c.well_formed.0)
+    omega (arith, c.set_head.auto.heads, c.well_formed.0)
 
 pub returns-then-bucket-heads : goal.returns-then-bucket-heads
 returns-then-bucket-heads c =
@@ -19,4 +19,4 @@ returns-else-bucket-heads c =
     let a = c.args in
     let once = head_set a.heads.now (key_bucket a.key) a.number in
     c.set_head.ensures ∙ sym (head-out once (key_buckets + a.bucket) a.number
-    (omega (arith, c.if-bucket-heads.false, c.set_head.auto.0, head-length a.heads.now (key_bucket a.key) a.number)))
+    (omega (arith, c.if-bucket-heads.false, c.set_head.auto.heads, head-length a.heads.now (key_bucket a.key) a.number)))

@@ -1,0 +1,68 @@
+use Prim.Native.Nat.{ℕ, suc, ◌+◌, ◌-◌, ◌<◌}
+use mathlib.Core.Path.{◌≡◌, refl, sym, ap, subst, ◌∙◌}
+use mathlib.Core.List.{List, [], ◌∷◌}
+use mathlib.Core.Logic.{inl, inr}
+use native.Mathlib.Omega.{arith}
+use lib.ListN.{length}
+use denote.Enum.Declared.{tag_of}
+use types.Run.{OneOf}
+use Rattle.omf51.specs.contracts.End.{the_type as end_type}
+use Rattle.omf51.specs.contracts.record.Framed.{the_type as framed_type}
+use Rattle.omf51.specs.declared.Frame.{Frame}
+use Rattle.omf51.specs.declared.End.{End}
+use Rattle.omf51.specs.declared.End.TheVariants.{At, Stop, Refused}
+use Rattle.omf51.specs.declared.record.Framed.{Framed}
+use Rattle.omf51.specs.declared.record.Framed.TheVariants as Framed
+use Rattle.omf51.specs.Reader.{read}
+use Rattle.omf51.specs.declared.Edition.TheVariants.{One}
+use Rattle.omf51.specs.Record.{expected}
+use Rattle.omf51.proofs.RecordLaws.{Fits, read_fits}
+use Rattle.omf51.specs.Module.{fills, sections_at}
+use Rattle.omf51.specs.Expected.{frame_read}
+use Rattle.omf51.specs.Ends.{end_of}
+use Rattle.library.specs.EndLaws.{Halts}
+use Rattle.library.specs.SectionLaws.{section-moved}
+use Rattle.library.specs.items.Contents.{seek, next_content}
+use Rattle.library.specs.items.ContentLaws.{Absent, seek-done, seek-item, seek-on, section-passed}
+use borrow.Author.Rules.{rules}
+use Rattle.library.proofs.items.contents.next_content.Goals as goal
+use Rattle.library.proofs.items.contents.next_content.Goals.{In-Read}
+
+passes : (c : In-Read) → end_of (sections_at c.args.library.now c.loop-next.at) ≡ At c.in-At.next
+passes c =
+    sym c.section_end.ensures ∙ c.in-At.is
+
+pub loop-next-init : goal.loop-next-init
+loop-next-init c =
+    record { count = suc (length c.args.library.now); enough = omega arith; same = refl }
+
+pub content_of-content-requires : goal.content_of-content-requires
+content_of-content-requires c =
+    let frame : Frame = c.in-Read.f in
+    let framed : expected c.args.library.now fills c.loop-next.at ≡ read (frame) ((frame).end + 1) = sym c.record_at-framed.ensures ∙ ap frame_read c.in-Read.is in
+    let fits : Fits c.args.library.now c.loop-next.at (frame) ((frame).end + 1) = read_fits c.args.library.now fills c.loop-next.at (framed) in
+    ((section-passed c.args.library.now c.loop-next.at (framed) (passes (goal.at.content_of-content-requires c).In-Read)).room, omega (arith, fits))
+
+pub overflow_add-f : goal.overflow_add-f
+overflow_add-f c =
+    let frame : Frame = c.in-Read.f in
+    let framed : expected c.args.library.now fills c.loop-next.at ≡ read (frame) ((frame).end + 1) = sym c.record_at-framed.ensures ∙ ap frame_read c.in-Read.is in
+    let fits : Fits c.args.library.now c.loop-next.at (frame) ((frame).end + 1) = read_fits c.args.library.now fills c.loop-next.at (framed) in
+    omega (arith, fits)
+
+pub returns-in-Read : goal.returns-in-Read
+returns-in-Read c =
+    let frame : Frame = c.in-Read.f in
+    let framed : expected c.args.library.now fills c.loop-next.at ≡ read (frame) ((frame).end + 1) = sym c.record_at-framed.ensures ∙ ap frame_read c.in-Read.is in
+    let l = c.loop-next in
+    rw (c.content_of-content.ensures, c.start-fixups.ensures)
+    (sym (seek-item l.invariant.count c.args.library.now l.at (omega (arith, l.invariant.enough))
+    (passes (goal.at.returns-in-Read c).In-Read) (framed)) ∙ l.invariant.same)
+
+pub loop-next-smaller : goal.loop-next-smaller
+loop-next-smaller c =
+    omega (
+      arith,
+      section-moved One c.args.library.now
+          c.loop-next.at (sym c.section_end.ensures ∙ c.in-At.is),
+    )

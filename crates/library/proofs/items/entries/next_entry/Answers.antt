@@ -1,0 +1,70 @@
+use Prim.Native.Nat.{ℕ, suc, ◌-◌, ◌<◌}
+use mathlib.Core.Path.{◌≡◌, refl, sym, subst, ◌∙◌}
+use mathlib.Core.List.{List, [], ◌∷◌}
+use mathlib.Core.Logic.{inl, inr}
+use native.Mathlib.Omega.{arith}
+use lib.ListN.{length}
+use denote.Enum.Declared.{tag_of}
+use types.Run.{OneOf}
+use Rattle.omf51.specs.contracts.End.{the_type}
+use Rattle.omf51.specs.declared.End.{End}
+use Rattle.omf51.specs.declared.End.TheVariants.{At, Stop, Refused}
+use Rattle.omf51.specs.declared.entry.Entries.{Entries}
+use Rattle.omf51.specs.declared.Edition.TheVariants.{One}
+use Rattle.library.specs.EndLaws.{Halts}
+use Rattle.library.specs.PassLaws.{record-moved}
+use Rattle.library.specs.declared.items.Cursor.{Cursor}
+use Rattle.library.specs.items.Walk.{entry_in, steps, next_entry}
+use Rattle.library.specs.items.WalkLaws.{step-item, step-record, step-done}
+use borrow.Author.Rules.{rules}
+use Rattle.library.proofs.items.entries.next_entry.Goals as goal
+use Rattle.library.proofs.items.entries.next_entry.Goals.{In_default}
+
+-- an end that is no place
+halts : (e : End) → OneOf (1 ∷ 2 ∷ []) (tag_of the_type e) → Halts e
+halts (At k) (inl z) = absurd (omega arith)
+halts (At k) (inr z) = absurd (omega arith)
+halts Stop h = tt
+halts (Refused r) h = tt
+
+no-entry : (c : In_default) → Halts
+    (entry_in c.args.what c.args.library.now c.loop-end.c)
+no-entry c =
+    subst Halts c.entry_in-entry.ensures (halts c.entry_in-entry.result c.in_default.keys2)
+
+pub loop-end-init : goal.loop-end-init
+loop-end-init c =
+    record { count = suc (length c.args.library.now); enough = omega arith; same = refl }
+
+pub returns-in-At : goal.returns-in-At
+returns-in-At c =
+    let a = c.args in
+    let l = c.loop-end in
+    rw c.moved.ensures
+    (sym (step-item l.invariant.count a.what a.library.now l.c (omega (arith, l.invariant.enough)) (sym c.entry_in-entry.ensures ∙ c.in-At.is)) ∙ l.invariant.same)
+
+pub entered-c-requires : goal.entered-c-requires
+entered-c-requires c =
+    let a = c.args in record-moved One a.what a.library.now c.loop-end.c.next
+    (sym c.record_end.ensures ∙ c.in-At-record_end.is)
+
+pub loop-end-smaller : goal.loop-end-smaller
+loop-end-smaller c =
+    let a = c.args in
+    rw c.entered-c.ensures (omega (
+      arith,
+      record-moved One a.what a.library.now c.loop-end.c.next
+          (sym c.record_end.ensures ∙ c.in-At-record_end.is),
+    ))
+
+pub loop-end-preserved : goal.loop-end-preserved
+loop-end-preserved c =
+    let a = c.args in
+    let l = c.loop-end in
+    let e = sym c.record_end.ensures ∙ c.in-At-record_end.is in
+    let m = record-moved One a.what a.library.now l.c.next e in
+    rw c.entered-c.ensures (record {
+      count = l.invariant.count - 1;
+      enough = omega (arith, m, l.invariant.enough);
+      same = sym (step-record l.invariant.count a.what a.library.now l.c (omega (arith, l.invariant.enough)) (no-entry (goal.at.loop-end-preserved c).In_default) e) ∙ l.invariant.same;
+    })

@@ -1,0 +1,54 @@
+-- `next_in_definitions`: in the cursor's body, or in the next record, or else as `next_entry` goes on from there. Assumes nothing.
+use Prim.Native.Nat.{suc}
+use mathlib.Core.Path.{◌≡◌, sym, ap, subst, ◌∙◌}
+use mathlib.Core.List.{[], ◌∷◌}
+use mathlib.Core.Logic.{inl, inr}
+use native.Mathlib.Omega.{arith}
+use lib.ListN.{length}
+use denote.Enum.Declared.{tag_of}
+use types.Run.{OneOf}
+use Rattle.omf51.specs.contracts.End.{the_type}
+use Rattle.omf51.specs.declared.End.{End}
+use Rattle.omf51.specs.declared.End.TheVariants.{At, Stop, Refused}
+use Rattle.omf51.specs.declared.entry.Entries.TheVariants.{Definitions}
+use Rattle.omf51.specs.declared.Edition.TheVariants.{One}
+use Rattle.library.specs.EndLaws.{Halts}
+use Rattle.library.specs.PassLaws.{record-moved}
+use Rattle.library.specs.items.Walk.{entry_in, next_entry}
+use Rattle.library.specs.items.WalkLaws.{step-item, step-done, next-record}
+use borrow.Author.Rules.{rules}
+use Rattle.library.proofs.items.entries.next_in_definitions.Goals as goal
+
+halts : (e : End) → OneOf (1 ∷ 2 ∷ []) (tag_of the_type e) → Halts e
+halts (At k) (inl z) = absurd (omega arith)
+halts (At k) (inr z) = absurd (omega arith)
+halts Stop h = tt
+halts (Refused r) h = tt
+
+pub entered-c-requires : goal.entered-c-requires
+entered-c-requires c =
+    let a = c.args in
+    record-moved One Definitions a.library.now a.from.next (sym c.record_end.ensures ∙ c.in-At-record_end.is)
+
+pub returns-in-At : goal.returns-in-At
+returns-in-At c =
+    let a = c.args in
+    sym (step-item (suc (length a.library.now)) Definitions a.library.now a.from (omega arith) (sym c.entry_in-entry.ensures ∙ c.in-At.is))
+
+pub returns-in-At-first : goal.returns-in-At-first
+returns-in-At-first c =
+    let no-entry : Halts (entry_in Definitions c.args.library.now c.args.from) = subst Halts c.entry_in-entry.ensures (halts c.entry_in-entry.result c.in_default.keys2) in
+    let entered : let a = c.args in next_entry Definitions a.library.now a.from ≡ next_entry Definitions a.library.now c.entered-c.result = let a = c.args in
+    next-record Definitions a.library.now a.from (no-entry) (sym c.record_end.ensures ∙ c.in-At-record_end.is)
+    ∙ ap (next_entry Definitions a.library.now) (sym c.entered-c.ensures) in
+    let a = c.args in
+    sym (entered ∙ step-item (suc (length a.library.now)) Definitions a.library.now c.entered-c.result (omega arith)
+    (sym c.entry_in-first.ensures ∙ c.in-At-first.is))
+
+pub returns : goal.returns
+returns c =
+    let no-entry : Halts (entry_in Definitions c.args.library.now c.args.from) = subst Halts c.entry_in-entry.ensures (halts c.entry_in-entry.result c.in_default.keys2) in
+    let entered : let a = c.args in next_entry Definitions a.library.now a.from ≡ next_entry Definitions a.library.now c.entered-c.result = let a = c.args in
+    next-record Definitions a.library.now a.from (no-entry) (sym c.record_end.ensures ∙ c.in-At-record_end.is)
+    ∙ ap (next_entry Definitions a.library.now) (sym c.entered-c.ensures) in
+    c.next_entry.ensures ∙ sym (entered)

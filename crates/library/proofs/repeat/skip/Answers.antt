@@ -1,0 +1,29 @@
+use Prim.Native.Nat.{◌-◌}
+use mathlib.Core.Path.{◌≡◌, refl, sym, ◌∙◌}
+use native.Mathlib.Omega.{arith}
+use lib.ListN.{length}
+use Rattle.omf51.specs.declared.Edition.TheVariants.{One}
+use Rattle.library.specs.Passes.{all_end_by}
+use Rattle.library.specs.PassLaws.{all-turn, record-moved}
+use borrow.Author.Rules.{rules}
+use Rattle.library.proofs.repeat.skip.Goals as goal
+
+pub loop-next-smaller : goal.loop-next-smaller
+loop-next-smaller c =
+    let a = c.args in
+    omega (arith, record-moved One a.what a.library.now c.loop-next.at (sym c.record_end.ensures ∙ c.in-At.is))
+
+pub loop-next-preserved : goal.loop-next-preserved
+loop-next-preserved c =
+    let a = c.args in
+    sym (all-turn One a.what a.library.now c.loop-next.at (sym c.record_end.ensures ∙ c.in-At.is)) ∙ c.loop-next.invariant
+
+pub returns-in-Stop : goal.returns-in-Stop
+returns-in-Stop c =
+    let a = c.args in
+    sym (all-turn One a.what a.library.now c.loop-next.at (sym c.record_end.ensures ∙ c.in-Stop.is)) ∙ c.loop-next.invariant
+
+pub returns-in-Refused : goal.returns-in-Refused
+returns-in-Refused c =
+    let a = c.args in
+    sym (all-turn One a.what a.library.now c.loop-next.at (sym c.record_end.ensures ∙ c.in-Refused.is)) ∙ c.loop-next.invariant

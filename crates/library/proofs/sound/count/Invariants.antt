@@ -1,0 +1,27 @@
+-- `count` goes from module to module. The invariant: counted on from here, they are as many as from the start. Assumes nothing.
+use Prim.Native.Nat.{ℕ, ◌-◌, ◌≤◌}
+use mathlib.Core.Path.{◌≡◌, sym, ap, ◌∙◌}
+use mathlib.Core.List.{List}
+use native.Mathlib.Omega.{arith}
+use lib.ListN.{length}
+use Rattle.omf51.specs.Reader.{many}
+use Rattle.omf51.specs.declared.Edition.TheVariants.{Two}
+use Rattle.omf51.specs.Module.{module_by}
+use Rattle.library.specs.declared.ModuleAt.{ModuleAt}
+use Rattle.library.specs.Passes.{places_read, places_by}
+use Rattle.library.specs.Reading.{count_of}
+use Rattle.library.specs.WholeLaws.{count_from, count-all, count_turn, count-ends, count-refuses, module-moved}
+use borrow.Author.Rules.{rules}
+use Rattle.library.proofs.sound.count.Given as goal
+
+pub record Inv (library : List ℕ) (from at count : ℕ) : Type 0 where
+  pub few : count ≤ at
+  pub same : count_from count (many library (module_by Two library) at) ≡ count_of (many library (module_by Two library) from)
+
+abbrev pub invariant-loop-places : goal.invariant-loop-places
+invariant-loop-places l =
+    Inv l.library l.from l.at l.count
+
+abbrev pub decreases-loop-places : goal.decreases-loop-places
+decreases-loop-places l =
+    length l.library - l.at
