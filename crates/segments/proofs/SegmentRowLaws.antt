@@ -34,10 +34,10 @@ reference-wide r = ap (λ n. suc (suc (suc n))) (go r.goal)
     go (Goal.Name name) = refl
 
 pub rows-from : (last : SegmentRow) (segments : List Collected) → length (segment_rows_from last segments) ≡ length segments
+unfolding segment_rows_from
 rows-from last segments = go segments last
   where
     go : (gs : List Collected) (row : SegmentRow) → length (segment_rows_from row gs) ≡ length gs
-    unfolding segment_rows_from
     go [] row = refl
     go (g ∷ rest) row = ap suc (go rest _)
 

@@ -21,23 +21,23 @@ is-not c e =
 
 pub overflow_add-f : goal.overflow_add-f
 overflow_add-f c =
-    let framed : (r : Framed) → c.record_by.result ≡ r → expected_by c.args.edition c.args.library.now (one_type 0x2c) 0 ≡ frame_read r = λ r e. sym c.record_by.ensures ∙ ap frame_read e in
+    let framed : (r : Framed) → c.record_by.result ≡ r → expected_by c.args.edition c.args.library.now (one_type 0x2c) 0 ≡ frame_read r = λ _ e. sym c.record_by.ensures ∙ ap frame_read e in
     let a = c.args in
     omega (arith, read_by a.library.now (one_type 0x2c) 0 a.edition (framed _ c.in-Read.is))
 
 pub returns-in-Read : goal.returns-in-Read
 returns-in-Read c =
-    let framed : (r : Framed) → c.record_by.result ≡ r → expected_by c.args.edition c.args.library.now (one_type 0x2c) 0 ≡ frame_read r = λ r e. sym c.record_by.ensures ∙ ap frame_read e in
+    let framed : (r : Framed) → c.record_by.result ≡ r → expected_by c.args.edition c.args.library.now (one_type 0x2c) 0 ≡ frame_read r = λ _ e. sym c.record_by.ensures ∙ ap frame_read e in
     c.library_from.ensures ∙ sym (library-read c.args.edition c.args.library.now (is (goal.at.returns-in-Read c).Then-byte_at-eq44) (framed _ c.in-Read.is))
 
 pub returns-in-Stop : goal.returns-in-Stop
 returns-in-Stop c =
-    let framed : (r : Framed) → c.record_by.result ≡ r → expected_by c.args.edition c.args.library.now (one_type 0x2c) 0 ≡ frame_read r = λ r e. sym c.record_by.ensures ∙ ap frame_read e in
+    let framed : (r : Framed) → c.record_by.result ≡ r → expected_by c.args.edition c.args.library.now (one_type 0x2c) 0 ≡ frame_read r = λ _ e. sym c.record_by.ensures ∙ ap frame_read e in
     sym (library-halts c.args.edition c.args.library.now (is (goal.at.returns-in-Stop c).Then-byte_at-eq44) (framed _ c.in-Stop.is))
 
 pub returns-in-Refused : goal.returns-in-Refused
 returns-in-Refused c =
-    let framed : (r : Framed) → c.record_by.result ≡ r → expected_by c.args.edition c.args.library.now (one_type 0x2c) 0 ≡ frame_read r = λ r e. sym c.record_by.ensures ∙ ap frame_read e in
+    let framed : (r : Framed) → c.record_by.result ≡ r → expected_by c.args.edition c.args.library.now (one_type 0x2c) 0 ≡ frame_read r = λ _ e. sym c.record_by.ensures ∙ ap frame_read e in
     sym (library-refuses c.args.edition c.args.library.now (is (goal.at.returns-in-Refused c).Then-byte_at-eq44) (framed _ c.in-Refused.is))
 
 pub returns-in-Modules : goal.returns-in-Modules

@@ -19,17 +19,17 @@ loop-places-init c =
 
 pub overflow_add-count : goal.overflow_add-count
 overflow_add-count c =
-    let stands : (r : ModuleAt) → c.module_at.result ≡ r → places_by One c.args.library.now c.loop-places.at ≡ places_read r = λ r e. sym c.module_at.ensures ∙ ap places_read e in
+    let stands : (r : ModuleAt) → c.module_at.result ≡ r → places_by One c.args.library.now c.loop-places.at ≡ places_read r = λ _ e. sym c.module_at.ensures ∙ ap places_read e in
     omega (arith, c.loop-places.invariant.few, module-moved One c.args.library.now c.loop-places.at (stands _ c.in-Whole.is))
 
 pub loop-places-smaller : goal.loop-places-smaller
 loop-places-smaller c =
-    let stands : (r : ModuleAt) → c.module_at.result ≡ r → places_by One c.args.library.now c.loop-places.at ≡ places_read r = λ r e. sym c.module_at.ensures ∙ ap places_read e in
+    let stands : (r : ModuleAt) → c.module_at.result ≡ r → places_by One c.args.library.now c.loop-places.at ≡ places_read r = λ _ e. sym c.module_at.ensures ∙ ap places_read e in
     omega (arith, module-moved One c.args.library.now c.loop-places.at (stands _ c.in-Whole.is))
 
 pub loop-places-preserved : goal.loop-places-preserved
 loop-places-preserved c =
-    let stands : (r : ModuleAt) → c.module_at.result ≡ r → places_by One c.args.library.now c.loop-places.at ≡ places_read r = λ r e. sym c.module_at.ensures ∙ ap places_read e in
+    let stands : (r : ModuleAt) → c.module_at.result ≡ r → places_by One c.args.library.now c.loop-places.at ≡ places_read r = λ _ e. sym c.module_at.ensures ∙ ap places_read e in
     let l = c.loop-places in
     let e = stands _ c.in-Whole.is in
     record {
@@ -39,12 +39,12 @@ loop-places-preserved c =
 
 pub returns-in-Stop : goal.returns-in-Stop
 returns-in-Stop c =
-    let stands : (r : ModuleAt) → c.module_at.result ≡ r → places_by One c.args.library.now c.loop-places.at ≡ places_read r = λ r e. sym c.module_at.ensures ∙ ap places_read e in
+    let stands : (r : ModuleAt) → c.module_at.result ≡ r → places_by One c.args.library.now c.loop-places.at ≡ places_read r = λ _ e. sym c.module_at.ensures ∙ ap places_read e in
     let l = c.loop-places in sym
     (count-ends One c.args.library.now l.at l.count (stands _ c.in-Stop.is)) ∙ l.invariant.same
 
 pub returns-in-Refused : goal.returns-in-Refused
 returns-in-Refused c =
-    let stands : (r : ModuleAt) → c.module_at.result ≡ r → places_by One c.args.library.now c.loop-places.at ≡ places_read r = λ r e. sym c.module_at.ensures ∙ ap places_read e in
+    let stands : (r : ModuleAt) → c.module_at.result ≡ r → places_by One c.args.library.now c.loop-places.at ≡ places_read r = λ _ e. sym c.module_at.ensures ∙ ap places_read e in
     let l = c.loop-places in sym
     (count-refuses One c.args.library.now l.at l.count (stands _ c.in-Refused.is)) ∙ l.invariant.same

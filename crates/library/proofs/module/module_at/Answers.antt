@@ -10,16 +10,16 @@ use Rattle.library.proofs.module.module_at.Goals as goal
 
 pub returns-in-Read : goal.returns-in-Read
 returns-in-Read c =
-    let headed : (r : Named) → c.named_at.result ≡ r → head_by One c.args.library.now c.args.at ≡ name_read r = λ r e. sym c.named_at.ensures ∙ ap name_read e in
+    let headed : (r : Named) → c.named_at.result ≡ r → head_by One c.args.library.now c.args.at ≡ name_read r = λ _ e. sym c.named_at.ensures ∙ ap name_read e in
     let a = c.args in c.rest_places.ensures ∙ sym
     (head-known One a.library.now a.at (headed _ c.in-Read.is))
 
 pub returns-in-Stop : goal.returns-in-Stop
 returns-in-Stop c =
-    let headed : (r : Named) → c.named_at.result ≡ r → head_by One c.args.library.now c.args.at ≡ name_read r = λ r e. sym c.named_at.ensures ∙ ap name_read e in
+    let headed : (r : Named) → c.named_at.result ≡ r → head_by One c.args.library.now c.args.at ≡ name_read r = λ _ e. sym c.named_at.ensures ∙ ap name_read e in
     let a = c.args in sym (head-known One a.library.now a.at (headed _ c.in-Stop.is))
 
 pub returns-in-Refused : goal.returns-in-Refused
 returns-in-Refused c =
-    let headed : (r : Named) → c.named_at.result ≡ r → head_by One c.args.library.now c.args.at ≡ name_read r = λ r e. sym c.named_at.ensures ∙ ap name_read e in
+    let headed : (r : Named) → c.named_at.result ≡ r → head_by One c.args.library.now c.args.at ≡ name_read r = λ _ e. sym c.named_at.ensures ∙ ap name_read e in
     let a = c.args in sym (head-known One a.library.now a.at (headed _ c.in-Refused.is))

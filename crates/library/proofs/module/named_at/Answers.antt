@@ -16,14 +16,14 @@ use Rattle.library.proofs.module.named_at.Goals as goal
 
 pub overflow_sub-end : goal.overflow_sub-end
 overflow_sub-end c =
-    let framed : (r : Framed) → c.record_at.result ≡ r → expected_by One c.args.library.now (one_type c.args.kind) c.args.at ≡ frame_read r = λ r e. let a = c.args in first-expected a.library.now (one_type a.kind) a.at ∙ sym c.record_at.ensures ∙ ap frame_read e in
+    let framed : (r : Framed) → c.record_at.result ≡ r → expected_by One c.args.library.now (one_type c.args.kind) c.args.at ≡ frame_read r = λ _ e. let a = c.args in first-expected a.library.now (one_type a.kind) a.at ∙ sym c.record_at.ensures ∙ ap frame_read e in
     let frame : Frame = c.in-Read.f in
     let fits : Fits c.args.library.now c.args.at (frame) ((frame).end + 1) = let a = c.args in read_by a.library.now (one_type a.kind) a.at One (framed _ c.in-Read.is) in
     omega (arith, fits)
 
 pub returns-then-end-body : goal.returns-then-end-body
 returns-then-end-body c =
-    let framed : (r : Framed) → c.record_at.result ≡ r → expected_by One c.args.library.now (one_type c.args.kind) c.args.at ≡ frame_read r = λ r e. let a = c.args in first-expected a.library.now (one_type a.kind) a.at ∙ sym c.record_at.ensures ∙ ap frame_read e in
+    let framed : (r : Framed) → c.record_at.result ≡ r → expected_by One c.args.library.now (one_type c.args.kind) c.args.at ≡ frame_read r = λ _ e. let a = c.args in first-expected a.library.now (one_type a.kind) a.at ∙ sym c.record_at.ensures ∙ ap frame_read e in
     let frame : Frame = c.in-Read.f in
     let fits : Fits c.args.library.now c.args.at (frame) ((frame).end + 1) = let a = c.args in read_by a.library.now (one_type a.kind) a.at One (framed _ c.in-Read.is) in
     let len : c.wide-len.result ≡ byte_at c.args.library.now (frame).body = c.wide-len.ensures.0 ∙ c.byte_at.ensures in
@@ -32,21 +32,21 @@ returns-then-end-body c =
 
 pub overflow_add-result : goal.overflow_add-result
 overflow_add-result c =
-    let framed : (r : Framed) → c.record_at.result ≡ r → expected_by One c.args.library.now (one_type c.args.kind) c.args.at ≡ frame_read r = λ r e. let a = c.args in first-expected a.library.now (one_type a.kind) a.at ∙ sym c.record_at.ensures ∙ ap frame_read e in
+    let framed : (r : Framed) → c.record_at.result ≡ r → expected_by One c.args.library.now (one_type c.args.kind) c.args.at ≡ frame_read r = λ _ e. let a = c.args in first-expected a.library.now (one_type a.kind) a.at ∙ sym c.record_at.ensures ∙ ap frame_read e in
     let frame : Frame = c.in-Read.f in
     let fits : Fits c.args.library.now c.args.at (frame) ((frame).end + 1) = let a = c.args in read_by a.library.now (one_type a.kind) a.at One (framed _ c.in-Read.is) in
     omega (arith, fits)
 
 pub overflow_add-result-in-Read : goal.overflow_add-result-in-Read
 overflow_add-result-in-Read c =
-    let framed : (r : Framed) → c.record_at.result ≡ r → expected_by One c.args.library.now (one_type c.args.kind) c.args.at ≡ frame_read r = λ r e. let a = c.args in first-expected a.library.now (one_type a.kind) a.at ∙ sym c.record_at.ensures ∙ ap frame_read e in
+    let framed : (r : Framed) → c.record_at.result ≡ r → expected_by One c.args.library.now (one_type c.args.kind) c.args.at ≡ frame_read r = λ _ e. let a = c.args in first-expected a.library.now (one_type a.kind) a.at ∙ sym c.record_at.ensures ∙ ap frame_read e in
     let frame : Frame = c.in-Read.f in
     let fits : Fits c.args.library.now c.args.at (frame) ((frame).end + 1) = let a = c.args in read_by a.library.now (one_type a.kind) a.at One (framed _ c.in-Read.is) in
     omega (arith, fits)
 
 pub returns-else-end-body : goal.returns-else-end-body
 returns-else-end-body c =
-    let framed : (r : Framed) → c.record_at.result ≡ r → expected_by One c.args.library.now (one_type c.args.kind) c.args.at ≡ frame_read r = λ r e. let a = c.args in first-expected a.library.now (one_type a.kind) a.at ∙ sym c.record_at.ensures ∙ ap frame_read e in
+    let framed : (r : Framed) → c.record_at.result ≡ r → expected_by One c.args.library.now (one_type c.args.kind) c.args.at ≡ frame_read r = λ _ e. let a = c.args in first-expected a.library.now (one_type a.kind) a.at ∙ sym c.record_at.ensures ∙ ap frame_read e in
     let frame : Frame = c.in-Read.f in
     let fits : Fits c.args.library.now c.args.at (frame) ((frame).end + 1) = let a = c.args in read_by a.library.now (one_type a.kind) a.at One (framed _ c.in-Read.is) in
     let len : c.wide-len.result ≡ byte_at c.args.library.now (frame).body = c.wide-len.ensures.0 ∙ c.byte_at.ensures in
@@ -56,12 +56,12 @@ returns-else-end-body c =
 
 pub returns-in-Stop : goal.returns-in-Stop
 returns-in-Stop c =
-    let framed : (r : Framed) → c.record_at.result ≡ r → expected_by One c.args.library.now (one_type c.args.kind) c.args.at ≡ frame_read r = λ r e. let a = c.args in first-expected a.library.now (one_type a.kind) a.at ∙ sym c.record_at.ensures ∙ ap frame_read e in
+    let framed : (r : Framed) → c.record_at.result ≡ r → expected_by One c.args.library.now (one_type c.args.kind) c.args.at ≡ frame_read r = λ _ e. let a = c.args in first-expected a.library.now (one_type a.kind) a.at ∙ sym c.record_at.ensures ∙ ap frame_read e in
     let a = c.args in
     sym (record-framed One a.library.now (one_type a.kind) (name_with a.more a.library.now) a.at (framed _ c.in-Stop.is))
 
 pub returns-in-Refused : goal.returns-in-Refused
 returns-in-Refused c =
-    let framed : (r : Framed) → c.record_at.result ≡ r → expected_by One c.args.library.now (one_type c.args.kind) c.args.at ≡ frame_read r = λ r e. let a = c.args in first-expected a.library.now (one_type a.kind) a.at ∙ sym c.record_at.ensures ∙ ap frame_read e in
+    let framed : (r : Framed) → c.record_at.result ≡ r → expected_by One c.args.library.now (one_type c.args.kind) c.args.at ≡ frame_read r = λ _ e. let a = c.args in first-expected a.library.now (one_type a.kind) a.at ∙ sym c.record_at.ensures ∙ ap frame_read e in
     let a = c.args in
     sym (record-framed One a.library.now (one_type a.kind) (name_with a.more a.library.now) a.at (framed _ c.in-Refused.is))

@@ -16,14 +16,14 @@ use Rattle.library.proofs.repeat.record_end.Goals as goal
 
 pub overflow_add-next : goal.overflow_add-next
 overflow_add-next c =
-    let framed : (r : Framed) → c.record_at.result ≡ r → expected_by One c.args.library.now (allows (allowed_for c.args.what)) c.args.at ≡ frame_read r = λ r e. let a = c.args in
+    let framed : (r : Framed) → c.record_at.result ≡ r → expected_by One c.args.library.now (allows (allowed_for c.args.what)) c.args.at ≡ frame_read r = λ _ e. let a = c.args in
     ap (λ w. expected_by One a.library.now (allows w) a.at) (sym c.allowed_for.ensures) ∙ first-expected a.library.now _ a.at ∙ sym c.record_at.ensures ∙ ap frame_read e in
     let a = c.args in
     omega (arith, read_by a.library.now (allows (allowed_for a.what)) a.at One (framed _ c.in-Read.is))
 
 pub returns-then-holds : goal.returns-then-holds
 returns-then-holds c =
-    let framed : (r : Framed) → c.record_at.result ≡ r → expected_by One c.args.library.now (allows (allowed_for c.args.what)) c.args.at ≡ frame_read r = λ r e. let a = c.args in
+    let framed : (r : Framed) → c.record_at.result ≡ r → expected_by One c.args.library.now (allows (allowed_for c.args.what)) c.args.at ≡ frame_read r = λ _ e. let a = c.args in
     ap (λ w. expected_by One a.library.now (allows w) a.at) (sym c.allowed_for.ensures) ∙ first-expected a.library.now _ a.at ∙ sym c.record_at.ensures ∙ ap frame_read e in
     let a = c.args in
     let f = c.in-Read.f in
@@ -33,19 +33,19 @@ returns-then-holds c =
 
 pub returns-else-holds : goal.returns-else-holds
 returns-else-holds c =
-    let framed : (r : Framed) → c.record_at.result ≡ r → expected_by One c.args.library.now (allows (allowed_for c.args.what)) c.args.at ≡ frame_read r = λ r e. let a = c.args in
+    let framed : (r : Framed) → c.record_at.result ≡ r → expected_by One c.args.library.now (allows (allowed_for c.args.what)) c.args.at ≡ frame_read r = λ _ e. let a = c.args in
     ap (λ w. expected_by One a.library.now (allows w) a.at) (sym c.allowed_for.ensures) ∙ first-expected a.library.now _ a.at ∙ sym c.record_at.ensures ∙ ap frame_read e in
     let a = c.args in
     sym (record-skipped One a.what a.library.now a.at (framed _ c.in-Read.is) (sym c.holds.ensures ∙ c.if-holds.false))
 
 pub returns-in-Stop : goal.returns-in-Stop
 returns-in-Stop c =
-    let framed : (r : Framed) → c.record_at.result ≡ r → expected_by One c.args.library.now (allows (allowed_for c.args.what)) c.args.at ≡ frame_read r = λ r e. let a = c.args in
+    let framed : (r : Framed) → c.record_at.result ≡ r → expected_by One c.args.library.now (allows (allowed_for c.args.what)) c.args.at ≡ frame_read r = λ _ e. let a = c.args in
     ap (λ w. expected_by One a.library.now (allows w) a.at) (sym c.allowed_for.ensures) ∙ first-expected a.library.now _ a.at ∙ sym c.record_at.ensures ∙ ap frame_read e in
     let a = c.args in sym (record-halts One a.what a.library.now a.at (framed _ c.in-Stop.is))
 
 pub returns-in-Refused : goal.returns-in-Refused
 returns-in-Refused c =
-    let framed : (r : Framed) → c.record_at.result ≡ r → expected_by One c.args.library.now (allows (allowed_for c.args.what)) c.args.at ≡ frame_read r = λ r e. let a = c.args in
+    let framed : (r : Framed) → c.record_at.result ≡ r → expected_by One c.args.library.now (allows (allowed_for c.args.what)) c.args.at ≡ frame_read r = λ _ e. let a = c.args in
     ap (λ w. expected_by One a.library.now (allows w) a.at) (sym c.allowed_for.ensures) ∙ first-expected a.library.now _ a.at ∙ sym c.record_at.ensures ∙ ap frame_read e in
     let a = c.args in sym (record-refuses One a.what a.library.now a.at (framed _ c.in-Refused.is))

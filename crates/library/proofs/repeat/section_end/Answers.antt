@@ -20,27 +20,27 @@ returns-then-fills c =
 
 pub overflow_add-result : goal.overflow_add-result
 overflow_add-result c =
-    let framed : (r : Framed) → c.record_at.result ≡ r → expected_by One c.args.library.now is_idle c.args.at ≡ frame_read r = λ r e. let a = c.args in first-expected a.library.now is_idle a.at ∙ sym c.record_at.ensures ∙ ap frame_read e in
+    let framed : (r : Framed) → c.record_at.result ≡ r → expected_by One c.args.library.now is_idle c.args.at ≡ frame_read r = λ _ e. let a = c.args in first-expected a.library.now is_idle a.at ∙ sym c.record_at.ensures ∙ ap frame_read e in
     let a = c.args in omega
     (arith, read_by a.library.now is_idle a.at One (framed _ c.in-Read.is))
 
 pub returns-in-Read : goal.returns-in-Read
 returns-in-Read c =
-    let framed : (r : Framed) → c.record_at.result ≡ r → expected_by One c.args.library.now is_idle c.args.at ≡ frame_read r = λ r e. let a = c.args in first-expected a.library.now is_idle a.at ∙ sym c.record_at.ensures ∙ ap frame_read e in
-    let idle : (r : Framed) → c.record_at.result ≡ r → end_of (sections_by One c.args.library.now c.args.at) ≡ end_of (frame_read r) = λ r e. let a = c.args in
+    let framed : (r : Framed) → c.record_at.result ≡ r → expected_by One c.args.library.now is_idle c.args.at ≡ frame_read r = λ _ e. let a = c.args in first-expected a.library.now is_idle a.at ∙ sym c.record_at.ensures ∙ ap frame_read e in
+    let idle : (r : Framed) → c.record_at.result ≡ r → end_of (sections_by One c.args.library.now c.args.at) ≡ end_of (frame_read r) = λ _ e. let a = c.args in
     section-idle One a.library.now a.at (ap fills (sym c.byte_at.ensures) ∙ sym c.fills.ensures ∙ c.if-fills.false) (framed _ e) in
     sym (idle _ c.in-Read.is)
 
 pub returns-in-Stop : goal.returns-in-Stop
 returns-in-Stop c =
-    let framed : (r : Framed) → c.record_at.result ≡ r → expected_by One c.args.library.now is_idle c.args.at ≡ frame_read r = λ r e. let a = c.args in first-expected a.library.now is_idle a.at ∙ sym c.record_at.ensures ∙ ap frame_read e in
-    let idle : (r : Framed) → c.record_at.result ≡ r → end_of (sections_by One c.args.library.now c.args.at) ≡ end_of (frame_read r) = λ r e. let a = c.args in
+    let framed : (r : Framed) → c.record_at.result ≡ r → expected_by One c.args.library.now is_idle c.args.at ≡ frame_read r = λ _ e. let a = c.args in first-expected a.library.now is_idle a.at ∙ sym c.record_at.ensures ∙ ap frame_read e in
+    let idle : (r : Framed) → c.record_at.result ≡ r → end_of (sections_by One c.args.library.now c.args.at) ≡ end_of (frame_read r) = λ _ e. let a = c.args in
     section-idle One a.library.now a.at (ap fills (sym c.byte_at.ensures) ∙ sym c.fills.ensures ∙ c.if-fills.false) (framed _ e) in
     sym (idle _ c.in-Stop.is)
 
 pub returns-in-Refused : goal.returns-in-Refused
 returns-in-Refused c =
-    let framed : (r : Framed) → c.record_at.result ≡ r → expected_by One c.args.library.now is_idle c.args.at ≡ frame_read r = λ r e. let a = c.args in first-expected a.library.now is_idle a.at ∙ sym c.record_at.ensures ∙ ap frame_read e in
-    let idle : (r : Framed) → c.record_at.result ≡ r → end_of (sections_by One c.args.library.now c.args.at) ≡ end_of (frame_read r) = λ r e. let a = c.args in
+    let framed : (r : Framed) → c.record_at.result ≡ r → expected_by One c.args.library.now is_idle c.args.at ≡ frame_read r = λ _ e. let a = c.args in first-expected a.library.now is_idle a.at ∙ sym c.record_at.ensures ∙ ap frame_read e in
+    let idle : (r : Framed) → c.record_at.result ≡ r → end_of (sections_by One c.args.library.now c.args.at) ≡ end_of (frame_read r) = λ _ e. let a = c.args in
     section-idle One a.library.now a.at (ap fills (sym c.byte_at.ensures) ∙ sym c.fills.ensures ∙ c.if-fills.false) (framed _ e) in
     sym (idle _ c.in-Refused.is)

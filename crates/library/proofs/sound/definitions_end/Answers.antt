@@ -15,19 +15,19 @@ use Rattle.library.proofs.sound.definitions_end.Goals as goal
 
 pub overflow_add-next : goal.overflow_add-next
 overflow_add-next c =
-    let framed : (r : Framed) → c.record_by.result ≡ r → expected_by Two c.args.library.now (allows Allowed.Definitions) c.args.at ≡ frame_read r = λ r e. sym c.record_by.ensures ∙ ap frame_read e in
+    let framed : (r : Framed) → c.record_by.result ≡ r → expected_by Two c.args.library.now (allows Allowed.Definitions) c.args.at ≡ frame_read r = λ _ e. sym c.record_by.ensures ∙ ap frame_read e in
     let a = c.args in
     omega (arith, read_by a.library.now (allows Allowed.Definitions) a.at Two (framed _ c.in-Read.is))
 
 pub entries_end-requires : goal.entries_end-requires
 entries_end-requires c =
-    let framed : (r : Framed) → c.record_by.result ≡ r → expected_by Two c.args.library.now (allows Allowed.Definitions) c.args.at ≡ frame_read r = λ r e. sym c.record_by.ensures ∙ ap frame_read e in
+    let framed : (r : Framed) → c.record_by.result ≡ r → expected_by Two c.args.library.now (allows Allowed.Definitions) c.args.at ≡ frame_read r = λ _ e. sym c.record_by.ensures ∙ ap frame_read e in
     let a = c.args in
     omega (arith, read_by a.library.now (allows Allowed.Definitions) a.at Two (framed _ c.in-Read.is))
 
 pub returns-then-defines : goal.returns-then-defines
 returns-then-defines c =
-    let framed : (r : Framed) → c.record_by.result ≡ r → expected_by Two c.args.library.now (allows Allowed.Definitions) c.args.at ≡ frame_read r = λ r e. sym c.record_by.ensures ∙ ap frame_read e in
+    let framed : (r : Framed) → c.record_by.result ≡ r → expected_by Two c.args.library.now (allows Allowed.Definitions) c.args.at ≡ frame_read r = λ _ e. sym c.record_by.ensures ∙ ap frame_read e in
     let a = c.args in
     c.used_end.ensures ∙ ap (used_end Two _ _) c.entries_end.ensures
     ∙ sym (record-holds Two Definitions a.library.now a.at (framed _ c.in-Read.is)
@@ -35,16 +35,16 @@ returns-then-defines c =
 
 pub returns-else-defines : goal.returns-else-defines
 returns-else-defines c =
-    let framed : (r : Framed) → c.record_by.result ≡ r → expected_by Two c.args.library.now (allows Allowed.Definitions) c.args.at ≡ frame_read r = λ r e. sym c.record_by.ensures ∙ ap frame_read e in
+    let framed : (r : Framed) → c.record_by.result ≡ r → expected_by Two c.args.library.now (allows Allowed.Definitions) c.args.at ≡ frame_read r = λ _ e. sym c.record_by.ensures ∙ ap frame_read e in
     let a = c.args in
     sym (record-skipped Two Definitions a.library.now a.at (framed _ c.in-Read.is) (sym c.defines.ensures ∙ c.if-defines.false))
 
 pub returns-in-Stop : goal.returns-in-Stop
 returns-in-Stop c =
-    let framed : (r : Framed) → c.record_by.result ≡ r → expected_by Two c.args.library.now (allows Allowed.Definitions) c.args.at ≡ frame_read r = λ r e. sym c.record_by.ensures ∙ ap frame_read e in
+    let framed : (r : Framed) → c.record_by.result ≡ r → expected_by Two c.args.library.now (allows Allowed.Definitions) c.args.at ≡ frame_read r = λ _ e. sym c.record_by.ensures ∙ ap frame_read e in
     let a = c.args in sym (record-halts Two Definitions a.library.now a.at (framed _ c.in-Stop.is))
 
 pub returns-in-Refused : goal.returns-in-Refused
 returns-in-Refused c =
-    let framed : (r : Framed) → c.record_by.result ≡ r → expected_by Two c.args.library.now (allows Allowed.Definitions) c.args.at ≡ frame_read r = λ r e. sym c.record_by.ensures ∙ ap frame_read e in
+    let framed : (r : Framed) → c.record_by.result ≡ r → expected_by Two c.args.library.now (allows Allowed.Definitions) c.args.at ≡ frame_read r = λ _ e. sym c.record_by.ensures ∙ ap frame_read e in
     let a = c.args in sym (record-refuses Two Definitions a.library.now a.at (framed _ c.in-Refused.is))

@@ -11,7 +11,7 @@ use Rattle.library.proofs.sound.last_places.Goals as goal
 
 pub returns-then-same : goal.returns-then-same
 returns-then-same c =
-    let ended : (r : Named) → c.named_at.result ≡ r → last_by Two c.args.library.now c.args.at ≡ name_read r = λ r e. sym c.named_at.ensures ∙ ap name_read e in
+    let ended : (r : Named) → c.named_at.result ≡ r → last_by Two c.args.library.now c.args.at ≡ name_read r = λ _ e. sym c.named_at.ensures ∙ ap name_read e in
     let compared : c.same.result ≡ same_name c.args.library.now c.args.head c.in-Read.last = c.same.ensures ∙ ap₂ same c.name.ensures c.name-in-Read.ensures in
     let a = c.args in
     sym (last-same Two a.library.now a.head a.definitions a.contents a.at
@@ -19,7 +19,7 @@ returns-then-same c =
 
 pub returns-else-same : goal.returns-else-same
 returns-else-same c =
-    let ended : (r : Named) → c.named_at.result ≡ r → last_by Two c.args.library.now c.args.at ≡ name_read r = λ r e. sym c.named_at.ensures ∙ ap name_read e in
+    let ended : (r : Named) → c.named_at.result ≡ r → last_by Two c.args.library.now c.args.at ≡ name_read r = λ _ e. sym c.named_at.ensures ∙ ap name_read e in
     let compared : c.same.result ≡ same_name c.args.library.now c.args.head c.in-Read.last = c.same.ensures ∙ ap₂ same c.name.ensures c.name-in-Read.ensures in
     let a = c.args in
     sym (last-differs Two a.library.now a.head a.definitions a.contents a.at
@@ -27,12 +27,12 @@ returns-else-same c =
 
 pub returns-in-Stop : goal.returns-in-Stop
 returns-in-Stop c =
-    let ended : (r : Named) → c.named_at.result ≡ r → last_by Two c.args.library.now c.args.at ≡ name_read r = λ r e. sym c.named_at.ensures ∙ ap name_read e in
+    let ended : (r : Named) → c.named_at.result ≡ r → last_by Two c.args.library.now c.args.at ≡ name_read r = λ _ e. sym c.named_at.ensures ∙ ap name_read e in
     let a = c.args in sym
     (last-known Two a.library.now a.head a.definitions a.contents a.at (ended _ c.in-Stop.is))
 
 pub returns-in-Refused : goal.returns-in-Refused
 returns-in-Refused c =
-    let ended : (r : Named) → c.named_at.result ≡ r → last_by Two c.args.library.now c.args.at ≡ name_read r = λ r e. sym c.named_at.ensures ∙ ap name_read e in
+    let ended : (r : Named) → c.named_at.result ≡ r → last_by Two c.args.library.now c.args.at ≡ name_read r = λ _ e. sym c.named_at.ensures ∙ ap name_read e in
     let a = c.args in sym
     (last-known Two a.library.now a.head a.definitions a.contents a.at (ended _ c.in-Refused.is))

@@ -10,7 +10,7 @@ use Rattle.library.proofs.sound.rest_places.Goals as goal
 
 pub returns-in-At-skip_sections : goal.returns-in-At-skip_sections
 returns-in-At-skip_sections c =
-    let defined : (e : End) → c.skip_definitions.result ≡ e → all_end_by Two Definitions c.args.library.now c.args.definitions ≡ e = λ e. sym c.skip_definitions.ensures ∙ e in
+    let defined : (e : End) → c.skip_definitions.result ≡ e → all_end_by Two Definitions c.args.library.now c.args.definitions ≡ e = λ _ e. sym c.skip_definitions.ensures ∙ e in
     let a = c.args in
     c.last_places.ensures
     ∙ sym (contents-known Two a.library.now a.name a.definitions
@@ -18,24 +18,24 @@ returns-in-At-skip_sections c =
 
 pub returns-in-Stop-skip_sections : goal.returns-in-Stop-skip_sections
 returns-in-Stop-skip_sections c =
-    let defined : (e : End) → c.skip_definitions.result ≡ e → all_end_by Two Definitions c.args.library.now c.args.definitions ≡ e = λ e. sym c.skip_definitions.ensures ∙ e in
+    let defined : (e : End) → c.skip_definitions.result ≡ e → all_end_by Two Definitions c.args.library.now c.args.definitions ≡ e = λ _ e. sym c.skip_definitions.ensures ∙ e in
     let a = c.args in
     sym (contents-known Two a.library.now a.name a.definitions (defined _ c.in-At.is)
     (sym c.skip_sections.ensures ∙ c.in-Stop-skip_sections.is))
 
 pub returns-in-Refused-skip_sections : goal.returns-in-Refused-skip_sections
 returns-in-Refused-skip_sections c =
-    let defined : (e : End) → c.skip_definitions.result ≡ e → all_end_by Two Definitions c.args.library.now c.args.definitions ≡ e = λ e. sym c.skip_definitions.ensures ∙ e in
+    let defined : (e : End) → c.skip_definitions.result ≡ e → all_end_by Two Definitions c.args.library.now c.args.definitions ≡ e = λ _ e. sym c.skip_definitions.ensures ∙ e in
     let a = c.args in
     sym (contents-known Two a.library.now a.name a.definitions (defined _ c.in-At.is)
     (sym c.skip_sections.ensures ∙ c.in-Refused-skip_sections.is))
 
 pub returns-in-Stop : goal.returns-in-Stop
 returns-in-Stop c =
-    let defined : (e : End) → c.skip_definitions.result ≡ e → all_end_by Two Definitions c.args.library.now c.args.definitions ≡ e = λ e. sym c.skip_definitions.ensures ∙ e in
+    let defined : (e : End) → c.skip_definitions.result ≡ e → all_end_by Two Definitions c.args.library.now c.args.definitions ≡ e = λ _ e. sym c.skip_definitions.ensures ∙ e in
     let a = c.args in sym (rest-known Two a.library.now a.name a.definitions (defined _ c.in-Stop.is))
 
 pub returns-in-Refused : goal.returns-in-Refused
 returns-in-Refused c =
-    let defined : (e : End) → c.skip_definitions.result ≡ e → all_end_by Two Definitions c.args.library.now c.args.definitions ≡ e = λ e. sym c.skip_definitions.ensures ∙ e in
+    let defined : (e : End) → c.skip_definitions.result ≡ e → all_end_by Two Definitions c.args.library.now c.args.definitions ≡ e = λ _ e. sym c.skip_definitions.ensures ∙ e in
     let a = c.args in sym (rest-known Two a.library.now a.name a.definitions (defined _ c.in-Refused.is))

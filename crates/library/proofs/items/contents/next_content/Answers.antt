@@ -28,6 +28,17 @@ use borrow.Author.Rules.{rules}
 use Rattle.library.proofs.items.contents.next_content.Goals as goal
 use Rattle.library.proofs.items.contents.next_content.Goals.{In-Read}
 
+-- an end that is no place, and a record that isn't there
+halts : (e : End) → ((k : ℕ) → e ≡ At k → ⊥) → Halts e
+halts (At k) never = absurd (never k refl)
+halts Stop never = tt
+halts (Refused r) never = tt
+
+absent : (r : Framed) → ((f : Frame) → r ≡ Framed.Read f → ⊥) → Absent (frame_read r)
+absent (Framed.Read f) never = absurd (never f refl)
+absent Framed.Stop never = tt
+absent (Framed.Refused r) never = tt
+
 passes : (c : In-Read) → end_of (sections_at c.args.library.now c.loop-next.at) ≡ At c.in-At.next
 passes c =
     sym c.section_end.ensures ∙ c.in-At.is
@@ -35,6 +46,12 @@ passes c =
 pub loop-next-init : goal.loop-next-init
 loop-next-init c =
     record { count = suc (length c.args.library.now); enough = omega arith; same = refl }
+
+pub returns-in_default : goal.returns-in_default
+returns-in_default c =
+    let l = c.loop-next in
+    let none = subst Halts c.section_end.ensures (halts c.section_end.result c.in_default.not-At) in
+    sym (seek-done l.invariant.count c.args.library.now l.at (omega (arith, l.invariant.enough)) none) ∙ l.invariant.same
 
 pub content_of-content-requires : goal.content_of-content-requires
 content_of-content-requires c =
@@ -66,3 +83,15 @@ loop-next-smaller c =
       section-moved One c.args.library.now
           c.loop-next.at (sym c.section_end.ensures ∙ c.in-At.is),
     )
+
+pub loop-next-preserved : goal.loop-next-preserved
+loop-next-preserved c =
+    let l = c.loop-next in
+    let e = sym c.section_end.ensures ∙ c.in-At.is in
+    let m = section-moved One c.args.library.now l.at e in
+    let none = subst Absent c.record_at-framed.ensures (absent c.record_at-framed.result c.in_default-framed.not-Read) in
+    record {
+      count = l.invariant.count - 1;
+      enough = omega (arith, m, l.invariant.enough);
+      same = sym (seek-on l.invariant.count c.args.library.now l.at (omega (arith, l.invariant.enough)) e none) ∙ l.invariant.same;
+    }

@@ -21,16 +21,15 @@ use Rattle.library.proofs.items.entries.next_entry.Goals as goal
 use Rattle.library.proofs.items.entries.next_entry.Goals.{In_default}
 
 -- an end that is no place
-halts : (e : End) → OneOf (1 ∷ 2 ∷ []) (tag_of the_type e) → Halts e
-halts (At k) (inl z) = absurd (omega arith)
-halts (At k) (inr z) = absurd (omega arith)
-halts Stop h = tt
-halts (Refused r) h = tt
+halts : (e : End) → ((k : ℕ) → e ≡ At k → ⊥) → Halts e
+halts (At k) never = absurd (never k refl)
+halts Stop never = tt
+halts (Refused r) never = tt
 
 no-entry : (c : In_default) → Halts
     (entry_in c.args.what c.args.library.now c.loop-end.c)
 no-entry c =
-    subst Halts c.entry_in-entry.ensures (halts c.entry_in-entry.result c.in_default.keys2)
+    subst Halts c.entry_in-entry.ensures (halts c.entry_in-entry.result c.in_default.not-At)
 
 pub loop-end-init : goal.loop-end-init
 loop-end-init c =
@@ -42,6 +41,13 @@ returns-in-At c =
     let l = c.loop-end in
     rw c.moved.ensures
     (sym (step-item l.invariant.count a.what a.library.now l.c (omega (arith, l.invariant.enough)) (sym c.entry_in-entry.ensures ∙ c.in-At.is)) ∙ l.invariant.same)
+
+pub returns-in_default-record_end : goal.returns-in_default-record_end
+returns-in_default-record_end c =
+    let a = c.args in
+    let l = c.loop-end in
+    let none = subst Halts c.record_end.ensures (halts c.record_end.result c.in_default-record_end.not-At) in
+    sym (step-done l.invariant.count a.what a.library.now l.c (omega (arith, l.invariant.enough)) (no-entry (goal.at.returns-in_default-record_end c).In_default) none) ∙ l.invariant.same
 
 pub entered-c-requires : goal.entered-c-requires
 entered-c-requires c =

@@ -3,6 +3,8 @@ use Prim.Native.Nat.{suc}
 use mathlib.Core.Path.{◌≡◌, sym, ap, subst, ◌∙◌}
 use mathlib.Core.List.{[], ◌∷◌}
 use mathlib.Core.Logic.{inl, inr}
+use mathlib.Core.Path.{refl}
+use Prim.Native.Nat.{ℕ}
 use native.Mathlib.Omega.{arith}
 use lib.ListN.{length}
 use denote.Enum.Declared.{tag_of}
@@ -19,11 +21,10 @@ use Rattle.library.specs.items.WalkLaws.{step-item, step-done, next-record}
 use borrow.Author.Rules.{rules}
 use Rattle.library.proofs.items.entries.next_in_definitions.Goals as goal
 
-halts : (e : End) → OneOf (1 ∷ 2 ∷ []) (tag_of the_type e) → Halts e
-halts (At k) (inl z) = absurd (omega arith)
-halts (At k) (inr z) = absurd (omega arith)
-halts Stop h = tt
-halts (Refused r) h = tt
+halts : (e : End) → ((k : ℕ) → e ≡ At k → ⊥) → Halts e
+halts (At k) never = absurd (never k refl)
+halts Stop never = tt
+halts (Refused r) never = tt
 
 pub entered-c-requires : goal.entered-c-requires
 entered-c-requires c =
@@ -35,9 +36,16 @@ returns-in-At c =
     let a = c.args in
     sym (step-item (suc (length a.library.now)) Definitions a.library.now a.from (omega arith) (sym c.entry_in-entry.ensures ∙ c.in-At.is))
 
+pub returns-in_default-record_end : goal.returns-in_default-record_end
+returns-in_default-record_end c =
+    let no-entry : Halts (entry_in Definitions c.args.library.now c.args.from) = subst Halts c.entry_in-entry.ensures (halts c.entry_in-entry.result c.in_default.not-At) in
+    let a = c.args in
+    let none = subst Halts c.record_end.ensures (halts c.record_end.result c.in_default-record_end.not-At) in
+    sym (step-done (suc (length a.library.now)) Definitions a.library.now a.from (omega arith) (no-entry) none)
+
 pub returns-in-At-first : goal.returns-in-At-first
 returns-in-At-first c =
-    let no-entry : Halts (entry_in Definitions c.args.library.now c.args.from) = subst Halts c.entry_in-entry.ensures (halts c.entry_in-entry.result c.in_default.keys2) in
+    let no-entry : Halts (entry_in Definitions c.args.library.now c.args.from) = subst Halts c.entry_in-entry.ensures (halts c.entry_in-entry.result c.in_default.not-At) in
     let entered : let a = c.args in next_entry Definitions a.library.now a.from ≡ next_entry Definitions a.library.now c.entered-c.result = let a = c.args in
     next-record Definitions a.library.now a.from (no-entry) (sym c.record_end.ensures ∙ c.in-At-record_end.is)
     ∙ ap (next_entry Definitions a.library.now) (sym c.entered-c.ensures) in
@@ -47,7 +55,7 @@ returns-in-At-first c =
 
 pub returns : goal.returns
 returns c =
-    let no-entry : Halts (entry_in Definitions c.args.library.now c.args.from) = subst Halts c.entry_in-entry.ensures (halts c.entry_in-entry.result c.in_default.keys2) in
+    let no-entry : Halts (entry_in Definitions c.args.library.now c.args.from) = subst Halts c.entry_in-entry.ensures (halts c.entry_in-entry.result c.in_default.not-At) in
     let entered : let a = c.args in next_entry Definitions a.library.now a.from ≡ next_entry Definitions a.library.now c.entered-c.result = let a = c.args in
     next-record Definitions a.library.now a.from (no-entry) (sym c.record_end.ensures ∙ c.in-At-record_end.is)
     ∙ ap (next_entry Definitions a.library.now) (sym c.entered-c.ensures) in
