@@ -1,0 +1,55 @@
+use Prim.Native.Nat.{ℕ}
+use mathlib.Core.Path.{◌≡◌, refl, sym, ap, ◌∙◌}
+use mathlib.Core.List.{List, ◌∷◌}
+use native.Mathlib.Omega.{arith}
+use lib.ListN.{length}
+use Rattle.omf51.specs.declared.Definition.{Definition}
+use Rattle.library.specs.declared.items.Cursor.{Cursor}
+use Rattle.library.specs.items.Left.{fixups_left}
+use Rattle.library.specs.items.Yields.{fixups_after, next-fixup-yields}
+use Rattle.module_ids.specs.Noted.{Tells}
+use Rattle.module_ids.specs.declared.fault.Verdict.{Verdict}
+use Rattle.module_ids.specs.fault.Faults.{verdict_of, fixup_fault}
+use Rattle.module_ids.specs.fault.Scan.{one_fault, fixups_fault}
+use Rattle.module_ids.proofs.fault.ScanLaws.{refused-first, passed_first, none_first, told}
+use borrow.Author.Rules.{rules}
+use Rattle.module_ids.proofs.scan.fixups_fault.Goals as goal
+
+pub loop-fixup-init : goal.loop-fixup-init
+loop-fixup-init c =
+    λ ds t. refl
+
+pub returns-in-Refused : goal.returns-in-Refused
+returns-in-Refused c =
+    let yields : fixups_left c.args.library.now c.loop-fixup.c ≡ c.in-Item.fixup ∷ fixups_left c.args.library.now c.in-Item.rest = let a = c.args in
+    next-fixup-yields a.library.now c.loop-fixup.c ∙ ap (fixups_after a.library.now) (sym c.next_fixup.ensures ∙ c.in-Item.is) in
+    let verdict : (v : Verdict) → c.fixup_fault-verdict.result ≡ v → (ds : List Definition) → Tells ds c.args.table.now → verdict_of (one_fault ds c.in-Item.fixup) ≡ v = λ _ e ds t. let f = c.in-Item.fixup in
+    ap (λ r. verdict_of (fixup_fault r f)) (sym (c.id_row.ensures.0 ∙ t.rows f.id c.id_row.ensures.1)) ∙ sym c.fixup_fault-verdict.ensures ∙ e in
+    λ ds t.
+    ap verdict_of (sym (refused-first (one_fault ds) c.in-Item.fixup
+    (fixups_left c.args.library.now c.in-Item.rest)
+    (told (verdict _ c.in-Refused.is ds t))) ∙ ap (fixups_fault ds) (sym (yields)) ∙ c.loop-fixup.invariant ds t)
+
+pub loop-fixup-smaller : goal.loop-fixup-smaller
+loop-fixup-smaller c =
+    let yields : fixups_left c.args.library.now c.loop-fixup.c ≡ c.in-Item.fixup ∷ fixups_left c.args.library.now c.in-Item.rest = let a = c.args in
+    next-fixup-yields a.library.now c.loop-fixup.c ∙ ap (fixups_after a.library.now) (sym c.next_fixup.ensures ∙ c.in-Item.is) in
+    rw (yields) (omega arith)
+
+pub loop-fixup-preserved : goal.loop-fixup-preserved
+loop-fixup-preserved c =
+    let yields : fixups_left c.args.library.now c.loop-fixup.c ≡ c.in-Item.fixup ∷ fixups_left c.args.library.now c.in-Item.rest = let a = c.args in
+    next-fixup-yields a.library.now c.loop-fixup.c ∙ ap (fixups_after a.library.now) (sym c.next_fixup.ensures ∙ c.in-Item.is) in
+    let verdict : (v : Verdict) → c.fixup_fault-verdict.result ≡ v → (ds : List Definition) → Tells ds c.args.table.now → verdict_of (one_fault ds c.in-Item.fixup) ≡ v = λ _ e ds t. let f = c.in-Item.fixup in
+    ap (λ r. verdict_of (fixup_fault r f)) (sym (c.id_row.ensures.0 ∙ t.rows f.id c.id_row.ensures.1)) ∙ sym c.fixup_fault-verdict.ensures ∙ e in
+    λ ds t.
+    sym (passed_first (one_fault ds) c.in-Item.fixup
+    (fixups_left c.args.library.now c.in-Item.rest)
+    (told (verdict _ c.in_default.is ds t))) ∙ ap (fixups_fault ds) (sym (yields)) ∙ c.loop-fixup.invariant ds t
+
+pub returns-in-Done : goal.returns-in-Done
+returns-in-Done c =
+    λ ds t.
+    let lib = c.args.library.now in
+    let e = next-fixup-yields lib c.loop-fixup.c ∙ ap (fixups_after lib) (sym c.next_fixup.ensures ∙ c.in-Done.is) in
+    ap verdict_of (sym (none_first (one_fault ds)) ∙ ap (fixups_fault ds) (sym e) ∙ c.loop-fixup.invariant ds t)

@@ -1,0 +1,56 @@
+use Prim.Native.Nat.{ℕ}
+use mathlib.Core.Path.{◌≡◌, refl, sym, ap, ◌∙◌}
+use mathlib.Core.List.{List, ◌∷◌}
+use native.Mathlib.Omega.{arith}
+use lib.ListN.{length}
+use Rattle.omf51.specs.declared.Definition.{Definition}
+use Rattle.omf51.specs.Module.{Section, sections_at}
+use Rattle.library.specs.Gathered.{items_at}
+use Rattle.library.specs.items.Left.{fixups_left}
+use Rattle.library.specs.items.Yields.{sections_after, next-content-yields}
+use Rattle.module_ids.specs.Noted.{Tells}
+use Rattle.module_ids.specs.fault.Scan.{section_fault, sections_fault, section_with}
+use Rattle.module_ids.specs.fault.Faults.{verdict_of}
+use Rattle.module_ids.proofs.fault.ScanLaws.{refused-first, passed_first, none_first, told}
+use borrow.Author.Rules.{rules}
+use Rattle.module_ids.proofs.scan.sections_fault.Goals as goal
+use Rattle.module_ids.proofs.scan.sections_fault.Invariants.{left}
+
+pub loop-content-init : goal.loop-content-init
+loop-content-init c =
+    λ ds t. refl
+
+pub returns-in-Refused : goal.returns-in-Refused
+returns-in-Refused c =
+    let section : Section = section_with c.in-Item.content (fixups_left c.args.library.now c.in-Item.fixups) in
+    let rest : List Section = left c.args.library.now c.in-Item.rest in
+    let yields : left c.args.library.now c.loop-content.at ≡ section ∷ rest = let lib = c.args.library.now in
+    next-content-yields lib c.loop-content.at ∙ ap (sections_after lib) (sym c.next_content.ensures ∙ c.in-Item.is) in
+    λ ds t.
+    ap verdict_of (sym (refused-first (section_fault ds) (section) (rest)
+    (told (sym (c.section_fault-verdict.ensures ds t) ∙ c.in-Refused.is))) ∙ ap (sections_fault ds) (sym (yields)) ∙ c.loop-content.invariant ds t)
+
+pub loop-content-smaller : goal.loop-content-smaller
+loop-content-smaller c =
+    let section : Section = section_with c.in-Item.content (fixups_left c.args.library.now c.in-Item.fixups) in
+    let rest : List Section = left c.args.library.now c.in-Item.rest in
+    let yields : left c.args.library.now c.loop-content.at ≡ section ∷ rest = let lib = c.args.library.now in
+    next-content-yields lib c.loop-content.at ∙ ap (sections_after lib) (sym c.next_content.ensures ∙ c.in-Item.is) in
+    rw (yields) (omega arith)
+
+pub loop-content-preserved : goal.loop-content-preserved
+loop-content-preserved c =
+    let section : Section = section_with c.in-Item.content (fixups_left c.args.library.now c.in-Item.fixups) in
+    let rest : List Section = left c.args.library.now c.in-Item.rest in
+    let yields : left c.args.library.now c.loop-content.at ≡ section ∷ rest = let lib = c.args.library.now in
+    next-content-yields lib c.loop-content.at ∙ ap (sections_after lib) (sym c.next_content.ensures ∙ c.in-Item.is) in
+    λ ds t.
+    sym (passed_first (section_fault ds) (section) (rest)
+    (told (sym (c.section_fault-verdict.ensures ds t) ∙ c.in_default.is))) ∙ ap (sections_fault ds) (sym (yields)) ∙ c.loop-content.invariant ds t
+
+pub returns-in-Done : goal.returns-in-Done
+returns-in-Done c =
+    λ ds t.
+    let lib = c.args.library.now in
+    let e = next-content-yields lib c.loop-content.at ∙ ap (sections_after lib) (sym c.next_content.ensures ∙ c.in-Done.is) in
+    ap verdict_of (sym (none_first (section_fault ds)) ∙ ap (sections_fault ds) (sym e) ∙ c.loop-content.invariant ds t)

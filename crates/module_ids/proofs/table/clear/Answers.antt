@@ -1,0 +1,55 @@
+use Prim.Native.Nat.{ℕ, ◌<◌}
+use mathlib.Core.Path.{◌≡◌, refl, sym, ap, subst, ◌∙◌}
+use mathlib.Core.List.{List, ◌∷◌}
+use native.Mathlib.Omega.{arith}
+use lib.ListN.{length}
+use Rattle.lent.specs.RowLaws.{put-length}
+use Rattle.omf51.specs.declared.ModuleId.{ModuleId}
+use Rattle.library.specs.declared.items.Cursor.{Cursor}
+use Rattle.library.specs.items.Left.{definitions_left}
+use Rattle.library.specs.items.Yields.{definitions_after, next-definition-yields, definitions-start}
+use Rattle.module_ids.proofs.ClearLaws.{Clearing, clearing-starts, none-small, clearing-step, cleared}
+use borrow.Author.Rules.{rules}
+use Rattle.module_ids.proofs.table.clear.Goals as goal
+
+pub loop-definition-init : goal.loop-definition-init
+loop-definition-init c =
+    let a = c.args in
+    rw c.start-c.ensures (record { long = refl; clearing = rw (definitions-start a.library.now a.at) (clearing-starts _ a.table.now c.requires) })
+
+pub put_id-requires : goal.put_id-requires
+put_id-requires c =
+    rw c.no_row.ensures none-small
+
+pub loop-definition-smaller : goal.loop-definition-smaller
+loop-definition-smaller c =
+    let yields : definitions_left c.args.library.now c.loop-definition.c ≡ c.in-Item.definition ∷ definitions_left c.args.library.now c.in-Item.rest = let a = c.args in
+    next-definition-yields a.library.now c.loop-definition.c ∙ ap (definitions_after a.library.now)
+    (sym c.next_definition.ensures ∙ c.in-Item.is) in
+    rw (yields) (omega arith)
+
+pub loop-definition-preserved : goal.loop-definition-preserved
+loop-definition-preserved c =
+    let yields : definitions_left c.args.library.now c.loop-definition.c ≡ c.in-Item.definition ∷ definitions_left c.args.library.now c.in-Item.rest = let a = c.args in
+    next-definition-yields a.library.now c.loop-definition.c ∙ ap (definitions_after a.library.now)
+    (sym c.next_definition.ensures ∙ c.in-Item.is) in
+    let l = c.loop-definition in
+    let d = c.in-Item.definition in
+    let i = c.id_of.ensures in
+    let e = c.put_id.ensures in
+    record {
+      long = ap length e ∙ put-length 3 l.table _ _ ∙ l.invariant.long;
+      clearing = rw (e, c.no_row.ensures, i.0)
+          (clearing-step d _ l.table (subst (λ (x : ModuleId). x.0 < 65536) i.0 i.1) (rw (yields) at l.invariant.clearing));
+    }
+
+pub returns-in-Done : goal.returns-in-Done
+returns-in-Done c =
+    let l = c.loop-definition in
+    let lib = c.args.library.now in
+    let e = next-definition-yields lib l.c ∙ ap (definitions_after lib) (sym c.next_definition.ensures ∙ c.in-Done.is) in
+    cleared l.table (subst (λ xs. Clearing xs l.table) e l.invariant.clearing)
+
+pub shape_of-table-in-Done : goal.shape_of-table-in-Done
+shape_of-table-in-Done c =
+    c.loop-definition.invariant.long
