@@ -29,8 +29,7 @@ returns-in-Kind c =
     let s = told {o = fixup_fault a.row a.f} (sym c.fixup_fault-verdict.ensures ∙ c.in_default.is) in
     rw c.goal_by.ensures
     (sym (leaves-kind a.row a.number a.base a.f s
-    (sym c.code_named.ensures ∙ not-false c.code_named.result
-    c.if-not-code_named.false)
+    (sym c.code_named.ensures ∙ c.if-not-code_named.false)
     (known a.f.kind (sym c.kind_of.ensures ∙ c.in-Kind.is))))
 
 pub returns-in-Other : goal.returns-in-Other

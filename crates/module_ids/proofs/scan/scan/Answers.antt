@@ -11,6 +11,7 @@ use Rattle.omf51.specs.declared.Edition.TheVariants.{One}
 use Rattle.omf51.specs.Module.{module_at}
 use Rattle.segments.specs.Refuse.{collect_refusal}
 use Rattle.library.specs.contracts.ModuleAt.{the_type}
+use Rattle.library.specs.declared.Places.{Places}
 use Rattle.library.specs.declared.ModuleAt.{ModuleAt}
 use Rattle.library.specs.declared.ModuleAt.TheVariants.{Whole, Stop, Refused}
 use Rattle.library.specs.Gathered.{items_at}
@@ -23,11 +24,10 @@ use Rattle.module_ids.proofs.fault.ScanLaws.{module-fault, no-module, told}
 use borrow.Author.Rules.{rules}
 use Rattle.module_ids.proofs.scan.scan.Goals as goal
 
-ends : (r : ModuleAt) → OneOf (1 ∷ 2 ∷ []) (tag_of the_type r) → Ended r
-ends (Whole p) (inl z) = absurd (omega arith)
-ends (Whole p) (inr z) = absurd (omega arith)
-ends Stop h = tt
-ends (Refused r) h = tt
+ends : (r : ModuleAt) → ((p : Places) → r ≡ Whole p → ⊥) → Ended r
+ends (Whole p) never = absurd (never p refl)
+ends Stop never = tt
+ends (Refused r) never = tt
 
 pub loop-places-init : goal.loop-places-init
 loop-places-init c =
@@ -37,7 +37,7 @@ pub returns-in_default : goal.returns-in_default
 returns-in_default c =
     let l = c.loop-places in
     let lib = c.args.library.now in
-    let none = modules-end One lib l.at c.module_at.result (sym c.module_at.ensures) (ends c.module_at.result c.in_default.in_default-own.keys2) in
+    let none = modules-end One lib l.at c.module_at.result (sym c.module_at.ensures) (ends c.module_at.result c.in_default.not-Whole) in
     record { clear-again = l.invariant.clear; says = ap verdict_of (sym no-module ∙ ap collect_refusal (sym none) ∙ l.invariant.same) }
 
 pub fill-requires : goal.fill-requires

@@ -37,9 +37,8 @@ note-requires c =
     let goes : Forward c.args.library.now c.loop-definition.c c.in-Item.rest = definition-goes c.args.library.now c.loop-definition.c c.loop-definition.invariant.ordered
     (sym c.next_definition.ensures ∙ c.in-Item.is) in
     let lib = c.args.library.now in
-    let d = c.definition-1 in
-    changed-small lib c.loop-definition.n d.given.0.0 (λ i. omega (arith, c.shared_slice_known-1.given i)) c.requires.short
-    (omega (arith, c.loop-definition.invariant.few, goes)) (definition-says lib c.loop-definition.c (sym c.next_definition.ensures ∙ d.given.1))
+    changed-small lib c.loop-definition.n c.in-Item.definition (λ i. omega (arith, c.shared_slice_known-1.given i)) c.requires.short
+    (omega (arith, c.loop-definition.invariant.few, goes)) (definition-says lib c.loop-definition.c (sym c.next_definition.ensures ∙ c.in-Item.is))
 
 pub kept_after-n-requires : goal.kept_after-n-requires
 kept_after-n-requires c =

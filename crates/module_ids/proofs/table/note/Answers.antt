@@ -6,6 +6,7 @@ use mathlib.Core.Logic.{inl, inr}
 use native.Mathlib.Omega.{arith}
 use denote.Enum.Declared.{tag_of}
 use types.Run.{OneOf}
+use Rattle.lent.specs.declared.part.Part.{Part}
 use Rattle.omf51.specs.contracts.Definition.{the_type}
 use Rattle.omf51.specs.declared.ModuleId.{ModuleId}
 use Rattle.omf51.specs.declared.Definition.{Definition}
@@ -18,11 +19,11 @@ use Rattle.module_ids.proofs.NotedLaws.{note-steps}
 use borrow.Author.Rules.{rules}
 use Rattle.module_ids.proofs.table.note.Goals as goal
 
-row-changes : (table : List ℕ) (n : ℕ) (d : Definition) → OneOf (0 ∷ 2 ∷ []) (tag_of the_type d) → row_noted table n d ≡ note_in table n d
-row-changes table n (Segment id info relocation size name) h = refl
-row-changes table n (Public id offset name) (inl z) = absurd (omega arith)
-row-changes table n (Public id offset name) (inr z) = absurd (omega arith)
-row-changes table n (External id info name) h = refl
+row-changes : (table : List ℕ) (n : ℕ) (d : Definition) → ((id : ModuleId) (offset : ℕ) (name : Part) → d ≡ Public id offset name → ⊥)
+    → row_noted table n d ≡ note_in table n d
+row-changes table n (Segment id info relocation size name) never = refl
+row-changes table n (Public id offset name) never = absurd (never id offset name refl)
+row-changes table n (External id info name) never = refl
 
 pub returns-in-Public : goal.returns-in-Public
 returns-in-Public c =
@@ -45,7 +46,7 @@ returns c =
     c.requires (id_row_at a.table.now (id_of a.d)) (read_small a.table.now (λ i. omega (arith, c.slice_known-1.given i)) (id_of a.d)) in
     let a = c.args in (
       note-steps a.table.now a.n a.d c.id_of-id.ensures.0 c.id_row-row.ensures.0 c.changed.ensures c.put_id.ensures
-          ∙ row-changes a.table.now a.n a.d c.in_default.in_default-own.keys2,
+          ∙ row-changes a.table.now a.n a.d c.in_default.not-Public,
       id-small,
       new-small,
     )

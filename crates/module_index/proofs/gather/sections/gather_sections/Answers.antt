@@ -1,0 +1,104 @@
+use Prim.Native.Nat.{ℕ, ◌+◌, ◌*◌, ◌≤◌, ◌<◌}
+use mathlib.Core.Path.{◌≡◌, refl, sym, ap, subst, ◌∙◌}
+use mathlib.Core.List.{List, [], ◌++◌, append_assoc}
+use native.Mathlib.Omega.{arith}
+use lib.ListN.{length, length-set}
+use borrow.Author.Rules.{rules}
+use Rattle.lent.specs.Lists.{one}
+use Rattle.omf51.specs.Module.{Section, sections_at}
+use Rattle.library.specs.Gathered.{items_at}
+use Rattle.library.specs.declared.items.NextContent.TheVariants.{Item}
+use Rattle.library.specs.items.Contents.{next_content}
+use Rattle.library.specs.items.Left.{fixups_left}
+use Rattle.library.specs.items.Yields.{sections_after, next-content-yields}
+use Rattle.library.specs.items.Fewer.{fewer-sections}
+use Rattle.library.specs.items.ContentSizeLaws.{ContentGoes, content-goes}
+use Rattle.module_index.specs.gather.Places.{section_in, SectionIs, section_key, no_section}
+use Rattle.module_index.specs.gather.Into.{Held}
+use Rattle.module_index.specs.gather.GatherLaws.{none-gathered, gather-turn, all_done}
+use Rattle.module_index.proofs.gather.sections.gather_sections.Goals as goal
+
+abbrev Read : List ℕ → ℕ → Section → Type 0
+Read library p s = section_in library (next_content library p) ≡ one s
+
+pub loop-content-init : goal.loop-content-init
+loop-content-init c =
+    record {
+      long = refl;
+      done = [];
+      whole = refl;
+      gathered = none-gathered section_key (Read c.args.library.now) no_section c.args.things.now;
+      few = omega arith;
+    }
+
+pub thing-requires : goal.thing-requires
+thing-requires c =
+    let step : next_content c.args.library.now c.loop-content.at ≡ Item c.in-Item.content c.in-Item.fixups c.in-Item.rest = sym c.next_content.ensures ∙ c.in-Item.is in
+    let goes : ContentGoes c.args.library.now c.loop-content.at c.in-Item.content c.in-Item.rest = content-goes c.args.library.now c.loop-content.at (step) in
+    let early : c.loop-content.at < 1048576 = omega (arith, (goes).later, (goes).inside, c.requires.short) in
+    early
+
+pub offset_bounds-things-n : goal.offset_bounds-things-n
+offset_bounds-things-n c =
+    let step : next_content c.args.library.now c.loop-content.at ≡ Item c.in-Item.content c.in-Item.fixups c.in-Item.rest = sym c.next_content.ensures ∙ c.in-Item.is in
+    let goes : ContentGoes c.args.library.now c.loop-content.at c.in-Item.content c.in-Item.rest = content-goes c.args.library.now c.loop-content.at (step) in
+    let below : 7 * c.loop-content.n + 7 ≤ 1048576 = omega (arith, c.loop-content.invariant.few, (goes).later, (goes).inside, c.requires.short) in
+    omega (arith, below)
+
+pub bounds-things-n : goal.bounds-things-n
+bounds-things-n c =
+    let step : next_content c.args.library.now c.loop-content.at ≡ Item c.in-Item.content c.in-Item.fixups c.in-Item.rest = sym c.next_content.ensures ∙ c.in-Item.is in
+    let goes : ContentGoes c.args.library.now c.loop-content.at c.in-Item.content c.in-Item.rest = content-goes c.args.library.now c.loop-content.at (step) in
+    let room : c.loop-content.n < length c.loop-content.things = let i = c.loop-content.invariant in
+    let g = goes in
+    omega (arith, i.few, g.later, g.inside, c.requires.room, i.long) in
+    room
+
+pub overflow_add-n : goal.overflow_add-n
+overflow_add-n c =
+    let step : next_content c.args.library.now c.loop-content.at ≡ Item c.in-Item.content c.in-Item.fixups c.in-Item.rest = sym c.next_content.ensures ∙ c.in-Item.is in
+    let goes : ContentGoes c.args.library.now c.loop-content.at c.in-Item.content c.in-Item.rest = content-goes c.args.library.now c.loop-content.at (step) in
+    let below : 7 * c.loop-content.n + 7 ≤ 1048576 = omega (arith, c.loop-content.invariant.few, (goes).later, (goes).inside, c.requires.short) in
+    omega (arith, below)
+
+pub loop-content-smaller : goal.loop-content-smaller
+loop-content-smaller c =
+    let step : next_content c.args.library.now c.loop-content.at ≡ Item c.in-Item.content c.in-Item.fixups c.in-Item.rest = sym c.next_content.ensures ∙ c.in-Item.is in
+    fewer-sections c.args.library.now c.loop-content.at (step)
+
+pub loop-content-preserved : goal.loop-content-preserved
+loop-content-preserved c =
+    let step : next_content c.args.library.now c.loop-content.at ≡ Item c.in-Item.content c.in-Item.fixups c.in-Item.rest = sym c.next_content.ensures ∙ c.in-Item.is in
+    let goes : ContentGoes c.args.library.now c.loop-content.at c.in-Item.content c.in-Item.rest = content-goes c.args.library.now c.loop-content.at (step) in
+    let room : c.loop-content.n < length c.loop-content.things = let i = c.loop-content.invariant in
+    let g = goes in
+    omega (arith, i.few, g.later, g.inside, c.requires.room, i.long) in
+    let early : c.loop-content.at < 1048576 = omega (arith, (goes).later, (goes).inside, c.requires.short) in
+    let lib = c.args.library.now in
+    let l = c.loop-content in
+    let i = l.invariant in
+    let s : Section = record { content = c.in-Item.content; fixups = fixups_left lib c.in-Item.fixups } in
+    record {
+      long = length-set l.things l.n _ ∙ i.long;
+      done = i.done ++ one s;
+      whole = append_assoc i.done (one s) _ ∙ ap (λ xs. i.done ++ xs) (sym (next-content-yields lib l.at ∙ ap (sections_after lib) (step))) ∙ i.whole;
+      gathered = rw
+          c.thing.ensures.0
+          (gather-turn section_key (Read lib) no_section i.done l.things l.n s l.at (room) c.thing.ensures.1
+          (early) (ap (section_in lib) (step)) i.gathered);
+      few = omega (arith, i.few, (goes).later);
+    }
+
+pub returns-in-Done : goal.returns-in-Done
+returns-in-Done c =
+    let lib = c.args.library.now in
+    let l = c.loop-content in
+    let none = next-content-yields lib l.at ∙ ap (sections_after lib) (sym c.next_content.ensures ∙ c.in-Done.is) in
+    record {
+      gathered = subst (λ xs. Held section_key (SectionIs lib) no_section xs l.things l.n) (all_done l.invariant.whole none) l.invariant.gathered;
+      long = l.invariant.long;
+    }
+
+pub shape_of-things-in-Done : goal.shape_of-things-in-Done
+shape_of-things-in-Done c =
+    c.loop-content.invariant.long

@@ -1,0 +1,47 @@
+use borrow.Author.Rules.{rules}
+use native.Mathlib.Omega.{arith}
+use Prim.Native.Nat.{ℕ}
+use mathlib.Core.Path.{◌≡◌, refl, sym, ap, ◌∙◌}
+use mathlib.Core.List.{List, ◌∷◌}
+use lib.ListN.{length, length-replicate}
+use Rattle.lent.specs.Lists.{fold}
+use Rattle.library.specs.declared.items.Cursor.{Cursor}
+use Rattle.library.specs.items.Left.{fixups_left}
+use Rattle.library.specs.items.Yields.{fixups_after, next-fixup-yields}
+use Rattle.segments.specs.Masks.{masked}
+use Rattle.segments.proofs.MaskLaws.{mask-length}
+use Rattle.segment_parts.specs.merge.MaskTurns.{masks-turn, masks-done}
+use Rattle.segment_parts.proofs.merge.masks.content_masks.Goals as goal
+
+pub loop-fixup-init : goal.loop-fixup-init
+loop-fixup-init c =
+    record { long = refl; whole = refl }
+
+pub loop-fixup-smaller : goal.loop-fixup-smaller
+loop-fixup-smaller c =
+    let yields : fixups_left c.args.library.now c.loop-fixup.c ≡ c.in-Item.fixup ∷ fixups_left c.args.library.now c.in-Item.rest = let lib = c.args.library.now in
+    next-fixup-yields lib c.loop-fixup.c ∙ ap (fixups_after lib) (sym c.next_fixup.ensures ∙ c.in-Item.is) in
+    rw (yields) (omega arith)
+
+pub loop-fixup-preserved : goal.loop-fixup-preserved
+loop-fixup-preserved c =
+    let yields : fixups_left c.args.library.now c.loop-fixup.c ≡ c.in-Item.fixup ∷ fixups_left c.args.library.now c.in-Item.rest = let lib = c.args.library.now in
+    next-fixup-yields lib c.loop-fixup.c ∙ ap (fixups_after lib) (sym c.next_fixup.ensures ∙ c.in-Item.is) in
+    let l = c.loop-fixup in
+    let f = c.in-Item.fixup in
+    let e = c.mask.ensures in
+    record {
+      long = ap length e ∙ mask-length l.masks f ∙ l.invariant.long;
+      whole = rw e (masks-turn l.masks (yields) ∙ l.invariant.whole);
+    }
+
+pub returns-in-Done : goal.returns-in-Done
+returns-in-Done c =
+    let l = c.loop-fixup in
+    let lib = c.args.library.now in
+    let e = next-fixup-yields lib l.c ∙ ap (fixups_after lib) (sym c.next_fixup.ensures ∙ c.in-Done.is) in
+    masks-done _ _ l.invariant.whole e c.set_all.ensures
+
+pub shape_of-masks-in-Done : goal.shape_of-masks-in-Done
+shape_of-masks-in-Done c =
+    c.loop-fixup.invariant.long ∙ ap length c.set_all.ensures ∙ length-replicate _ 0xff

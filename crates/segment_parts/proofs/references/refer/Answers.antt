@@ -1,0 +1,62 @@
+use Prim.Native.Nat.{ℕ}
+use mathlib.Core.Path.{◌≡◌, refl, sym, ap, ◌∙◌}
+use mathlib.Core.List.{List, ◌∷◌}
+use native.Mathlib.Omega.{arith}
+use lib.ListN.{length}
+use Rattle.lent.specs.Lists.{joined}
+use Rattle.lent.specs.ListLaws.{joined_end}
+use Rattle.tables.specs.declared.fill.Fill.{Fill}
+use Rattle.tables.specs.fill.FilledRows.{Leads}
+use Rattle.tables.specs.fill.AddedRowLaws.{all-added}
+use Rattle.omf51.specs.declared.Definition.{Definition}
+use Rattle.library.specs.declared.items.Cursor.{Cursor}
+use Rattle.library.specs.items.Left.{fixups_left}
+use Rattle.library.specs.items.EntrySizeLaws.{fixup-small}
+use Rattle.library.specs.items.Yields.{fixups_after, next-fixup-yields}
+use Rattle.segments.specs.SegmentLayouts.{reference_layout}
+use Rattle.module_ids.specs.Noted.{Tells}
+use Rattle.segment_parts.specs.AddedReferences.{leaves_in}
+use Rattle.segment_parts.specs.AddedReferenceLaws.{refer-on}
+use borrow.Author.Rules.{rules}
+use Rattle.segment_parts.proofs.references.refer.Goals as goal
+
+pub loop-fixup-init : goal.loop-fixup-init
+loop-fixup-init c =
+    record { long = refl; leads = λ ds t n g h. h }
+
+pub reference_of-leaves-requires : goal.reference_of-leaves-requires
+reference_of-leaves-requires c =
+    let a = c.args in
+    let f = c.in-Item.fixup in
+    let place = fixup-small a.library.now c.loop-fixup.c
+    (λ i. omega (arith, c.shared_slice_known-1.given i)) (sym c.next_fixup.ensures ∙ c.in-Item.is) in
+    (rw c.id_row-row.ensures.0 (c.requires.numbers f.id c.id_row-row.ensures.1), omega (arith, c.requires.places, place))
+
+pub loop-fixup-smaller : goal.loop-fixup-smaller
+loop-fixup-smaller c =
+    let yields : fixups_left c.args.library.now c.loop-fixup.c ≡ c.in-Item.fixup ∷ fixups_left c.args.library.now c.in-Item.rest = let lib = c.args.library.now in next-fixup-yields lib c.loop-fixup.c ∙ ap (fixups_after lib)
+    (sym c.next_fixup.ensures ∙ c.in-Item.is) in
+    rw (yields) (omega arith)
+
+pub loop-fixup-preserved : goal.loop-fixup-preserved
+loop-fixup-preserved c =
+    let yields : fixups_left c.args.library.now c.loop-fixup.c ≡ c.in-Item.fixup ∷ fixups_left c.args.library.now c.in-Item.rest = let lib = c.args.library.now in next-fixup-yields lib c.loop-fixup.c ∙ ap (fixups_after lib)
+    (sym c.next_fixup.ensures ∙ c.in-Item.is) in
+    let a = c.args in
+    let l = c.loop-fixup in
+    record {
+      long = c.append_left-f.ensures.1 ∙ l.invariant.long;
+      leads = λ ds t. refer-on ds a.table.now a.number a.base c.in-Item.fixup t c.id_row-row.ensures
+          (yields) c.reference_of-leaves.ensures c.append_left-f.ensures.0 (l.invariant.leads ds t);
+    }
+
+pub returns-in-Done : goal.returns-in-Done
+returns-in-Done c =
+    let a = c.args in
+    let l = c.loop-fixup in
+    let e = next-fixup-yields a.library.now l.c ∙ ap (fixups_after a.library.now) (sym c.next_fixup.ensures ∙ c.in-Done.is) in
+    record { long = l.invariant.long; adds = λ ds t. all-added reference_layout (joined_end (leaves_in ds a.number a.base) e) (l.invariant.leads ds t) }
+
+pub shape_of-m-in-Done : goal.shape_of-m-in-Done
+shape_of-m-in-Done c =
+    c.loop-fixup.invariant.long

@@ -1,0 +1,25 @@
+-- `flag_inside` goes over the offsets. Assumes nothing.
+use Prim.Native.Nat.{ℕ, ◌+◌, ◌-◌, ◌≤◌}
+use mathlib.Core.Path.{subst}
+use mathlib.Core.List.{List}
+use native.Mathlib.Omega.{arith}
+use Rattle.tables.specs.links.Things.{next_of}
+use Rattle.tables.specs.links.Index.{Linked}
+use Rattle.segment_parts.specs.declared.symbols_by_offset.flags.Blocks.{Blocks}
+use Rattle.segment_parts.specs.symbols_by_offset.Flags.{no_blocks, Grows, Wide, Words, Covers, FlagsAlong}
+use Rattle.segment_parts.specs.symbols_by_offset.FlagLaws.{grows_none, grows-on, covers-on}
+use borrow.Author.Rules.{rules}
+use Rattle.segment_parts.proofs.symbols_by_offset.flags.flag_inside.Given as goal
+
+pub record Inv (at len : ℕ) (first next flags₀ flags : List ℕ) (s : Blocks) (i : ℕ) : Type 0 where
+  pub within : i ≤ len
+  pub grows : Grows flags₀ no_blocks flags s
+  pub covers : (keys : List ℕ) → Linked keys 0 first next → Wide keys flags₀ → Words keys → Covers keys at (at + i) flags s
+
+abbrev pub invariant-loop-i : goal.invariant-loop-i
+invariant-loop-i l =
+    Inv l.at l.len l.first (next_of l.publics) l.initial.flags l.flags l.s l.i
+
+abbrev pub decreases-loop-i : goal.decreases-loop-i
+decreases-loop-i l =
+    l.len - l.i
