@@ -89,8 +89,8 @@ loop-last-preserved c =
       masks-long = ap length m.ensures.masks-are ∙ merged-at-length l.masks a.start a.size _ _ ∙ l.invariant.masks-long;
       apart-long = m.ensures.long ∙ l.invariant.apart-long;
       small = rw c.next_at-here.ensures (omega (arith, next_small a.contents.now (l.here - 1)));
-      bytes-go = goes_on (data_of a.library.now) a.bytes.now l.bytes m.new.1.1.1.1.0 l.invariant.bytes-go m.ensures.bytes-are;
-      masks-go = goes_on (data_masks a.library.now) a.masks.now l.masks m.new.1.1.1.1.1.0 l.invariant.masks-go m.ensures.masks-are;
+      bytes-go = goes_on (data_of a.library.now) a.bytes.now l.bytes m.new.bytes l.invariant.bytes-go m.ensures.bytes-are;
+      masks-go = goes_on (data_masks a.library.now) a.masks.now l.masks m.new.masks l.invariant.masks-go m.ensures.masks-are;
     }
 
 pub returns : goal.returns

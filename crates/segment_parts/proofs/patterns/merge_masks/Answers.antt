@@ -13,7 +13,7 @@ pub returns : goal.returns
 returns c =
     let a = c.args in
     let fixups = fixups_left a.library.now a.fixups in
-    let new = c.content_masks.new.1.1.0 in
+    let new = c.content_masks.new.masks in
     let made = c.content_masks.ensures ∙ ap (λ n. masks_of n fixups) (front_length a.apart.now a.len c.requires) in
     let long = ap length made ∙ masks-length a.len fixups in (
       c.merge_at.ensures ∙ ap (merged_at a.masks.now a.spot.start a.spot.size a.spot.offset)

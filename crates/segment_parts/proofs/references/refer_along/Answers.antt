@@ -62,7 +62,7 @@ loop-last-preserved c =
     let l = c.loop-last in
     let is = SectionIs a.library.now (places_of a.contents.now) in
     let r = c.refer-f in
-    let new = r.new.1.1.1.1.1.0 in
+    let new = r.new.m in
     record {
       long = r.ensures.long ∙ l.invariant.long;
       small = rw c.next_at-here.ensures (omega (arith, next_small a.contents.now (l.here - 1)));

@@ -42,7 +42,7 @@ loop-last-preserved c =
     let a = c.args in
     let l = c.loop-last in
     let is = PublicIs a.library.now (places_of a.publics.now) in
-    let new = c.append_public-f.new.1.1.1.0 in
+    let new = c.append_public-f.new.m in
     record {
       long = c.append_public-f.ensures.long ∙ l.invariant.long;
       small = rw c.next_at-here.ensures (omega (arith, next_small a.publics.now (l.here - 1)));

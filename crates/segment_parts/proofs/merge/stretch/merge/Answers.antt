@@ -8,7 +8,7 @@ pub returns-then-offset-pattern : goal.returns-then-offset-pattern
 returns-then-offset-pattern c =
     let a = c.args in
     let o = c.or_into in
-    merged-through a.pattern.now a.offset a.new.now o.new.0 o.ensures
+    merged-through a.pattern.now a.offset a.new.now o.new.old o.ensures
 
 pub returns-else-offset-pattern : goal.returns-else-offset-pattern
 returns-else-offset-pattern c =

@@ -8,7 +8,7 @@ pub returns-then-size-memory : goal.returns-then-size-memory
 returns-then-size-memory c =
     let a = c.args in
     let o = c.merge in
-    merged-within a.memory.now a.start a.size a.offset a.new.now o.new.0 (omega arith) o.ensures
+    merged-within a.memory.now a.start a.size a.offset a.new.now o.new.pattern (omega arith) o.ensures
 
 pub returns-else-size-memory : goal.returns-else-size-memory
 returns-else-size-memory c =

@@ -19,7 +19,7 @@ loop-i-preserved c =
     let l = c.loop-i in
     let a = c.args in
     let along : FlagsAlong _ (next_of a.publics.now) l.flags l.s _ c.flag_along-s.result = subst
-    (λ h. FlagsAlong h (next_of a.publics.now) l.flags l.s c.flag_along-s.new.1.1.1.0 c.flag_along-s.result)
+    (λ h. FlagsAlong h (next_of a.publics.now) l.flags l.s c.flag_along-s.new.flags c.flag_along-s.result)
     c.number_at.ensures c.flag_along-s.ensures in
     record {
       within = omega arith;

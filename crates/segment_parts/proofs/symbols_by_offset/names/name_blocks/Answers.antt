@@ -60,7 +60,7 @@ loop-j-preserved c =
     record {
       long = c.name_place-f.ensures.long ∙ l.invariant.long;
       left = λ p t k. left_one a.library.now (keys_of a.publics.now) a.n (places_of a.publics.now) p t a.at a.len a.own a.s a.flags.now k
-          a.m.now a.before l.j l.m c.name_place-f.new.1.1.1.1.1.1.0 l.f c.name_place-f.result
+          a.m.now a.before l.j l.m c.name_place-f.new.m l.f c.name_place-f.result
           (omega arith) c.name_place-f.ensures (l.invariant.left p t k);
     }
 

@@ -26,7 +26,7 @@ returns-then-is_inside c =
     record {
       long = c.append_public.ensures.long;
       adds = λ d e s. subst (λ x. Adds symbol_layout (symbol_by (Inside a.at a.len a.own) x) a.m.now a.f
-          c.append_public.new.1.1.1.0 c.append_public.result)
+          c.append_public.new.m c.append_public.result)
           (ap (public_at a.library.now (id_of d)) c.place_at-place.ensures ∙ s) (c.append_public.ensures.adds (id_of d));
     }
 
