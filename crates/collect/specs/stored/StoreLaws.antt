@@ -63,8 +63,11 @@ rows_more last (x ∷ gs) g =
 
 rows-length : (last : SegmentRow) (gs : List Collected) → length (segment_rows_from last gs) ≡ length gs
 unfolding segment_rows_from
-rows-length last [] = refl
-rows-length last (x ∷ gs) = ap suc (rows-length _ gs)
+rows-length last gs = go gs last
+  where
+    go : (xs : List Collected) (row : SegmentRow) → length (segment_rows_from row xs) ≡ length xs
+    go [] row = refl
+    go (x ∷ xs) row = ap suc (go xs _)
 
 -- the joined parts of one segment more
 pub one-more-joined : {B : Type 0} (f : Collected → List B) (gs : List Collected) (g : Collected) → joined f (gs ++ one g) ≡ joined f gs ++ f g

@@ -1,0 +1,234 @@
+use Prim.Native.Nat.{ℕ, ◌-◌, ◌<◌, ◌^◌}
+use mathlib.Core.Path.{◌≡◌, refl, sym, ap, subst, ◌∙◌}
+use mathlib.Core.List.{List, ◌++◌}
+use native.Mathlib.Omega.{arith}
+use lib.ListN.{length}
+use Rattle.lent.specs.Lists.{one}
+use Rattle.image.specs.declared.fixup.Rules.{Rules}
+use Rattle.omf51.specs.Module.{Section, Module}
+use Rattle.segments.specs.Collect.{Collected, absolute_id, absolute_segment}
+use Rattle.library.specs.items.Left.{fixups_left}
+use Rattle.library.specs.items.Contents.{next_content}
+use Rattle.library.specs.items.ContentSizeLaws.{content-goes}
+use Rattle.tables.specs.links.FollowLaws.{follows-step}
+use Rattle.segment_parts.specs.SectionLaws.{section-met, none-met}
+use Rattle.collect.specs.declared.stored.CollectCounts.{CollectCounts}
+use Rattle.collect.specs.stored.Stores.{CollectLists, Stores, After, SameLengths}
+use Rattle.collect.specs.stored.ProgressLaws.{same-lengths, lengths-on}
+use Rattle.collect.specs.stored.Segments.{lists, absolute_of, publics_of, own_by}
+use Rattle.collect.specs.stored.SegmentLaws.{absolute-by}
+use Rattle.collect.specs.absolute.AbsoluteLaws.{Storing, flags-clear, flags-many, offered, absolutes-start, absolutes-on, absolutes-lack, absolutes-end}
+use Rattle.module_index.specs.gather.Places.{section_in, SectionIs}
+use Rattle.tables.specs.links.Things.{places_of, next_of}
+use Rattle.tables.specs.links.ThingLaws.{next_small}
+use Rattle.collect.specs.declared.absolute.Absolutes.{Absolutes}
+use Rattle.segment_parts.specs.symbols_by_offset.Flags.{Clear}
+use Rattle.collect.specs.absolute.Absolute.{ByOffset}
+use borrow.Author.Rules.{rules}
+use Rattle.collect.proofs.absolute.store_absolutes.Goals as goal
+
+pub loop-last-init : goal.loop-last-init
+loop-last-init c =
+    let a = c.args in
+    let lib = a.library.now in
+    let l = lists a.segments.now a.references.now a.symbols.now a.bytes.now a.masks.now in
+    record {
+      long = same-lengths l;
+      apart-long = refl;
+      flags_long = flags-many c.block_flags-flags.ensures;
+      clear = flags-clear c.block_flags-flags.ensures;
+      small = omega (arith, c.ranges);
+      storing = λ rules m gs o x s. absolutes-start (SectionIs lib (places_of a.contents.now)) (next_of a.contents.now) rules lib m a.absolutes.number gs
+          x.sections s;
+    }
+
+pub returns-in_default : goal.returns-in_default
+returns-in_default c =
+    let a = c.args in
+    let lib = a.library.now in
+    let l = c.loop-last in
+    record {
+      long = l.invariant.long;
+      apart-long = l.invariant.apart-long;
+      extends = λ rules m o x gs s.
+          let w = l.invariant.storing rules m gs o x s in
+          none-met lib (sym c.next_content.ensures ∙ c.in_default.is)
+          (ap (λ p. section_in lib (next_content lib p)) c.place_at-place.ensures ∙ (follows-step
+          (SectionIs lib (places_of a.contents.now)) (next_of a.contents.now) l.last l.here w.left (omega arith) w.follows).stands);
+    }
+
+pub slice_bounds-store_absolute-end : goal.slice_bounds-store_absolute-end
+slice_bounds-store_absolute-end c =
+    sym c.loop-last.invariant.flags_long
+
+pub store_absolute-stored-requires : goal.store_absolute-stored-requires
+store_absolute-stored-requires c =
+    let a = c.args in
+    let l = c.loop-last in
+    let g = content-goes a.library.now c.place_at-place.result (sym c.next_content.ensures ∙ c.in-Item.is) in (
+      c.requires.0,
+      (
+        omega (arith, l.invariant.apart-long, c.requires.1.0),
+        (
+          record {
+            within = g.data-inside;
+            short = g.data-small (λ i. omega (arith, c.shared_slice_known-1.given i));
+            low = g.offset-small (λ i. omega (arith, c.shared_slice_known-1.given i));
+          },
+          l.invariant.clear,
+        ),
+      ),
+    )
+
+pub returns-in_default-stored : goal.returns-in_default-stored
+returns-in_default-stored c =
+    let held : CollectLists = let l = c.loop-last in
+    lists l.segments l.references l.symbols l.bytes l.masks in
+    let left : CollectLists = let s = c.store_absolute-stored in
+    lists s.new.segments s.new.references s.new.symbols
+    s.new.bytes s.new.masks in
+    let stored_here : (rules : Rules) (m : Module) (gs : List Collected) → c.args.absolutes.own ≡ own_by rules → ByOffset c.args.library.now m c.args.absolutes.link c.args.table.now c.args.contents.now c.args.publics.now c.args.n c.args.heads.now → (s : Section) → SectionIs c.args.library.now (places_of c.args.contents.now) (c.loop-last.here - 1) s → Stores gs (held) c.loop-last.c → After (gs ++ one (absolute_segment rules c.args.library.now m c.args.absolutes.number s)) (left) c.store_absolute-stored.result = λ rules m gs o x s i stores. let a = c.args in
+    let lib = a.library.now in
+    let r = c.store_absolute-stored in
+    let same = section-met lib (sym c.next_content.ensures ∙ c.in-Item.is)
+    (ap (λ p. section_in lib (next_content lib p)) c.place_at-place.ensures ∙ i) in
+    subst (λ g. After (gs ++ one g) (left) r.result)
+    (ap (λ own. absolute_of lib m.definitions a.absolutes.number own c.in-Item.content (fixups_left lib c.in-Item.fixups)
+    (publics_of m absolute_id)) o ∙ sym (absolute-by rules lib m a.absolutes.number _) ∙ ap (absolute_segment rules lib m a.absolutes.number) same)
+    (r.ensures.extends m.definitions (publics_of m absolute_id) x.tells
+    (offered c.loop-last.flags c.loop-last.invariant.flags_long c.requires.1.1 x) gs stores) in
+    let a = c.args in
+    let lib = a.library.now in
+    let l = c.loop-last in
+    let s = c.store_absolute-stored in
+    record {
+      long = lengths-on l.invariant.long s.ensures.long;
+      apart-long = s.ensures.apart-long ∙ l.invariant.apart-long;
+      extends = λ rules m o x gs stores. absolutes-lack (SectionIs lib (places_of a.contents.now)) (next_of a.contents.now) rules lib m a.absolutes.number gs l.last
+          l.here (held) (left) l.c s.result (omega (arith, c.loop-last-test.true)) (l.invariant.storing rules m gs o x stores)
+          (λ section i hs t. stored_here rules m hs o x section i t) c.in_default-stored.is;
+    }
+
+pub overflow_sub-here-in-loop-last : goal.overflow_sub-here-in-loop-last
+overflow_sub-here-in-loop-last c =
+    omega (arith, c.loop-last-test.true)
+
+pub loop-last-smaller : goal.loop-last-smaller
+loop-last-smaller c =
+    omega (arith, c.loop-last.invariant.small, c.loop-last-test.true)
+
+pub loop-last-preserved : goal.loop-last-preserved
+loop-last-preserved c =
+    let held : CollectLists = let l = c.loop-last in
+    lists l.segments l.references l.symbols l.bytes l.masks in
+    let left : CollectLists = let s = c.store_absolute-stored in
+    lists s.new.segments s.new.references s.new.symbols
+    s.new.bytes s.new.masks in
+    let stored_here : (rules : Rules) (m : Module) (gs : List Collected) → c.args.absolutes.own ≡ own_by rules → ByOffset c.args.library.now m c.args.absolutes.link c.args.table.now c.args.contents.now c.args.publics.now c.args.n c.args.heads.now → (s : Section) → SectionIs c.args.library.now (places_of c.args.contents.now) (c.loop-last.here - 1) s → Stores gs (held) c.loop-last.c → After (gs ++ one (absolute_segment rules c.args.library.now m c.args.absolutes.number s)) (left) c.store_absolute-stored.result = λ rules m gs o x s i stores. let a = c.args in
+    let lib = a.library.now in
+    let r = c.store_absolute-stored in
+    let same = section-met lib (sym c.next_content.ensures ∙ c.in-Item.is)
+    (ap (λ p. section_in lib (next_content lib p)) c.place_at-place.ensures ∙ i) in
+    subst (λ g. After (gs ++ one g) (left) r.result)
+    (ap (λ own. absolute_of lib m.definitions a.absolutes.number own c.in-Item.content (fixups_left lib c.in-Item.fixups)
+    (publics_of m absolute_id)) o ∙ sym (absolute-by rules lib m a.absolutes.number _) ∙ ap (absolute_segment rules lib m a.absolutes.number) same)
+    (r.ensures.extends m.definitions (publics_of m absolute_id) x.tells
+    (offered c.loop-last.flags c.loop-last.invariant.flags_long c.requires.1.1 x) gs stores) in
+    let a = c.args in
+    let lib = a.library.now in
+    let l = c.loop-last in
+    let s = c.store_absolute-stored in
+    record {
+      long = lengths-on l.invariant.long s.ensures.long;
+      apart-long = s.ensures.apart-long ∙ l.invariant.apart-long;
+      flags_long = s.ensures.flags_long ∙ l.invariant.flags_long;
+      clear = s.ensures.clear;
+      small = rw c.next_at-here.ensures (omega (arith, next_small a.contents.now (l.here - 1)));
+      storing = λ rules m gs o x stores. rw c.next_at-here.ensures
+          (absolutes-on (SectionIs lib (places_of a.contents.now)) (next_of a.contents.now) rules lib m a.absolutes.number gs l.last l.here (held) (left) l.c
+          s.result (omega (arith, c.loop-last-test.true)) (l.invariant.storing rules m gs o x stores)
+          (λ section i hs t. stored_here rules m hs o x section i t) c.in-Rows.is);
+    }
+
+pub returns : goal.returns
+returns c =
+    let a = c.args in
+    let l = c.loop-last in
+    record {
+      long = l.invariant.long;
+      apart-long = l.invariant.apart-long;
+      extends = λ rules m o x gs s. absolutes-end (SectionIs a.library.now (places_of a.contents.now)) (next_of a.contents.now) rules a.library.now m a.absolutes.number
+          gs l.last l.here (omega arith) (l.invariant.storing rules m gs o x s);
+    }
+
+pub shape_of-segments-in_default : goal.shape_of-segments-in_default
+shape_of-segments-in_default c =
+    c.loop-last.invariant.long.segments
+
+pub shape_of-references-in_default : goal.shape_of-references-in_default
+shape_of-references-in_default c =
+    c.loop-last.invariant.long.references
+
+pub shape_of-symbols-in_default : goal.shape_of-symbols-in_default
+shape_of-symbols-in_default c =
+    c.loop-last.invariant.long.symbols
+
+pub shape_of-bytes-in_default : goal.shape_of-bytes-in_default
+shape_of-bytes-in_default c =
+    c.loop-last.invariant.long.bytes
+
+pub shape_of-masks-in_default : goal.shape_of-masks-in_default
+shape_of-masks-in_default c =
+    c.loop-last.invariant.long.masks
+
+pub shape_of-apart-in_default : goal.shape_of-apart-in_default
+shape_of-apart-in_default c =
+    c.loop-last.invariant.apart-long
+
+pub shape_of-segments-in_default-stored : goal.shape_of-segments-in_default-stored
+shape_of-segments-in_default-stored c =
+    c.store_absolute-stored.ensures.long.segments ∙ c.loop-last.invariant.long.segments
+
+pub shape_of-references-in_default-stored : goal.shape_of-references-in_default-stored
+shape_of-references-in_default-stored c =
+    c.store_absolute-stored.ensures.long.references ∙ c.loop-last.invariant.long.references
+
+pub shape_of-symbols-in_default-stored : goal.shape_of-symbols-in_default-stored
+shape_of-symbols-in_default-stored c =
+    c.store_absolute-stored.ensures.long.symbols ∙ c.loop-last.invariant.long.symbols
+
+pub shape_of-bytes-in_default-stored : goal.shape_of-bytes-in_default-stored
+shape_of-bytes-in_default-stored c =
+    c.store_absolute-stored.ensures.long.bytes ∙ c.loop-last.invariant.long.bytes
+
+pub shape_of-masks-in_default-stored : goal.shape_of-masks-in_default-stored
+shape_of-masks-in_default-stored c =
+    c.store_absolute-stored.ensures.long.masks ∙ c.loop-last.invariant.long.masks
+
+pub shape_of-apart-in_default-stored : goal.shape_of-apart-in_default-stored
+shape_of-apart-in_default-stored c =
+    c.store_absolute-stored.ensures.apart-long ∙ c.loop-last.invariant.apart-long
+
+pub shape_of-segments : goal.shape_of-segments
+shape_of-segments c =
+    c.loop-last.invariant.long.segments
+
+pub shape_of-references : goal.shape_of-references
+shape_of-references c =
+    c.loop-last.invariant.long.references
+
+pub shape_of-symbols : goal.shape_of-symbols
+shape_of-symbols c =
+    c.loop-last.invariant.long.symbols
+
+pub shape_of-bytes : goal.shape_of-bytes
+shape_of-bytes c =
+    c.loop-last.invariant.long.bytes
+
+pub shape_of-masks : goal.shape_of-masks
+shape_of-masks c =
+    c.loop-last.invariant.long.masks
+
+pub shape_of-apart : goal.shape_of-apart
+shape_of-apart c =
+    c.loop-last.invariant.apart-long

@@ -1,0 +1,182 @@
+use Prim.Native.Nat.{ℕ, ◌-◌, ◌<◌}
+use mathlib.Core.Path.{◌≡◌, refl, sym, ap, subst, ◌∙◌}
+use mathlib.Core.Bool.{true}
+use mathlib.Core.List.{List, ◌∷◌}
+use native.Mathlib.Omega.{arith}
+use lib.ListN.{length}
+use Rattle.lent.specs.declared.part.Part.{Part}
+use Rattle.lent.specs.Lists.{one}
+use Rattle.omf51.specs.Module.{Module, definitions_at}
+use Rattle.library.specs.Gathered.{items_at}
+use Rattle.library.specs.declared.items.Cursor.{Cursor}
+use Rattle.library.specs.items.Left.{definitions_left}
+use Rattle.library.specs.items.Yields.{definitions_after, next-definition-yields, definitions-start}
+use Rattle.segments.specs.Ids.{is_kept, kept}
+use Rattle.segments.specs.Collect.{Collected, kept_segment}
+use Rattle.module_index.specs.Indexed.{Indexed}
+use Rattle.collect.specs.declared.stored.CollectCounts.{CollectCounts}
+use Rattle.collect.specs.stored.Stores.{CollectLists, Stores, Extends, SameLengths}
+use Rattle.collect.specs.stored.StoreLaws.{stored-count}
+use Rattle.collect.specs.stored.Progress.{Progress}
+use Rattle.collect.specs.stored.ProgressLaws.{progress-starts, progress-ends, same-lengths, lengths-on}
+use Rattle.collect.specs.stored.Segments.{lists}
+use Rattle.collect.specs.kept.Kept.{kept_from, kept_segments}
+use Rattle.collect.specs.kept.KeptLaws.{definition-stored, kept_rest, rest-passed, rest-none, keeps_on, keeps-lack, keeps-start}
+use borrow.Author.Rules.{rules}
+use Rattle.collect.proofs.kept.store_keeps.Goals as goal
+use Rattle.collect.proofs.kept.store_keeps.Goals.{In-Item}
+
+yields : (c : In-Item) → definitions_left c.args.library.now c.loop-definition.at ≡ c.in-Item.definition
+    ∷ definitions_left c.args.library.now c.in-Item.rest
+yields c =
+    let lib = c.args.library.now in next-definition-yields lib c.loop-definition.at ∙ ap (definitions_after lib)
+    (sym c.next_definition.ensures ∙ c.in-Item.is)
+
+pub loop-definition-init : goal.loop-definition-init
+loop-definition-init c =
+    let a = c.args in
+    let lib = a.library.now in
+    let l = lists a.segments.now a.references.now a.symbols.now a.bytes.now a.masks.now in
+    let n = a.before.segments in
+    record {
+      long = same-lengths l;
+      apart-long = refl;
+      progress = λ m gs e x s.
+          let z : 0 ≡ n - n = omega arith in
+          subst (λ rest. Progress gs (kept_segments lib m n) rest l a.before)
+          (keeps-start lib m n (ap (definitions_left lib) c.start-at.ensures ∙ definitions-start lib a.from ∙ sym e) ∙ ap
+          (λ j. kept_rest lib m n j (definitions_left lib c.start-at.result)) z) (progress-starts gs (kept_segments lib m n) s);
+    }
+
+pub store_kept-stored-requires : goal.store_kept-stored-requires
+store_kept-stored-requires c =
+    let l = c.loop-definition in
+    (c.requires.0, omega (arith, l.invariant.apart-long, c.requires.1))
+
+pub returns-in_default : goal.returns-in_default
+returns-in_default c =
+    let held : CollectLists = let l = c.loop-definition in
+    lists l.segments l.references l.symbols l.bytes l.masks in
+    let left : CollectLists = let s = c.store_kept-stored in
+    lists s.new.segments s.new.references s.new.symbols
+    s.new.bytes s.new.masks in
+    let extended : (m : Module) → Indexed c.args.library.now m c.args.table.now c.args.first.now c.args.contents.now c.args.heads.now c.args.publics.now → c.loop-definition.c.segments - c.args.before.segments < length (kept m) → Extends (one (kept_segment c.args.library.now m c.args.before.segments (c.loop-definition.c.segments - c.args.before.segments, c.in-Item.definition))) (held) c.loop-definition.c (left) c.store_kept-stored.result = λ m x h. let a = c.args in
+    let d = c.in-Item.definition in
+    let from = c.kept_from-kept in
+    definition-stored a.library.now m d x (c.loop-definition.c.segments - a.before.segments) h from.ensures.1 a.before.segments
+    (from.ensures.0 ∙ ap (λ (p : Part). kept_from d p.len a.table.now a.first.now a.heads.now) c.since-place.ensures) c.store_kept-stored.ensures in
+    let kept_here : is_kept c.in-Item.definition ≡ true = sym c.is_kept.ensures ∙ c.if-is_kept.true in
+    let a = c.args in
+    let l = c.loop-definition in
+    record {
+      long = lengths-on l.invariant.long c.store_kept-stored.ensures.long;
+      apart-long = c.store_kept-stored.ensures.apart-long ∙ l.invariant.apart-long;
+      extends = λ m e x gs stores.
+          keeps-lack a.library.now m a.before.segments gs (held) (left) l.c c.store_kept-stored.result (yields (goal.at.returns-in_default c).In-Item) (kept_here)
+          (stored-count stores) (l.invariant.progress m gs e x stores) (extended m x) c.in_default.is;
+    }
+
+pub loop-definition-smaller-in-Rows : goal.loop-definition-smaller-in-Rows
+loop-definition-smaller-in-Rows c =
+    rw (yields (goal.at.loop-definition-smaller-in-Rows c).In-Item) (omega arith)
+
+pub loop-definition-preserved-in-Rows : goal.loop-definition-preserved-in-Rows
+loop-definition-preserved-in-Rows c =
+    let held : CollectLists = let l = c.loop-definition in
+    lists l.segments l.references l.symbols l.bytes l.masks in
+    let left : CollectLists = let s = c.store_kept-stored in
+    lists s.new.segments s.new.references s.new.symbols
+    s.new.bytes s.new.masks in
+    let extended : (m : Module) → Indexed c.args.library.now m c.args.table.now c.args.first.now c.args.contents.now c.args.heads.now c.args.publics.now → c.loop-definition.c.segments - c.args.before.segments < length (kept m) → Extends (one (kept_segment c.args.library.now m c.args.before.segments (c.loop-definition.c.segments - c.args.before.segments, c.in-Item.definition))) (held) c.loop-definition.c (left) c.store_kept-stored.result = λ m x h. let a = c.args in
+    let d = c.in-Item.definition in
+    let from = c.kept_from-kept in
+    definition-stored a.library.now m d x (c.loop-definition.c.segments - a.before.segments) h from.ensures.1 a.before.segments
+    (from.ensures.0 ∙ ap (λ (p : Part). kept_from d p.len a.table.now a.first.now a.heads.now) c.since-place.ensures) c.store_kept-stored.ensures in
+    let kept_here : is_kept c.in-Item.definition ≡ true = sym c.is_kept.ensures ∙ c.if-is_kept.true in
+    let a = c.args in
+    let l = c.loop-definition in
+    record {
+      long = lengths-on l.invariant.long c.store_kept-stored.ensures.long;
+      apart-long = c.store_kept-stored.ensures.apart-long ∙ l.invariant.apart-long;
+      progress = λ m gs e x stores.
+          keeps_on a.library.now m a.before.segments gs (held) (left) l.c c.store_kept-stored.result (yields (goal.at.loop-definition-preserved-in-Rows c).In-Item) (kept_here)
+          (stored-count stores) (l.invariant.progress m gs e x stores) (extended m x) c.in-Rows.is;
+    }
+
+pub loop-definition-smaller : goal.loop-definition-smaller
+loop-definition-smaller c =
+    rw (yields (goal.at.loop-definition-smaller c).In-Item) (omega arith)
+
+pub loop-definition-preserved : goal.loop-definition-preserved
+loop-definition-preserved c =
+    let number = c.args.before.segments in
+    let lib = c.args.library.now in
+    let l = c.loop-definition in
+    let now-lists = lists l.segments l.references l.symbols l.bytes l.masks in
+    record {
+      long = l.invariant.long;
+      apart-long = l.invariant.apart-long;
+      progress = λ m gs e x s. subst (λ rest. Progress gs (kept_segments lib m number) rest now-lists l.c)
+          (rest-passed lib m number (l.c.segments - number) (yields (goal.at.loop-definition-preserved c).In-Item) (sym c.is_kept.ensures ∙ c.if-is_kept.false)) (l.invariant.progress m gs e x s);
+    }
+
+pub returns-in-Done : goal.returns-in-Done
+returns-in-Done c =
+    let number = c.args.before.segments in
+    let lib = c.args.library.now in
+    let l = c.loop-definition in
+    let now-lists = lists l.segments l.references l.symbols l.bytes l.masks in
+    let none = next-definition-yields lib l.at ∙ ap (definitions_after lib) (sym c.next_definition.ensures ∙ c.in-Done.is) in
+    record {
+      long = l.invariant.long;
+      apart-long = l.invariant.apart-long;
+      extends = λ m e x gs s. progress-ends gs (kept_segments lib m number) (rest-none lib m number (l.c.segments - number) none) (l.invariant.progress m gs e x s);
+    }
+
+pub shape_of-segments-in_default : goal.shape_of-segments-in_default
+shape_of-segments-in_default c =
+    c.store_kept-stored.ensures.long.segments ∙ c.loop-definition.invariant.long.segments
+
+pub shape_of-references-in_default : goal.shape_of-references-in_default
+shape_of-references-in_default c =
+    c.store_kept-stored.ensures.long.references ∙ c.loop-definition.invariant.long.references
+
+pub shape_of-symbols-in_default : goal.shape_of-symbols-in_default
+shape_of-symbols-in_default c =
+    c.store_kept-stored.ensures.long.symbols ∙ c.loop-definition.invariant.long.symbols
+
+pub shape_of-bytes-in_default : goal.shape_of-bytes-in_default
+shape_of-bytes-in_default c =
+    c.store_kept-stored.ensures.long.bytes ∙ c.loop-definition.invariant.long.bytes
+
+pub shape_of-masks-in_default : goal.shape_of-masks-in_default
+shape_of-masks-in_default c =
+    c.store_kept-stored.ensures.long.masks ∙ c.loop-definition.invariant.long.masks
+
+pub shape_of-apart-in_default : goal.shape_of-apart-in_default
+shape_of-apart-in_default c =
+    c.store_kept-stored.ensures.apart-long ∙ c.loop-definition.invariant.apart-long
+
+pub shape_of-segments-in-Done : goal.shape_of-segments-in-Done
+shape_of-segments-in-Done c =
+    c.loop-definition.invariant.long.segments
+
+pub shape_of-references-in-Done : goal.shape_of-references-in-Done
+shape_of-references-in-Done c =
+    c.loop-definition.invariant.long.references
+
+pub shape_of-symbols-in-Done : goal.shape_of-symbols-in-Done
+shape_of-symbols-in-Done c =
+    c.loop-definition.invariant.long.symbols
+
+pub shape_of-bytes-in-Done : goal.shape_of-bytes-in-Done
+shape_of-bytes-in-Done c =
+    c.loop-definition.invariant.long.bytes
+
+pub shape_of-masks-in-Done : goal.shape_of-masks-in-Done
+shape_of-masks-in-Done c =
+    c.loop-definition.invariant.long.masks
+
+pub shape_of-apart-in-Done : goal.shape_of-apart-in-Done
+shape_of-apart-in-Done c =
+    c.loop-definition.invariant.apart-long
