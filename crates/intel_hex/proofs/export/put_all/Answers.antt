@@ -1,11 +1,11 @@
-use Prim.Native.Nat.{ℕ, ◌+◌, ◌*◌, ◌-◌, ◌≤◌}
-use mathlib.Core.Path.{◌≡◌, refl, ap, ◌∙◌}
-use mathlib.Core.List.{List, ◌++◌}
+use Prim.Native.Nat.{◌+◌, ◌*◌, ◌-◌}
+use mathlib.Core.Path.{refl, ap, ◌∙◌}
+use mathlib.Core.List.{◌++◌}
 use native.Mathlib.Omega.{arith}
 use borrow.Author.Rules.{rules}
 use lib.ListN.{length, take, drop}
 use lib.Seq.{sets}
-use Rattle.intel_hex.specs.Export.{records, text_of, record_line}
+use Rattle.intel_hex.specs.Export.{records, record_line}
 use Rattle.intel_hex.proofs.ExportLaws.{lines_from, end_line, line-length, part_length, part-is, lines_more, lines-all, lines_none, room-more}
 use Rattle.intel_hex.proofs.export.put_all.Goals as goal
 

@@ -1,5 +1,4 @@
 -- `import_text` meets its contract: what was read, refused, without room, or written. Assumes nothing.
-use borrow.Author.Rules.{rules}
 use mathlib.Core.Path.{sym, ap, ◌∙◌}
 use native.Mathlib.Omega.{arith}
 use lib.ListN.{length}

@@ -1,11 +1,10 @@
 use Rattle.intel_hex.specs.Digits.{bytes_at}
 use Rattle.intel_hex.specs.Import.{given, walk}
-use Prim.Native.Nat.{ℕ, ◌+◌, ◌-◌, ◌≤◌, ◌<◌}
+use Prim.Native.Nat.{ℕ, ◌+◌, ◌-◌}
 use mathlib.Core.Path.{◌≡◌, refl, sym, ap, ◌∙◌}
 use mathlib.Core.List.{List}
 use native.Mathlib.Omega.{arith}
 use borrow.Author.Rules.{rules}
-use borrow.Author.Tests.{not-true, not-false}
 use lib.ListN.{length}
 use Rattle.intel_hex.specs.declared.record.Step.TheVariants.{Data}
 use Rattle.intel_hex.specs.Record.{record_at}
