@@ -2,12 +2,9 @@
 use mathlib.Core.Path.{refl}
 use Rattle.lent.specs.Lists.{any, from}
 use Rattle.opcodes.specs.Lengths.{length_of, length_table}
-use Rattle.opcodes.proofs.length_table.Statement.{statement}
-use Rattle.opcodes.proofs.length_table.Tie as tie
+use Rattle.opcodes.proofs.length_table.Goals as goal
 
-returns : tie.Need-returns
+pub returns : goal.returns
 unfolding length_table length_of any from
-returns c = refl
-
-pub length-table-spec : {M : Type 1} → statement M
-length-table-spec = tie.close (tie.spec returns)
+returns c =
+    refl
