@@ -20,7 +20,6 @@ use Rattle.intel_hex.proofs.ImportLaws.{walk_at, walk-twice, walk-on}
 use Rattle.intel_hex.specs.declared.HexRefusal.{HexRefusal}
 use Rattle.intel_hex.specs.declared.HexRefusal.TheVariants.{ImageTooLong, NoRoom, BadText, WrongSum, OtherType, PastEnd, GivenTwice, NoEndRecord}
 use Rattle.intel_hex.specs.declared.record.Step.{Step}
-use Rattle.intel_hex.specs.declared.record.Step.TheVariants as Step
 
 -- one of these addresses was given; none was
 pub record Some (memory : Memory) (address size : ℕ) : Type 0 where

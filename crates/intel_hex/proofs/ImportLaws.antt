@@ -20,7 +20,6 @@ use Rattle.intel_hex.specs.declared.HexRefusal.TheVariants.{NoRoom, GivenTwice}
 use Rattle.intel_hex.specs.declared.Answer.{Answer}
 use Rattle.intel_hex.specs.declared.Answer.TheVariants.{Done, Refused}
 use Rattle.intel_hex.specs.declared.record.Step.{Step}
-use Rattle.intel_hex.specs.declared.record.Step.TheVariants as Step
 
 module _ (text : List ℕ) (fuel at : ℕ) (memory : Memory) (end : ℕ) where
   walk_turn : 0 < fuel → walk text fuel at memory end ≡ after text at (walk text (fuel - 1)) memory end (record_at text at)

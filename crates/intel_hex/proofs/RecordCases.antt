@@ -4,13 +4,11 @@ use Rattle.std.proofs.Common.{subst, ◌∙◌, arith, eqb-true, ltb-true, ltb-f
 use Rattle.std.proofs.lemmas.Bool.{eqb-false, not-true, not-false}
 use Rattle.lent.specs.ChoiceLaws.{chosen}
 use Rattle.intel_hex.specs.Record.{size_at, address_at, kind_at, sum_at, digits_end, ending_at, line_at, step_of, record_at}
-use Rattle.intel_hex.proofs.RecordLaws.{Parts, line-bad, line-whole, Whole, whole-line, bad-line, past-text, of-line}
+use Rattle.intel_hex.proofs.RecordLaws.{Parts, line-bad, line-whole, whole-line, bad-line, past-text, of-line}
 use Rattle.intel_hex.specs.declared.HexRefusal.{HexRefusal}
 use Rattle.intel_hex.specs.declared.HexRefusal.TheVariants.{ImageTooLong, NoRoom, BadText, WrongSum, OtherType, PastEnd, GivenTwice, NoEndRecord}
 use Rattle.intel_hex.specs.declared.line.Line.{Line}
-use Rattle.intel_hex.specs.declared.line.Line.TheVariants as Line
 use Rattle.intel_hex.specs.declared.record.Step.{Step}
-use Rattle.intel_hex.specs.declared.record.Step.TheVariants as Step
 
 -- a record with a right sum: neither 20 nor 21
 pub record Good (text : List ℕ) (at : ℕ) : Type 0 where

@@ -19,9 +19,7 @@ use Rattle.intel_hex.specs.declared.HexRefusal.TheVariants.{NoEndRecord}
 use Rattle.intel_hex.specs.declared.line.Sum.{Sum}
 use Rattle.intel_hex.specs.declared.line.Sum.TheVariants.{Of, NoDigit}
 use Rattle.intel_hex.specs.declared.line.Line.{Line}
-use Rattle.intel_hex.specs.declared.line.Line.TheVariants as Line
 use Rattle.intel_hex.specs.declared.record.Step.{Step}
-use Rattle.intel_hex.specs.declared.record.Step.TheVariants as Step
 
 -- with bytes that were summed before, and what is left of characters among theirs that are no digits
 abbrev pub summed : ℕ → Sum → Sum

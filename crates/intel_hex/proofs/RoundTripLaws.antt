@@ -15,7 +15,6 @@ use Rattle.intel_hex.specs.Export.{body, checksum, record_line}
 use Rattle.intel_hex.proofs.ExportLaws.{first, whole, pieces}
 use Rattle.intel_hex.specs.declared.line.Line.TheVariants as Line
 use Rattle.intel_hex.specs.declared.record.Step.{Step}
-use Rattle.intel_hex.specs.declared.record.Step.TheVariants as Step
 
 -- a text that goes on has not ended
 goes_on : (text : List ℕ) (at x : ℕ) (rest : List ℕ) → drop at text ≡ x ∷ rest → at < length text

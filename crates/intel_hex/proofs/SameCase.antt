@@ -13,9 +13,7 @@ use Rattle.lent.specs.Lists.{all, from}
 use Rattle.lent.specs.ListLaws.{every}
 use Rattle.intel_hex.specs.declared.HexRefusal.TheVariants.{GivenTwice, NoEndRecord}
 use Rattle.intel_hex.specs.declared.record.Step.{Step}
-use Rattle.intel_hex.specs.declared.record.Step.TheVariants as Step
 use Rattle.intel_hex.specs.declared.line.Line.{Line}
-use Rattle.intel_hex.specs.declared.line.Line.TheVariants as Line
 use Rattle.intel_hex.specs.Outcome.{refused}
 use Rattle.intel_hex.specs.Digits.{digit_value, digit_at, byte_at, bytes_at, are_digits}
 use Rattle.intel_hex.specs.Record.{ending_at, is_record, line_at, step_of, record_at}

@@ -7,9 +7,7 @@ use Rattle.intel_hex.specs.declared.HexRefusal.TheVariants.{BadText, WrongSum, O
 use Rattle.intel_hex.specs.declared.line.Sum.{Sum}
 use Rattle.intel_hex.specs.declared.line.Sum.TheVariants.{Of, NoDigit}
 use Rattle.intel_hex.specs.declared.line.Line.{Line}
-use Rattle.intel_hex.specs.declared.line.Line.TheVariants as Line
 use Rattle.intel_hex.specs.declared.record.Step.{Step}
-use Rattle.intel_hex.specs.declared.record.Step.TheVariants as Step
 
 -- what the digits of the record at a place say
 abbrev pub size_at : List ℕ → ℕ → ℕ

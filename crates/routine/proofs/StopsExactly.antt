@@ -74,6 +74,8 @@ module _ (image : List ℕ) (s : List Stretch) (bytes : Bytes image) (at : ℕ) 
       let t = c.2 in
       step-touches image s at bytes c.0.0.0 (one_apart c.0.0.1) c.0.1 c.1 (fails (is_apart s at n) (λ e. (is-apart s at n).0 e t.0 t.1 t.2 t.3))
   stopped_by Reserved c = step-reserved image s at bytes c.0.0 (one_apart c.0.1) c.1
+  stopped_by Return c = elim c [ ]
+  stopped_by Limit c = elim c [ ]
 
   pub shown_by : Shows → step_at (view image s) at ≡ Shown (row_by image at (at + n) opcode) (at + n) (is_return opcode)
   shown_by c = step-shown image s at bytes c.0.0.0 (one_apart c.0.0.1) c.0.1 c.1 ((is-apart s at n).1 c.2)

@@ -1,7 +1,6 @@
 -- Demand 3: bytes that are withheld have no influence on a walk. Assumes nothing.
 use Rattle.std.specs.Prelude.{ℕ, ◌≡◌, List}
 use Rattle.std.proofs.Common.{ap}
-use Rattle.image.specs.View.{view}
 use Rattle.image.proofs.ViewLaws.{Agree, same_view}
 use Rattle.image.specs.Cover.{cover_of}
 use Rattle.image.specs.declared.cover.Stretches.{Stretches}

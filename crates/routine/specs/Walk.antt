@@ -1,5 +1,5 @@
 -- The walk over the view: the instructions one after another, in their order in memory.
-use Rattle.std.specs.Prelude.{ℕ, zero, suc, Bool, true, false, List, [], ◌∷◌}
+use Rattle.std.specs.Prelude.{ℕ, zero, suc, true, false, List, [], ◌∷◌}
 use Rattle.lent.specs.Lists.{one}
 use Rattle.routine.specs.declared.Row.{Row}
 use Rattle.routine.specs.declared.Why.{Why}

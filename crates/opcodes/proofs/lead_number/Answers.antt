@@ -1,7 +1,6 @@
 -- `lead_number`: the rule holds at each entry of the table. Assumes nothing.
 use mathlib.Core.Path.{ap, ◌∙◌}
 use native.Mathlib.Omega.{arith}
-use borrow.Author.Rules.{rules}
 use lib.ListN.{get_or}
 use Rattle.opcodes.specs.Leads.{leads_of, lead_number, lead_table}
 use Rattle.opcodes.specs.OpcodeLaws.{table_at}

@@ -1,6 +1,5 @@
 -- `leads_of`: a lead is known by its number. Assumes nothing.
 use native.Mathlib.Omega.{arith}
-use borrow.Author.Rules.{rules}
 use Rattle.opcodes.specs.declared.Leads.TheVariants.{Nowhere, PageJump, PageCall, LongJump, LongCall, ShortJump}
 use Rattle.opcodes.specs.Leads.{leads_of}
 use Rattle.opcodes.specs.OpcodeLaws.{lead_is, later-is}

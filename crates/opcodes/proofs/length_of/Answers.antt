@@ -1,7 +1,6 @@
 -- `length_of`: the rule holds at each entry of the table. Assumes nothing.
 use mathlib.Core.Path.{ap, ◌∙◌}
 use native.Mathlib.Omega.{arith}
-use borrow.Author.Rules.{rules}
 use lib.ListN.{get_or}
 use Rattle.opcodes.specs.Lengths.{length_of, length_table}
 use Rattle.opcodes.specs.OpcodeLaws.{table_at}

@@ -3,7 +3,6 @@ use native.Mathlib.Omega.{arith}
 use borrow.Author.Tests.{lt-ltb, le-ltb}
 use lib.Bits.{or_add_and}
 use Rattle.intel_hex.proofs.DigitLaws.{figure, letter, value-by}
-use borrow.Author.Rules.{rules}
 use Rattle.intel_hex.proofs.digits.value.Goals as goal
 
 pub returns-then-figure-lt10 : goal.returns-then-figure-lt10

@@ -2,7 +2,6 @@
 use mathlib.Core.Path.{sym, ap}
 use Prim.Native.Nat.{◌-◌, ◌%◌}
 use native.Mathlib.Nat.{add-mod}
-use borrow.Author.Rules.{rules}
 use Rattle.intel_hex.proofs.export.check.Goals as goal
 
 pub returns : goal.returns

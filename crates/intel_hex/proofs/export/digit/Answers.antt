@@ -1,7 +1,6 @@
 -- `digit` meets its contract. Assumes nothing.
 use borrow.Author.Tests.{lt-ltb, le-ltb}
 use Rattle.intel_hex.specs.Digits.{digit}
-use borrow.Author.Rules.{rules}
 use Rattle.intel_hex.proofs.export.digit.Goals as goal
 
 pub returns-then-n-lt10 : goal.returns-then-n-lt10

@@ -8,7 +8,6 @@ use Rattle.intel_hex.specs.Outcome.{stored}
 use Rattle.intel_hex.specs.Export.{text_of}
 use Rattle.intel_hex.proofs.ImportLaws.{no_room, with-room}
 use Rattle.intel_hex.proofs.ExportLaws.{text-length, exports, exports-not}
-use borrow.Author.Rules.{rules}
 use Rattle.intel_hex.proofs.export.export_image.Goals as goal
 
 pub returns-then-n-gt65536 : goal.returns-then-n-gt65536

@@ -1,11 +1,11 @@
-use Prim.Native.Nat.{ℕ, ◌+◌, ◌*◌, ◌-◌, ◌≤◌}
-use mathlib.Core.Path.{◌≡◌, refl, ap, ◌∙◌}
-use mathlib.Core.List.{List, ◌++◌}
+use Prim.Native.Nat.{◌+◌, ◌*◌, ◌-◌}
+use mathlib.Core.Path.{refl, ap, ◌∙◌}
+use mathlib.Core.List.{◌++◌}
 use native.Mathlib.Omega.{arith}
 use borrow.Author.Rules.{rules}
 use lib.ListN.{length, take, drop}
 use lib.Seq.{sets}
-use Rattle.intel_hex.specs.Export.{records, text_of, record_line}
+use Rattle.intel_hex.specs.Export.{records, record_line}
 use Rattle.intel_hex.proofs.ExportLaws.{lines_from, end_line, line-length, part_length, part-is, lines_more, lines-all, lines_none, room-more}
 use Rattle.intel_hex.proofs.export.put_all.Goals as goal
 
@@ -58,7 +58,7 @@ loop-i-preserved c =
     record {
       within = omega arith;
       long = search rules;
-      room = room-more (length a.image.now) l.i l.at (length l.out) c.loop-i-test.true c.lesser-end.ensures c.put_record.auto.0 l.invariant.room;
+      room = room-more (length a.image.now) l.i l.at (length l.out) c.loop-i-test.true c.lesser-end.ensures c.put_record.auto.out l.invariant.room;
       same = ap (λ o. sets o (l.at + 12 + 2 * (c.lesser-end.result - 16 * l.i)) (lines_from a.image.now (l.i + 1) (records (length a.image.now) - (l.i + 1)) ++ end_line))
           (c.put_record.ensures ∙ ap (λ p. sets l.out l.at (record_line 0 (16 * l.i) p)) part)
           ∙ lines_more a.image.now l.i (records (length a.image.now)) l.at l.out c.loop-i-test.true (omega (arith, line, size, c.lesser-end.ensures)) ∙ l.invariant.same;

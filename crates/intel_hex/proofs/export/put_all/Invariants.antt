@@ -1,13 +1,11 @@
 -- `put_all` meets its contract: the lines that are left complete what the whole text stored. Assumes nothing.
 use Prim.Native.Nat.{ℕ, ◌+◌, ◌*◌, ◌-◌, ◌≤◌}
-use mathlib.Core.Path.{◌≡◌, refl, ap, ◌∙◌}
+use mathlib.Core.Path.{◌≡◌}
 use mathlib.Core.List.{List, ◌++◌}
-use native.Mathlib.Omega.{arith}
-use borrow.Author.Rules.{rules}
-use lib.ListN.{length, take, drop}
+use lib.ListN.{length}
 use lib.Seq.{sets}
-use Rattle.intel_hex.specs.Export.{records, text_of, record_line}
-use Rattle.intel_hex.proofs.ExportLaws.{lines_from, end_line, line-length, part_length, part-is, lines_more, lines-all, lines_none, room-more}
+use Rattle.intel_hex.specs.Export.{records, text_of}
+use Rattle.intel_hex.proofs.ExportLaws.{lines_from, end_line}
 use Rattle.intel_hex.proofs.export.put_all.Given as goal
 
 pub record Turn (image out₀ out : List ℕ) (at i : ℕ) : Type 0 where

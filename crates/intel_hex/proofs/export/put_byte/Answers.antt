@@ -1,6 +1,5 @@
 -- `put_byte` meets its contract. Assumes nothing.
 use native.Mathlib.Numerals.{add-one}
-use borrow.Author.Rules.{rules}
 use Rattle.intel_hex.proofs.export.put_byte.Goals as goal
 
 pub returns : goal.returns

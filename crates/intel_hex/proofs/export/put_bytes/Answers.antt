@@ -1,12 +1,11 @@
-use Prim.Native.Nat.{ℕ, ◌+◌, ◌*◌, ◌-◌, ◌≤◌}
-use mathlib.Core.Path.{◌≡◌, refl, ap, ◌∙◌}
-use mathlib.Core.List.{List}
+use Prim.Native.Nat.{◌+◌}
+use mathlib.Core.Path.{refl, ap, ◌∙◌}
 use native.Mathlib.Omega.{arith}
 use borrow.Author.Rules.{rules}
-use lib.ListN.{length, drop}
+use lib.ListN.{drop}
 use lib.Seq.{sets}
 use Rattle.lent.specs.PartLaws.{total-turn, total-done}
-use Rattle.intel_hex.specs.Digits.{sum, all_digits}
+use Rattle.intel_hex.specs.Digits.{all_digits}
 use Rattle.intel_hex.proofs.ExportLaws.{digits_more, digits-all}
 use Rattle.intel_hex.proofs.export.put_bytes.Goals as goal
 

@@ -1,14 +1,10 @@
 -- `put_bytes` meets its contract: the bytes that are left complete digits and sum. Assumes nothing.
 use Prim.Native.Nat.{ℕ, ◌+◌, ◌*◌, ◌-◌, ◌≤◌}
-use mathlib.Core.Path.{◌≡◌, refl, ap, ◌∙◌}
+use mathlib.Core.Path.{◌≡◌}
 use mathlib.Core.List.{List}
-use native.Mathlib.Omega.{arith}
-use borrow.Author.Rules.{rules}
 use lib.ListN.{length, drop}
 use lib.Seq.{sets}
-use Rattle.lent.specs.PartLaws.{total-turn, total-done}
 use Rattle.intel_hex.specs.Digits.{sum, all_digits}
-use Rattle.intel_hex.proofs.ExportLaws.{digits_more, digits-all}
 use Rattle.intel_hex.proofs.export.put_bytes.Given as goal
 
 pub record Turn (out₀ : List ℕ) (at : ℕ) (bytes out : List ℕ) (total to i : ℕ) : Type 0 where

@@ -1,7 +1,6 @@
 -- `end_after` meets its contract. Assumes nothing.
 use borrow.Author.Tests.{eq-eqb, ne_eqb}
 use native.Mathlib.Omega.{arith}
-use borrow.Author.Rules.{rules}
 use Rattle.intel_hex.proofs.import.end_after.Goals as goal
 
 pub returns-then-size-eq0 : goal.returns-then-size-eq0

@@ -1,5 +1,4 @@
 -- `import_text` meets its contract: what was read, refused, without room, or written. Assumes nothing.
-use borrow.Author.Rules.{rules}
 use mathlib.Core.Path.{sym, ap, ◌∙◌}
 use native.Mathlib.Omega.{arith}
 use lib.ListN.{length}
@@ -18,8 +17,8 @@ read-requires c =
 
 pub returns-then-out-end : goal.returns-then-out-end
 returns-then-out-end c =
-    let a = c.args in unfilled a.text.now c.read.new.1.0 c.in-Done.end a.out.now
-    (came c.args.text.now c.nothing-cells.result c.read.new.1.0 c.read.ensures c.nothing-cells.ensures c.in-Done.is) c.if-out-end.true
+    let a = c.args in unfilled a.text.now c.read.new.cells c.in-Done.end a.out.now
+    (came c.args.text.now c.nothing-cells.result c.read.new.cells c.read.ensures c.nothing-cells.ensures c.in-Done.is) c.if-out-end.true
 
 pub slice_bounds-fill-end : goal.slice_bounds-fill-end
 slice_bounds-fill-end c =
@@ -42,7 +41,7 @@ fill-requires c = (
 pub returns-in-Refused : goal.returns-in-Refused
 returns-in-Refused c =
     let a = c.args in ap (λ m. stored m a.out.now)
-    (came c.args.text.now c.nothing-cells.result c.read.new.1.0 c.read.ensures c.nothing-cells.ensures c.in-Refused.is)
+    (came c.args.text.now c.nothing-cells.result c.read.new.cells c.read.ensures c.nothing-cells.ensures c.in-Refused.is)
 
 pub returns-else-out-end : goal.returns-else-out-end
 returns-else-out-end c =

@@ -1,11 +1,10 @@
 use Rattle.intel_hex.specs.Digits.{bytes_at}
 use Rattle.intel_hex.specs.Import.{given, walk}
-use Prim.Native.Nat.{ℕ, ◌+◌, ◌-◌, ◌≤◌, ◌<◌}
+use Prim.Native.Nat.{ℕ, ◌+◌, ◌-◌}
 use mathlib.Core.Path.{◌≡◌, refl, sym, ap, ◌∙◌}
 use mathlib.Core.List.{List}
 use native.Mathlib.Omega.{arith}
 use borrow.Author.Rules.{rules}
-use borrow.Author.Tests.{not-true, not-false}
 use lib.ListN.{length}
 use Rattle.intel_hex.specs.declared.record.Step.TheVariants.{Data}
 use Rattle.intel_hex.specs.Record.{record_at}
@@ -55,7 +54,7 @@ overflow_add-at c =
     let place : ℕ = c.loop-r.at in
     let step : record_at (text_of) (place) ≡ Data (address_of) (size_of) (next_of) = sym c.record_at.ensures ∙ c.in-Data.is in
     let lies : Lies (text_of) (place) (address_of) (size_of) (next_of) = found_at (text_of) (place) (step) in
-    omega (arith, (lies).well-formed.parts.room)
+    omega (arith, lies.good.parts.room)
 
 pub take-requires : goal.take-requires
 take-requires c =
@@ -66,7 +65,7 @@ take-requires c =
     let place : ℕ = c.loop-r.at in
     let step : record_at (text_of) (place) ≡ Data (address_of) (size_of) (next_of) = sym c.record_at.ensures ∙ c.in-Data.is in
     let lies : Lies (text_of) (place) (address_of) (size_of) (next_of) = found_at (text_of) (place) (step) in
-    let l = c.loop-r in omega (arith, (lies).well-formed.parts.room, (lies).sizes, (lies).ranges, l.invariant.long)
+    let l = c.loop-r in omega (arith, lies.good.parts.room, lies.sizes, lies.fits, l.invariant.long)
 
 pub returns-then-not-take : goal.returns-then-not-take
 returns-then-not-take c =
@@ -82,7 +81,7 @@ returns-then-not-take c =
     record {
       same = sym (walk-twice a.text.now l.invariant.fuel l.at (memory_in l.cells) l.end (address_of) (size_of) (next_of) (omega arith) (step)
           (one-given a.text.now (l.at + 9) l.cells (address_of) (size_of)
-          (omega (arith, (lies).ranges, l.invariant.long)) c.take.ensures (c.if-not-take.true))) ∙ l.invariant.same;
+          (omega (arith, lies.fits, l.invariant.long)) c.take.ensures (c.if-not-take.true))) ∙ l.invariant.same;
       within = omega arith;
     }
 
@@ -95,7 +94,7 @@ end_after-end-requires c =
     let place : ℕ = c.loop-r.at in
     let step : record_at (text_of) (place) ≡ Data (address_of) (size_of) (next_of) = sym c.record_at.ensures ∙ c.in-Data.is in
     let lies : Lies (text_of) (place) (address_of) (size_of) (next_of) = found_at (text_of) (place) (step) in
-    omega (arith, (lies).fits)
+    omega (arith, lies.fits)
 
 pub loop-r-smaller : goal.loop-r-smaller
 loop-r-smaller c =
@@ -106,7 +105,7 @@ loop-r-smaller c =
     let place : ℕ = c.loop-r.at in
     let step : record_at (text_of) (place) ≡ Data (address_of) (size_of) (next_of) = sym c.record_at.ensures ∙ c.in-Data.is in
     let lies : Lies (text_of) (place) (address_of) (size_of) (next_of) = found_at (text_of) (place) (step) in
-    omega (arith, (lies).well-formed.parts.room, (lies).nexts)
+    omega (arith, lies.good.parts.room, lies.nexts)
 
 pub loop-r-preserved : goal.loop-r-preserved
 loop-r-preserved c =
@@ -121,12 +120,12 @@ loop-r-preserved c =
     let l = c.loop-r in
     let e = c.end_after-end in
     let noted = all_noted a.text.now (l.at + 9) l.cells (address_of) (size_of)
-    (omega (arith, (lies).ranges, l.invariant.long)) c.take.ensures (c.if-not-take.false) in
+    (omega (arith, lies.fits, l.invariant.long)) c.take.ensures (c.if-not-take.false) in
     record {
       long = search rules;
-      within = omega (arith, e.ensures, (lies).ranges, end-most 65536 l.end (address_of) (size_of) l.invariant.within (lies).ranges);
+      within = omega (arith, e.ensures, lies.fits, end-most 65536 l.end (address_of) (size_of) l.invariant.within lies.fits);
       fuel = l.invariant.fuel - 1;
-      enough = omega (arith, (lies).well-formed.parts.room, (lies).nexts, l.invariant.enough);
+      enough = omega (arith, lies.good.parts.room, lies.nexts, l.invariant.enough);
       same = ap (λ m. walk a.text.now (l.invariant.fuel - 1) (next_of) m e.result) noted.1
           ∙ ap (walk a.text.now (l.invariant.fuel - 1) (next_of)
           (given (address_of) (bytes_at a.text.now (l.at + 9) (size_of)) (memory_in l.cells))) e.ensures

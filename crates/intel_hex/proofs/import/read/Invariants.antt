@@ -1,19 +1,10 @@
 -- `read` meets its contract: at each turn what is left of the text, with what the cells hold, comes to what the whole does. Assumes nothing.
-use Rattle.intel_hex.specs.Digits.{bytes_at}
-use Rattle.intel_hex.specs.Import.{given, walk}
+use Rattle.intel_hex.specs.Import.{walk}
 use Prim.Native.Nat.{ℕ, ◌+◌, ◌-◌, ◌≤◌, ◌<◌}
-use mathlib.Core.Path.{◌≡◌, refl, sym, ap, ◌∙◌}
+use mathlib.Core.Path.{◌≡◌}
 use mathlib.Core.List.{List}
-use native.Mathlib.Omega.{arith}
-use borrow.Author.Rules.{rules}
-use borrow.Author.Tests.{not-true, not-false}
 use lib.ListN.{length}
-use Rattle.intel_hex.specs.declared.record.Step.TheVariants.{Data}
-use Rattle.intel_hex.specs.Record.{record_at}
-use Rattle.intel_hex.proofs.RecordCases.{Lies, found_at}
-use Rattle.intel_hex.proofs.ImportLaws.{walk_at, walk-twice, walk-on, end-most}
 use Rattle.intel_hex.specs.Cells.{memory_in}
-use Rattle.intel_hex.proofs.CellLaws.{all_noted, one-given}
 use Rattle.intel_hex.proofs.import.read.Given as goal
 
 pub record Turn (text cells₀ cells : List ℕ) (at end : ℕ) : Type 0 where

@@ -5,7 +5,6 @@ use lib.ListN.{get_or, get_or-eq_default}
 use borrow.Author.Tests.{le-leb, lt-leb, eq-eqb, ne_eqb}
 use native.Mathlib.Omega.{arith}
 use Rattle.intel_hex.specs.Record.{ending_at}
-use borrow.Author.Rules.{rules}
 use Rattle.intel_hex.proofs.line.ending_at.Goals as goal
 
 pub returns-then-text-at : goal.returns-then-text-at

@@ -5,7 +5,6 @@ use mathlib.Core.Bool.{false≢true}
 use native.Mathlib.Omega.{arith}
 use Rattle.intel_hex.specs.Record.{size_at, ending_at, sum_of}
 use Rattle.intel_hex.proofs.RecordLaws.{no-digits, ending-most, line-bad, line-is}
-use borrow.Author.Rules.{rules}
 use Rattle.intel_hex.proofs.line.line_at.Goals as goal
 
 pub returns-then-text-at-ne58 : goal.returns-then-text-at-ne58

@@ -1,14 +1,9 @@
 -- `sum_of` meets its contract: what was summed and what is left come to the whole. Assumes nothing.
-use Prim.Native.Nat.{ℕ, ◌+◌, ◌*◌, ◌-◌, ◌/◌, ◌%◌, ◌<◌}
-use mathlib.Core.Path.{◌≡◌, sym, ap, ◌∙◌}
+use Prim.Native.Nat.{ℕ, ◌+◌, ◌*◌, ◌<◌}
+use mathlib.Core.Path.{◌≡◌}
 use mathlib.Core.List.{List}
-use native.Mathlib.Omega.{arith}
-use borrow.Author.Rules.{rules}
-use borrow.Author.Tests.{eq-eqb, ne_eqb}
-use lib.Bits.{bit_or}
-use Rattle.intel_hex.specs.Digits.{digit_at, byte_at}
 use Rattle.intel_hex.specs.Record.{sum_of}
-use Rattle.intel_hex.proofs.RecordLaws.{added, added_none, sum_more, sum-all}
+use Rattle.intel_hex.proofs.RecordLaws.{added}
 use Rattle.intel_hex.proofs.line.sum_of.Given as goal
 
 pub record Turn (text : List ℕ) (at n sum others k left : ℕ) : Type 0 where

@@ -1,6 +1,5 @@
 -- `byte` meets its contract. Assumes nothing.
 use borrow.Author.Tests.{eq-eqb, ne_eqb}
-use borrow.Author.Rules.{rules}
 use Rattle.intel_hex.proofs.memory.byte.Goals as goal
 
 pub returns-then-cell-eq0 : goal.returns-then-cell-eq0

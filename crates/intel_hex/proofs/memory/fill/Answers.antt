@@ -1,12 +1,7 @@
-use Prim.Native.Nat.{ℕ, ◌-◌, ◌≤◌}
-use mathlib.Core.Path.{◌≡◌, refl, ◌∙◌}
-use mathlib.Core.List.{List}
+use mathlib.Core.Path.{refl, ◌∙◌}
 use native.Mathlib.Omega.{arith}
-use borrow.Author.Rules.{rules}
-use lib.ListN.{length, length-set}
-use lib.Seq.{sets}
-use Rattle.intel_hex.specs.Cells.{image_in}
-use Rattle.intel_hex.proofs.CellLaws.{bytes_from, fill_none, fill_more, fill-all}
+use lib.ListN.{length-set}
+use Rattle.intel_hex.proofs.CellLaws.{fill_none, fill_more, fill-all}
 use Rattle.intel_hex.proofs.memory.fill.Goals as goal
 
 pub loop-i-init : goal.loop-i-init

@@ -1,13 +1,11 @@
 -- `fill` meets its contract: the bytes that are left complete what the whole image stored. Assumes nothing.
 use Prim.Native.Nat.{ℕ, ◌-◌, ◌≤◌}
-use mathlib.Core.Path.{◌≡◌, refl, ◌∙◌}
+use mathlib.Core.Path.{◌≡◌}
 use mathlib.Core.List.{List}
-use native.Mathlib.Omega.{arith}
-use borrow.Author.Rules.{rules}
-use lib.ListN.{length, length-set}
+use lib.ListN.{length}
 use lib.Seq.{sets}
 use Rattle.intel_hex.specs.Cells.{image_in}
-use Rattle.intel_hex.proofs.CellLaws.{bytes_from, fill_none, fill_more, fill-all}
+use Rattle.intel_hex.proofs.CellLaws.{bytes_from}
 use Rattle.intel_hex.proofs.memory.fill.Given as goal
 
 pub record Turn (cells : List ℕ) (end : ℕ) (out₀ out : List ℕ) (i : ℕ) : Type 0 where

@@ -1,10 +1,8 @@
-use Prim.Native.Nat.{ℕ, ◌+◌, ◌*◌, ◌-◌, ◌≤◌}
+use Prim.Native.Nat.{◌+◌, ◌-◌}
 use mathlib.Core.Path.{◌≡◌, refl, ap, ◌∙◌}
-use mathlib.Core.List.{List}
 use native.Mathlib.Omega.{arith}
-use borrow.Author.Rules.{rules}
 use lib.Bits.{bit_or}
-use lib.ListN.{length, length-set, get_or, set}
+use lib.ListN.{length-set, get_or, set}
 use Rattle.intel_hex.specs.Digits.{byte_at, bytes_at}
 use Rattle.intel_hex.proofs.DigitLaws.{byte-below}
 use Rattle.intel_hex.specs.Cells.{taken}

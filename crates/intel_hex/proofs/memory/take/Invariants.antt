@@ -1,15 +1,10 @@
 -- `take` meets its contract: noting what is left completes what noting all would do. Assumes nothing.
 use Prim.Native.Nat.{ℕ, ◌+◌, ◌*◌, ◌-◌, ◌≤◌}
-use mathlib.Core.Path.{◌≡◌, refl, ap, ◌∙◌}
+use mathlib.Core.Path.{◌≡◌}
 use mathlib.Core.List.{List}
-use native.Mathlib.Omega.{arith}
-use borrow.Author.Rules.{rules}
-use lib.Bits.{bit_or}
-use lib.ListN.{length, length-set, get_or, set}
-use Rattle.intel_hex.specs.Digits.{byte_at, bytes_at}
-use Rattle.intel_hex.proofs.DigitLaws.{byte-below}
+use lib.ListN.{length}
+use Rattle.intel_hex.specs.Digits.{bytes_at}
 use Rattle.intel_hex.specs.Cells.{taken}
-use Rattle.intel_hex.proofs.CellLaws.{taken_more, taken-all}
 use Rattle.intel_hex.proofs.memory.take.Given as goal
 
 pub record Turn (text : List ℕ) (at address size : ℕ) (cells₀ cells : List ℕ) (seen k to : ℕ) : Type 0 where

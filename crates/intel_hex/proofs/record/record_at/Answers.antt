@@ -1,11 +1,10 @@
 -- `record_at` meets its contract: the tests of a line in their order. Assumes nothing.
-use Prim.Native.Nat.{◌+◌}
+use Prim.Native.Nat.{◌+◌, ◌*◌}
 use mathlib.Core.Path.{sym, ◌∙◌}
 use native.Mathlib.Omega.{arith}
 use borrow.Author.Tests.{eq-eqb, ne_eqb, lt-ltb, le-ltb}
 use Rattle.intel_hex.proofs.DigitLaws.{byte-below}
 use Rattle.intel_hex.proofs.RecordLaws.{whole-line, past-text, of-line}
-use borrow.Author.Rules.{rules}
 use Rattle.intel_hex.proofs.record.record_at.Goals as goal
 
 pub returns-then-text-at : goal.returns-then-text-at
@@ -66,7 +65,7 @@ returns-then-address-size-gt65536 c =
       eq-eqb _ _ c.if-kind-ne0.false,
       ← c.byte_at.ensures,
       ← c.byte_at-in-Whole.ensures,
-      lt-ltb _ _ c.if-address-size-gt65536.true,
+      lt-ltb 65536 (256 * c.byte_at.result + c.byte_at-in-Whole.result + c.in-Whole.size) (omega (arith, c.if-address-size-gt65536.true)),
     ))
 
 pub returns-in-Bad : goal.returns-in-Bad
@@ -84,5 +83,5 @@ returns-else-address-size-gt65536 c =
       eq-eqb _ _ c.if-kind-ne0.false,
       ← c.byte_at.ensures,
       ← c.byte_at-in-Whole.ensures,
-      le-ltb _ _ c.if-address-size-gt65536.false,
+      le-ltb 65536 (256 * c.byte_at.result + c.byte_at-in-Whole.result + c.in-Whole.size) (omega (arith, c.if-address-size-gt65536.false)),
     ))
