@@ -25,9 +25,10 @@ use Rattle.run.specs.declared.Settings.{Settings}
 use Rattle.run.specs.Run.{library_read, Lent, Yield, Outcome, asked_of, stages, counted, filled_with, run_seen, run, number_of, counts_of, cover}
 use Rattle.run.specs.Given.{Given, NothingRefused}
 use Rattle.run.proofs.Exactly.{given-exactly, done-exactly}
+use Rattle.run.proofs.EditionLaws.{edition-alone}
 use Rattle.run.proofs.Answers.{SameLengths, Sound, sound, lengths-kept}
 use Rattle.run.proofs.Withheld.{Fit, withholding, same-run, same-cover-run, plain-run}
-use Rattle.run.specs.Editions.{in_edition, edition-alone}
+use Rattle.run.specs.Editions.{in_edition}
 use Rattle.run.specs.Own.{Own, Referred}
 use Rattle.run.proofs.OwnAddress.{own-address}
 use Rattle.run.proofs.NotedAddress.{noted-address}

@@ -1,5 +1,5 @@
 -- The fourteen examples of document 01, all proved by one statement over the table, and its whole printed case.
-use Rattle.std.specs.Prelude.{ℕ, ◌-◌, ◌^◌, ◌≡◌, refl, true, List, [], ◌∷◌, ◌++◌, map, length, replicate}
+use Rattle.std.specs.Prelude.{ℕ, ◌-◌, ◌^◌, ◌≡◌, refl, List, [], ◌∷◌, ◌++◌, map, length, replicate}
 use Rattle.std.proofs.Math.Option.{Option, none, some}
 use Rattle.lent.specs.Choice.{leading}
 use Rattle.lent.specs.Lists.{one, keep, joined, fold, any, all, place_of, from, numbered, insert, sorted, total}

@@ -1,5 +1,6 @@
 pub mod Answers
 pub mod Demands
+pub mod EditionLaws
 pub mod Exactly
 pub mod Examples
 pub mod ListedRows

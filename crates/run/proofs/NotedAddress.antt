@@ -26,7 +26,6 @@ use Rattle.omf51.specs.declared.Fixup.{Fixup}
 use Rattle.omf51.specs.Module.{Section, Module}
 use Rattle.omf51.specs.File.{modules_in}
 use Rattle.segments.specs.declared.Goal.{Goal}
-use Rattle.segments.specs.declared.Goal.TheVariants as Goal
 use Rattle.segments.specs.declared.Reference.{Reference}
 use Rattle.segments.specs.Ids.{same_id, kept_place, id_of, external_of, named, is_code, name_in}
 use Rattle.segments.specs.Refuse.{fixup_refusal}

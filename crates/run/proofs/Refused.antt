@@ -1,7 +1,7 @@
 -- Demand 1: each refusal is given in exactly the case that document 01 names, with no earlier one, whatever is searched. Assumes nothing.
-use Rattle.std.specs.Prelude.{ℕ, ◌+◌, ◌≤◌, ◌<◌, ◌≡◌, ◌⊎◌, ◌↔◌, Bool, ◌||◌, eqb, ltb, length}
+use Rattle.std.specs.Prelude.{ℕ, ◌≤◌, ◌≡◌, ◌⊎◌, ◌↔◌, Bool, ◌||◌, eqb, ltb, length}
 use Rattle.std.proofs.Math.Path.{refl, ap}
-use Rattle.std.proofs.Common.{sym, inl, inr, arith, ltb-true, lt-ltb}
+use Rattle.std.proofs.Common.{sym, inl, inr, arith}
 use Rattle.std.proofs.Math.Logic.Iff
 use Rattle.std.proofs.Math.Bool.{true, false}
 use Rattle.std.proofs.lemmas.Bool.{false≢true}
@@ -15,8 +15,8 @@ use Rattle.lent.specs.FirstOf.{Quiet, none≢some, leading-none, none-leading}
 use Rattle.lent.specs.Lists.{all}
 use Rattle.lent.specs.Refusals.{refusal_number}
 use Rattle.lent.specs.RefusalLaws.{number-tells, same_number, numbered}
-use Rattle.image.specs.Cover.{too_many_stretches, passes_end}
-use Rattle.image.proofs.CoverLaws.{SomePasses, AllFit, some-passes, all_fit}
+use Rattle.image.specs.Cover.{passes_end}
+use Rattle.image.proofs.CoverLaws.{AllFit, some-passes, all_fit}
 use Rattle.omf51.specs.declared.Edition.{Edition}
 use Rattle.omf51.specs.Record.{edition_of}
 use Rattle.omf51.specs.File.{modules_in}
@@ -27,7 +27,7 @@ use Rattle.segments.proofs.RefuseLaws.{KindAbove, BlockAbove, PastSegment, Nowhe
 use Rattle.listing_rules.specs.Listing.{line_width}
 use Rattle.run.specs.declared.Settings.{Settings}
 use Rattle.run.specs.declared.Counts.{Counts}
-use Rattle.run.specs.Run.{Lent, Yield, library_read, collect_over, search_over, list_over, other_edition, too_deep, refusals, outcome_of, run_by, number_of, cover}
+use Rattle.run.specs.Run.{Lent, Yield, library_read, collect_over, search_over, list_over, other_edition, refusals, outcome_of, run_by, number_of, cover}
 use Rattle.run.proofs.Order.{Stage, first_of, Silent, silent-both, Beyond, or-else, after_none, at_stage}
 use Rattle.run.specs.Given.{CollectionOver, SearchOver, ListOver, NoEdition, Shape, SettingsFine, ReachedBy, FirstTest, TooLittleBy, GivenBy, NothingRefusedBy}
 use Rattle.run.proofs.StageLaws.{Worded, rules-stage, edition-stage, depth-stage, count-stage, rules-fine, edition-other, edition-fine, depth-fine, count-fine, when-some}

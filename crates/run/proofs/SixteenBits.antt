@@ -4,14 +4,13 @@ use Rattle.std.proofs.Common.{sym, ap, ◌∙◌, arith}
 use Rattle.lent.specs.Members.{◌among◌}
 use Rattle.image.specs.View.{view}
 use Rattle.image.proofs.ViewLaws.{view-length}
-use Rattle.image.specs.declared.fixup.Rules.{Rules}
 use Rattle.image.specs.declared.fixup.Rules.TheVariants.{Documented}
 use Rattle.image.specs.fixup.Target.{rules_of, target}
 use Rattle.image.proofs.fixup.TargetLaws.{target-within}
 use Rattle.omf51.specs.File.{modules_in}
 use Rattle.segments.specs.Collect.{Collected, collect}
 use Rattle.search_rules.specs.declared.Asked.{Asked}
-use Rattle.search_rules.specs.Search.{Placing, Noting, placed, noted}
+use Rattle.search_rules.specs.Search.{Noting, placed, noted}
 use Rattle.search_rules.proofs.NotedLaws.{noted-by}
 use Rattle.listing_rules.specs.declared.Line.{Line}
 use Rattle.listing_rules.specs.Listed.{Listed, of_symbol, of_name, past_end}
