@@ -1,6 +1,5 @@
 -- What the settings of a run withhold, and when that passes the image's end.
-use Rattle.std.specs.Prelude.{ℕ, ◌+◌, ◌*◌, min, Bool, List, [], ◌∷◌, take, nat_le, nat_lt, slice_set}
-use Rattle.lent.specs.Choice.{if◌then◌else◌}
+use Rattle.std.specs.Prelude.{ℕ, ◌+◌, ◌*◌, min, Bool, List, [], ◌∷◌, take, nat_le, nat_lt, slice_set, if◌then◌else◌}
 use Rattle.lent.specs.Lists.{any}
 use Rattle.lent.specs.Rows.{zeros}
 use Rattle.image.specs.declared.Stretch.{Stretch}

@@ -1,7 +1,6 @@
 -- The view of an image: its bytes as cells, with 256 for each byte that is withheld. All later
 -- rules take the view, never the image. What is withheld is a cover: a list of stretches, which may overlap or be empty.
-use Rattle.std.specs.Prelude.{ℕ, ◌+◌, Bool, ◌&&◌, List, [], ◌∷◌, map, nat_le, nat_lt, slice_index}
-use Rattle.lent.specs.Choice.{if◌then◌else◌}
+use Rattle.std.specs.Prelude.{ℕ, ◌+◌, Bool, ◌&&◌, List, [], ◌∷◌, map, nat_le, nat_lt, slice_index, if◌then◌else◌}
 use Rattle.lent.specs.Lists.{any, numbered}
 use Rattle.image.specs.declared.Stretch.{Stretch}
 

@@ -1,8 +1,7 @@
 -- Digits there and back, and a text that begins with them. Assumes nothing.
-use Rattle.std.specs.Prelude.{ℕ, zero, suc, ◌+◌, ◌*◌, ◌/◌, ◌%◌, ◌<◌, ◌≡◌, refl, true, List, [], ◌∷◌, ◌++◌, eqb, ltb, length, get_or, drop}
+use Rattle.std.specs.Prelude.{ℕ, zero, suc, ◌+◌, ◌*◌, ◌/◌, ◌%◌, ◌<◌, ◌≡◌, refl, true, List, [], ◌∷◌, ◌++◌, eqb, ltb, length, get_or, drop, if◌then◌else◌}
 use Rattle.std.proofs.Common.{sym, ap, ◌∙◌, add-zero, mod-lt, arith, eqb-true, lt-ltb, get_or-drop, drop-drop}
 use Rattle.std.specs.Int.Bits.{bit_or}
-use Rattle.lent.specs.Choice.{if◌then◌else◌}
 use Rattle.lent.specs.Lists.{all, from, joined}
 use Rattle.lent.specs.ListLaws.{every}
 use Rattle.intel_hex.specs.Digits.{digit_value, digit_at, is_digit_at, byte_at, bytes_at, are_digits, digit, two_digits, all_digits}

@@ -1,10 +1,9 @@
 -- The memory that holds the front of an image, and the image of a memory. Assumes nothing.
-use Rattle.std.specs.Prelude.{ℕ, zero, suc, ◌+◌, ◌-◌, ◌≤◌, ◌<◌, ◌≡◌, refl, Bool, false, List, map, ltb, length, get_or, take, drop}
+use Rattle.std.specs.Prelude.{ℕ, zero, suc, ◌+◌, ◌-◌, ◌≤◌, ◌<◌, ◌≡◌, refl, Bool, false, List, map, ltb, length, get_or, take, drop, if◌then◌else◌}
 use Rattle.std.proofs.Common.{sym, ap, ◌∙◌, add-zero, arith, lt-ltb, le-ltb, length-take, ext_get_or, get_or-take, get_or-drop}
 use Rattle.std.proofs.Math.Path.{fun_ext}
 use Rattle.std.proofs.Math.Option.{none, some}
 use Rattle.std.proofs.Math.Decide.{dec_lt}
-use Rattle.lent.specs.Choice.{if◌then◌else◌}
 use Rattle.lent.specs.Lists.{any, from}
 use Rattle.intel_hex.specs.Import.{Memory, nothing, given, is_given, any_given, byte_or, image_of}
 use Rattle.intel_hex.proofs.CellLaws.{given-in, given-before, given-past}

@@ -1,13 +1,12 @@
 -- Small and capital letters import alike. Assumes nothing.
 use Prim.Native.Nat.{ℕ, zero, suc, ◌+◌, ◌<◌}
-use Rattle.std.specs.Prelude.{◌≡◌, true, ◌&&◌, List, map, eqb, length, get_or}
+use Rattle.std.specs.Prelude.{◌≡◌, true, ◌&&◌, List, map, eqb, length, get_or, if◌then◌else◌}
 use Rattle.std.proofs.Math.Path.{refl, ap}
 use Rattle.std.proofs.Common.{sym, ◌∙◌, arith, eqb-true, leb-true}
 use Rattle.std.proofs.Math.Option.{none}
 use Rattle.std.proofs.Math.Dec.{leb}
 use Rattle.std.proofs.lemmas.List.{length-map}
 use Rattle.std.proofs.Math.ListN.{get_or-map}
-use Rattle.lent.specs.Choice.{if◌then◌else◌}
 use Rattle.lent.specs.ChoiceLaws.{chosen, both, same_test}
 use Rattle.lent.specs.Lists.{all, from}
 use Rattle.lent.specs.ListLaws.{every}

@@ -1,8 +1,7 @@
 -- The memory of an import as the code keeps it: a cell for each address, 0 where nothing was given, else 256 and the byte.
-use Rattle.std.specs.Prelude.{ℕ, ◌+◌, ◌%◌, ◌≤◌, ◌≡◌, Bool, List, [], ◌∷◌, map, eqb, length, get_or, set, replicate}
+use Rattle.std.specs.Prelude.{ℕ, ◌+◌, ◌%◌, ◌≤◌, ◌≡◌, Bool, List, [], ◌∷◌, map, eqb, length, get_or, set, replicate, if◌then◌else◌}
 use Rattle.std.proofs.Math.Option.{Option, none, some}
 use Rattle.std.specs.Int.Bits.{bit_or}
-use Rattle.lent.specs.Choice.{if◌then◌else◌}
 use Rattle.lent.specs.Lists.{from}
 use Rattle.intel_hex.specs.Import.{Memory, image_of, walk}
 use Rattle.intel_hex.specs.Outcome.{Made, made, refused}

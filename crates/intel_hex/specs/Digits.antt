@@ -1,6 +1,5 @@
 -- Hexadecimal digits, and the bytes that they stand for.
-use Rattle.std.specs.Prelude.{ℕ, zero, suc, ◌+◌, ◌-◌, ◌*◌, ◌/◌, ◌%◌, Bool, true, ◌&&◌, List, [], ◌∷◌, leb, ltb, get_or}
-use Rattle.lent.specs.Choice.{if◌then◌else◌}
+use Rattle.std.specs.Prelude.{ℕ, zero, suc, ◌+◌, ◌-◌, ◌*◌, ◌/◌, ◌%◌, Bool, true, ◌&&◌, List, [], ◌∷◌, leb, ltb, get_or, if◌then◌else◌}
 use Rattle.lent.specs.Lists.{joined, total}
 
 -- the value of a character as a digit, 0 to 9 and A to F in either letter case; 16 for any other character

@@ -1,7 +1,6 @@
 -- Export: an image as records of 16 bytes from address 0 on, the last may have fewer, and the end record. Every byte is
 -- written, FFh too.
-use Rattle.std.specs.Prelude.{ℕ, ◌+◌, ◌-◌, ◌*◌, ◌/◌, ◌%◌, List, [], ◌∷◌, ◌++◌, leb, length, take, drop}
-use Rattle.lent.specs.Choice.{if◌then◌else◌}
+use Rattle.std.specs.Prelude.{ℕ, ◌+◌, ◌-◌, ◌*◌, ◌/◌, ◌%◌, List, [], ◌∷◌, ◌++◌, leb, length, take, drop, if◌then◌else◌}
 use Rattle.lent.specs.Lists.{one, joined, from}
 use Rattle.intel_hex.specs.Digits.{all_digits, sum}
 use Rattle.intel_hex.specs.Outcome.{Made, made, refused}

@@ -1,7 +1,6 @@
 -- Import: the records of a text, one after another up to the end record, give the bytes of an image.
-use Rattle.std.specs.Prelude.{ℕ, zero, suc, ◌+◌, ◌-◌, max, Bool, true, false, ◌&&◌, List, map, leb, ltb, eqb, length, get_or}
+use Rattle.std.specs.Prelude.{ℕ, zero, suc, ◌+◌, ◌-◌, max, Bool, true, false, ◌&&◌, List, map, leb, ltb, eqb, length, get_or, if◌then◌else◌}
 use Rattle.std.proofs.Math.Option.{Option, none, some}
-use Rattle.lent.specs.Choice.{if◌then◌else◌}
 use Rattle.lent.specs.Lists.{any, from}
 use Rattle.intel_hex.specs.Digits.{bytes_at}
 use Rattle.intel_hex.specs.Outcome.{Made, made, refused}

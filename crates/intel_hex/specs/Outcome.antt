@@ -1,6 +1,5 @@
 -- What import and export come to, and what of it stands in the lent buffer.
-use Rattle.std.specs.Prelude.{ℕ, List, ◌++◌, leb, length, drop}
-use Rattle.lent.specs.Choice.{if◌then◌else◌}
+use Rattle.std.specs.Prelude.{ℕ, List, ◌++◌, leb, length, drop, if◌then◌else◌}
 use Rattle.intel_hex.specs.declared.HexRefusal.{HexRefusal}
 use Rattle.intel_hex.specs.declared.HexRefusal.TheVariants.{ImageTooLong, NoRoom, BadText, WrongSum, OtherType, PastEnd, GivenTwice, NoEndRecord}
 use Rattle.intel_hex.specs.declared.Answer.{Answer}

@@ -1,7 +1,6 @@
 -- A record is a line of the text: a colon; the digits of LL (how many data bytes it has), of its address, high byte
 -- first, of its type, of its LL data bytes and of its check byte; and the line's ending.
-use Rattle.std.specs.Prelude.{ℕ, ◌+◌, ◌*◌, ◌%◌, Bool, ◌&&◌, not, List, leb, ltb, eqb, length, get_or}
-use Rattle.lent.specs.Choice.{if◌then◌else◌}
+use Rattle.std.specs.Prelude.{ℕ, ◌+◌, ◌*◌, ◌%◌, Bool, ◌&&◌, not, List, leb, ltb, eqb, length, get_or, if◌then◌else◌}
 use Rattle.intel_hex.specs.Digits.{byte_at, bytes_at, are_digits, sum}
 use Rattle.intel_hex.specs.declared.HexRefusal.TheVariants.{BadText, WrongSum, OtherType, PastEnd, NoEndRecord}
 use Rattle.intel_hex.specs.declared.line.Sum.{Sum}

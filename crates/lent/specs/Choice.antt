@@ -1,11 +1,6 @@
--- Choosing by a test, and the first thing in a list of things that may be missing.
+-- A thing under a test, and the first thing in a list of things that may be missing. The choice itself is the library's.
 use Rattle.std.specs.Prelude.{Bool, true, false, List, [], ◌∷◌}
 use Rattle.std.proofs.Math.Option.{Option, none, some}
-
-infix 10 if◌then◌else◌
-abbrev pub if◌then◌else◌ : {A : Type 0} → Bool → A → A → A
-if true then a else b = a
-if false then a else b = b
 
 -- a thing if the test passes, else nothing
 abbrev pub when : {A : Type 0} → Bool → A → Option A

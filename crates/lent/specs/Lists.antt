@@ -1,8 +1,7 @@
 -- Lists: tests, places, numbers, order. All functions go from the first element to the last.
-use Rattle.std.specs.Prelude.{ℕ, zero, suc, ◌+◌, Bool, true, false, ◌&&◌, ◌||◌, List, [], ◌∷◌, ◌++◌, eqb}
+use Rattle.std.specs.Prelude.{ℕ, zero, suc, ◌+◌, Bool, true, false, ◌&&◌, ◌||◌, List, [], ◌∷◌, ◌++◌, eqb, if◌then◌else◌}
 use Rattle.std.proofs.Math.Option.{Option}
 use Rattle.std.proofs.Math.ListN.{get_elem?}
-use Rattle.lent.specs.Choice.{if◌then◌else◌}
 
 -- the list of one element
 abbrev pub one : {A : Type 0} → A → List A

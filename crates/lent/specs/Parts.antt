@@ -1,6 +1,5 @@
 -- Bytes of the library: single bytes, numbers of two bytes, parts, and names, which are parts.
-use Rattle.std.specs.Prelude.{ℕ, ◌+◌, ◌*◌, ◌≤◌, ◌≡◌, Bool, true, false, ◌&&◌, ◌||◌, List, [], ◌∷◌, eqb, leb, ltb, length, get_or, take, drop}
-use Rattle.lent.specs.Choice.{if◌then◌else◌}
+use Rattle.std.specs.Prelude.{ℕ, ◌+◌, ◌*◌, ◌≤◌, ◌≡◌, Bool, true, false, ◌&&◌, ◌||◌, List, [], ◌∷◌, eqb, leb, ltb, length, get_or, take, drop, if◌then◌else◌}
 use Rattle.lent.specs.Lists.{all, from}
 use Rattle.lent.specs.declared.part.Part.{Part}
 

@@ -1,6 +1,5 @@
 -- Where an instruction leads that names an address, by the MCS-51 manual.
-use Rattle.std.specs.Prelude.{ℕ, ◌%◌, Bool, ◌||◌, ◌&&◌, List, ◌∷◌, map, eqb, leb}
-use Rattle.lent.specs.Choice.{if◌then◌else◌}
+use Rattle.std.specs.Prelude.{ℕ, ◌%◌, Bool, ◌||◌, ◌&&◌, List, ◌∷◌, map, eqb, leb, if◌then◌else◌}
 use Rattle.lent.specs.Lists.{one, is_in, from}
 use Rattle.opcodes.specs.declared.Leads.{Leads}
 use Rattle.opcodes.specs.declared.Leads.TheVariants.{Nowhere, PageJump, PageCall, LongJump, LongCall, ShortJump, LaterJump}

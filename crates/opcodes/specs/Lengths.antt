@@ -1,7 +1,6 @@
 -- The length of each instruction, by the classes of the MCS-51 manual: the opcode's low four bits, its column in the manual's
 -- table, tell the operand that it works on, and its high four bits, its row, what is done with it.
-use Rattle.std.specs.Prelude.{ℕ, ◌/◌, ◌%◌, Bool, ◌||◌, List, [], ◌∷◌, map, eqb, ltb}
-use Rattle.lent.specs.Choice.{if◌then◌else◌}
+use Rattle.std.specs.Prelude.{ℕ, ◌/◌, ◌%◌, Bool, ◌||◌, List, [], ◌∷◌, map, eqb, ltb, if◌then◌else◌}
 use Rattle.lent.specs.Lists.{one, is_in, from}
 
 -- a column: the rows whose instructions have three bytes, those that have two; all others have one

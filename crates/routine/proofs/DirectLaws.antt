@@ -1,7 +1,6 @@
 -- The targets that the code works out are rule set 1's. Assumes nothing.
-use Rattle.std.specs.Prelude.{ℕ, ◌+◌, ◌-◌, ◌%◌, ◌^◌, ◌≤◌, ◌<◌, ◌≡◌, refl, Bool, true, false, List, ltb, length}
+use Rattle.std.specs.Prelude.{ℕ, ◌+◌, ◌-◌, ◌%◌, ◌^◌, ◌≤◌, ◌<◌, ◌≡◌, refl, Bool, true, false, List, ltb, length, if◌then◌else◌}
 use Rattle.std.proofs.Common.{sym, ap, ◌∙◌, arith, lt-ltb, le-ltb}
-use Rattle.lent.specs.Choice.{if◌then◌else◌}
 use Rattle.image.specs.View.{view, cell_at}
 use Rattle.image.specs.declared.Stretch.{Stretch}
 use Rattle.image.specs.Window.{is_apart}

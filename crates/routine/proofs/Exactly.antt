@@ -1,10 +1,9 @@
 -- Each refusal exactly in its case and order, and what it leaves in the lent rows. Assumes nothing.
-use Rattle.std.specs.Prelude.{ℕ, ◌*◌, ◌≤◌, ◌<◌, refl, ◌⊎◌, ◌↔◌, Bool, true, false, eqb, length}
+use Rattle.std.specs.Prelude.{ℕ, ◌*◌, ◌≤◌, ◌<◌, refl, ◌⊎◌, ◌↔◌, Bool, true, false, eqb, length, if◌then◌else◌}
 use Rattle.std.proofs.Math.Path.{◌≡◌, sym, ap, subst}
 use Rattle.std.proofs.Common.{◌∙◌, inl, inr, arith}
 use mathlib.Core.List.{List}
 use Rattle.std.proofs.Math.Decide.{dec_le, dec_lt}
-use Rattle.lent.specs.Choice.{if◌then◌else◌}
 use Rattle.lent.specs.Lists.{joined}
 use Rattle.lent.specs.Rows.{zeros, padded}
 use Rattle.image.specs.View.{view}

@@ -1,6 +1,5 @@
 -- What a walk comes to: its answer, and what it leaves in the lent rows.
-use Rattle.std.specs.Prelude.{ℕ, ◌*◌, Bool, List, ◌∷◌, leb, ltb, length}
-use Rattle.lent.specs.Choice.{if◌then◌else◌}
+use Rattle.std.specs.Prelude.{ℕ, ◌*◌, Bool, List, ◌∷◌, leb, ltb, length, if◌then◌else◌}
 use Rattle.lent.specs.Lists.{one, joined}
 use Rattle.lent.specs.Rows.{zeros, padded, has_row, put_row}
 use Rattle.image.specs.View.{view}

@@ -1,6 +1,5 @@
 -- What stands at a place of the view: an instruction that is shown, or a reason to stop before it.
-use Rattle.std.specs.Prelude.{ℕ, ◌+◌, not, List, eqb, leb, length}
-use Rattle.lent.specs.Choice.{if◌then◌else◌}
+use Rattle.std.specs.Prelude.{ℕ, ◌+◌, not, List, eqb, leb, length, if◌then◌else◌}
 use Rattle.image.specs.View.{cell_at}
 use Rattle.image.specs.declared.fixup.Kind.{Kind}
 use Rattle.image.specs.declared.fixup.Kind.TheVariants.{Relative, Word, Inblock}

@@ -1,11 +1,10 @@
 -- When a reference has a target, and why not. Assumes nothing.
-use Rattle.std.specs.Prelude.{◌≡◌, ℕ, zero, suc, ◌+◌, ◌-◌, ◌%◌, ◌<◌, ◌≤◌, Bool, true, false, not, ◌&&◌, ◌⊎◌, ◌↔◌, List, length}
+use Rattle.std.specs.Prelude.{◌≡◌, ℕ, zero, suc, ◌+◌, ◌-◌, ◌%◌, ◌<◌, ◌≤◌, Bool, true, false, not, ◌&&◌, ◌⊎◌, ◌↔◌, List, length, if◌then◌else◌}
 use Rattle.std.proofs.Math.Path.{refl, sym}
 use Rattle.std.proofs.Common.{ap, ◌∙◌, inl, inr, arith, ltb-true, lt-ltb, le-ltb}
 use Rattle.std.proofs.lemmas.Bool.{false≢true, not-false}
 use Rattle.std.proofs.Math.Option.{none}
 use Rattle.std.proofs.Math.Decide.{dec_le}
-use Rattle.lent.specs.Choice.{if◌then◌else◌}
 use Rattle.lent.specs.ChoiceLaws.{same_test}
 use Rattle.lent.specs.FirstOf.{none≢some}
 use Rattle.lent.specs.Lists.{all, from}

@@ -1,8 +1,7 @@
 -- The target of a reference: the address that its bytes in the view give, less the fixup's offset. Sums wrap at 64 bits,
 -- and under rule set 1, as documented, the target at 16.
-use Rattle.std.specs.Prelude.{ℕ, ◌+◌, ◌-◌, ◌*◌, ◌/◌, ◌%◌, ◌^◌, Bool, List, length, ◌==◌, nat_lt}
+use Rattle.std.specs.Prelude.{ℕ, ◌+◌, ◌-◌, ◌*◌, ◌/◌, ◌%◌, ◌^◌, Bool, List, length, ◌==◌, nat_lt, if◌then◌else◌}
 use Rattle.std.proofs.Math.Option.{Option, none, some}
-use Rattle.lent.specs.Choice.{if◌then◌else◌}
 use Rattle.lent.specs.Lists.{all, from}
 use Rattle.image.specs.View.{cell_at, is_byte}
 use Rattle.image.specs.declared.fixup.Rules.{Rules}
