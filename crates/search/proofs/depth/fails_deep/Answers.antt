@@ -1,5 +1,5 @@
 -- `fails_deep`: what `failed_among` finds at one depth less; that the match holds is remembered. Assumes nothing.
-use Rattle.std.proofs.Common.{◌-◌, Bool, true, sym, subst, arith, rules}
+use Rattle.std.proofs.Common.{◌-◌, Bool, true, sym, subst, arith}
 use Rattle.image.specs.View.{stretches_in, view}
 use Rattle.search.specs.depth.Depths.{Told, KeepsOut}
 use Rattle.search.specs.depth.ToldLaws.{put-told}

@@ -1,5 +1,5 @@
 -- `first_failed`: nothing at depth 0, and else what `failed_among` finds, with a table that tells nothing yet. Assumes nothing.
-use Rattle.std.proofs.Common.{suc, ◌-◌, pos_of_ne-zero, arith, rules}
+use Rattle.std.proofs.Common.{◌-◌, pos_of_ne-zero, arith}
 use Rattle.image.specs.View.{stretches_in, view}
 use Rattle.search.specs.depth.ToldLaws.{blank-told}
 use Rattle.search.specs.depth.DeepLaws.{among-to, to_none}

@@ -1,7 +1,6 @@
 -- `clear_all` clears one list after another. Assumes nothing.
 use Rattle.search.specs.visit.Visits.{stored}
 use Rattle.search.specs.EndLaws.{zeroed-is}
-use Rattle.std.proofs.Common.{rules}
 use Rattle.search.proofs.entry.clear_all.Goals as goal
 
 pub returns : goal.returns

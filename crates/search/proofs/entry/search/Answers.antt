@@ -1,5 +1,5 @@
 -- `search`: too long an image, too few rows, or all rows. Assumes nothing.
-use Rattle.std.proofs.Common.{◌∙◌, arith, rules}
+use Rattle.std.proofs.Common.{◌∙◌, arith}
 use Rattle.image.specs.View.{stretches_in, view}
 use Rattle.image.proofs.ViewLaws.{view-length}
 use Rattle.search.specs.visit.Visits.{Stored, stored}

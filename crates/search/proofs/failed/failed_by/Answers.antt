@@ -1,7 +1,6 @@
 -- `failed_by`, case by case. Assumes nothing.
 use Rattle.image.specs.View.{stretches_in, view}
 use Rattle.search.specs.failed.FailureLaws.{fails-past, fails-withheld, fails-name, fails-found, fails-unmatched}
-use Rattle.std.proofs.Common.{rules}
 use Rattle.search.proofs.failed.failed_by.Goals as goal
 
 pub returns-in_default : goal.returns-in_default

@@ -1,5 +1,5 @@
 -- `fill_along`: rows are cleared, the image is indexed, and all segments are searched. Assumes nothing.
-use Rattle.std.proofs.Common.{◌∙◌, rules}
+use Rattle.std.proofs.Common.{◌∙◌}
 use Rattle.image.specs.View.{stretches_in, view}
 use Rattle.search.specs.visit.Visits.{stored}
 use Rattle.search.specs.FillLaws.{rows-filled, zeros-ready}

@@ -1,5 +1,5 @@
 -- `fill_rows`: the tables are long enough, and the one of answers tells nothing yet. Assumes nothing.
-use Rattle.std.proofs.Common.{length, ap, ◌∙◌, arith, rules}
+use Rattle.std.proofs.Common.{length, ap, ◌∙◌, arith}
 use Rattle.tables.specs.zeros.ZeroLaws.{zero-length}
 use Rattle.image.specs.View.{stretches_in, view}
 use Rattle.search.specs.depth.ToldLaws.{blank-told}

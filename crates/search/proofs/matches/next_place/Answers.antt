@@ -1,6 +1,6 @@
 -- `next_place` by the case of the cursor. Assumes nothing.
 use Rattle.image.specs.View.{stretches_in}
-use Rattle.std.proofs.Common.{◌+◌, sym, ◌∙◌, subst, arith, rules}
+use Rattle.std.proofs.Common.{◌+◌, sym, ◌∙◌, subst, arith}
 use Rattle.search.specs.declared.matches.MatchCursor.{MatchCursor}
 use Rattle.search.specs.declared.matches.MatchCursor.TheVariants.{Plain}
 use Rattle.search.specs.declared.matches.Next.TheVariants.{Done}

@@ -1,5 +1,5 @@
 -- `start` takes the link of the anchor's byte, or starts at the first place or at the address. Assumes nothing.
-use Rattle.std.proofs.Common.{get_or, sym, subst, arith, rules}
+use Rattle.std.proofs.Common.{get_or, sym, subst, arith}
 use Rattle.image.specs.declared.Seat.{Seat}
 use Rattle.search.specs.declared.matches.MatchCursor.TheVariants.{Along, Plain, Once}
 use Rattle.search.specs.byte_index.Anchor.{Anchor, Anchored}

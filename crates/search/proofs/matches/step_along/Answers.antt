@@ -1,8 +1,6 @@
-use Rattle.std.proofs.Common.{◌≡◌, ℕ, ◌-◌, ◌<◌, List, length, sym, refl, ◌∙◌, arith, rules}
-use Rattle.image.specs.declared.Stretch.{Stretch}
-use Rattle.image.specs.View.{stretches_in, view}
-use Rattle.search.specs.matches.Cursor.{left_along, SoundAlong}
-use Rattle.search.specs.matches.StepLaws.{ahead, along-end, along-before, along-match, along-other, past-sound, past-less}
+use Rattle.std.proofs.Common.{◌-◌, ◌<◌, length, sym, refl, ◌∙◌, arith}
+use Rattle.image.specs.View.{stretches_in}
+use Rattle.search.specs.matches.StepLaws.{along-end, along-before, along-match, along-other, past-sound, past-less}
 use Rattle.search.proofs.matches.step_along.Goals as goal
 use Rattle.search.proofs.matches.step_along.Goals.{In-loop-link}
 

@@ -1,9 +1,9 @@
 -- `step_along` follows the links. The invariant: at this link the same matches are left as at the first. Assumes nothing.
-use Rattle.std.proofs.Common.{◌≡◌, ℕ, ◌-◌, ◌<◌, List, length, sym, refl, ◌∙◌, arith, rules}
+use Rattle.std.proofs.Common.{◌≡◌, ℕ, List}
 use Rattle.image.specs.declared.Stretch.{Stretch}
 use Rattle.image.specs.View.{stretches_in, view}
 use Rattle.search.specs.matches.Cursor.{left_along, SoundAlong}
-use Rattle.search.specs.matches.StepLaws.{ahead, along-end, along-before, along-match, along-other, past-sound, past-less}
+use Rattle.search.specs.matches.StepLaws.{ahead}
 use Rattle.search.proofs.matches.step_along.Given as goal
 
 pub record Inv (image : List ℕ) (s : List Stretch) (bytes masks : List ℕ) (anchor from link : ℕ) : Type 0 where

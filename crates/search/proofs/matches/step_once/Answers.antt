@@ -1,6 +1,6 @@
 -- `step_once` by whether the pattern matches there. Assumes nothing.
 use Rattle.image.specs.View.{stretches_in}
-use Rattle.std.proofs.Common.{sym, ◌∙◌, rules}
+use Rattle.std.proofs.Common.{sym, ◌∙◌}
 use Rattle.search.specs.matches.StepLaws.{once-at, once-done}
 use Rattle.search.proofs.matches.step_once.Goals as goal
 

@@ -1,5 +1,5 @@
 -- `append_placed`: the row is put behind the others, or there is no room. Assumes nothing.
-use Rattle.std.proofs.Common.{sym, ap, ◌∙◌, rules}
+use Rattle.std.proofs.Common.{sym, ap, ◌∙◌}
 use Rattle.tables.specs.declared.fill.Fill.{Fill}
 use Rattle.tables.specs.fill.FilledRowLaws.{put-none, put-behind}
 use Rattle.search_rules.specs.SearchRows.{placed_layout}

@@ -1,5 +1,5 @@
 -- `place_symbol`, case by case: too many before, past the end, known there, no room, one row more. Assumes nothing.
-use Rattle.std.proofs.Common.{refl, arith, rules}
+use Rattle.std.proofs.Common.{refl, arith}
 use Rattle.lent.specs.Parts.{bytes_of}
 use Rattle.tables.specs.by_name.NamedLaws.{bucket-small}
 use Rattle.tables.specs.by_name.Tables.{table}

@@ -1,13 +1,10 @@
-use Rattle.std.proofs.Common.{◌≡◌, ℕ, ◌+◌, ◌-◌, ◌/◌, ◌≤◌, Bool, List, map, length, not, sym, refl, ap, ◌∙◌, subst, arith, rules}
-use Rattle.lent.specs.declared.part.Part.{Part}
+use Rattle.std.proofs.Common.{◌+◌, ◌/◌, ◌≤◌, map, length, not, sym, refl, ap, ◌∙◌, subst, arith}
 use Rattle.lent.specs.Lists.{one}
-use Rattle.tables.specs.declared.fill.Fill.{Fill}
-use Rattle.segments.specs.declared.SegmentNumber.{SegmentNumber}
 use Rattle.segments.specs.SegmentLayouts.{symbol_layout, symbol_at}
-use Rattle.tables.specs.by_name.Tables.{table, Takes, LeadsOn}
+use Rattle.tables.specs.by_name.Tables.{table, Takes}
 use Rattle.tables.specs.by_name.TakeLaws.{takes_none, leads-all, lead-on, all-taken}
-use Rattle.segments.proofs.recalled.RowsLaws.{rows_from, rows-past, rows_few, rows-within, rows-turn, rows_end}
-use Rattle.search_rules.specs.Search.{Placing, place}
+use Rattle.segments.proofs.recalled.RowsLaws.{rows-past, rows_few, rows-within, rows-turn, rows_end}
+use Rattle.search_rules.specs.Search.{place}
 use Rattle.search_rules.specs.SearchRows.{placed_sheet}
 use Rattle.search.specs.place.PlacedSymbols.{placing_of}
 use Rattle.search.proofs.place.place_symbols.Goals as goal

@@ -1,13 +1,11 @@
 -- `place_symbols` goes from row to row. The invariant: whoever places those that are left has placed all. Assumes nothing.
-use Rattle.std.proofs.Common.{◌≡◌, ℕ, ◌+◌, ◌-◌, ◌/◌, ◌≤◌, Bool, List, map, length, sym, refl, ap, ◌∙◌, subst, arith, rules}
+use Rattle.std.proofs.Common.{◌≡◌, ℕ, ◌-◌, ◌≤◌, Bool, List, map, length}
 use Rattle.lent.specs.declared.part.Part.{Part}
-use Rattle.lent.specs.Lists.{one}
 use Rattle.tables.specs.declared.fill.Fill.{Fill}
 use Rattle.segments.specs.declared.SegmentNumber.{SegmentNumber}
-use Rattle.segments.specs.SegmentLayouts.{symbol_layout, symbol_at}
-use Rattle.tables.specs.by_name.Tables.{table, Takes, LeadsOn}
-use Rattle.tables.specs.by_name.TakeLaws.{takes_none, leads-all, lead-on, all-taken}
-use Rattle.segments.proofs.recalled.RowsLaws.{rows_from, rows-past, rows_few, rows-within, rows-turn, rows_end}
+use Rattle.segments.specs.SegmentLayouts.{symbol_layout}
+use Rattle.tables.specs.by_name.Tables.{table, LeadsOn}
+use Rattle.segments.proofs.recalled.RowsLaws.{rows_from}
 use Rattle.search_rules.specs.Search.{Placing, place}
 use Rattle.search_rules.specs.SearchRows.{placed_sheet}
 use Rattle.search.specs.place.PlacedSymbols.{placing_of}

@@ -1,5 +1,4 @@
 -- `placed_at` meets its contract: each field is what the definition makes of the row's numbers. Assumes nothing.
-use Rattle.std.proofs.Common.{rules}
 use Rattle.search.proofs.rows.placed_at.Goals as goal
 
 pub returns : goal.returns

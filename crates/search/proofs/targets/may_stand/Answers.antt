@@ -1,5 +1,5 @@
 -- `may_stand`, case by case. Assumes nothing.
-use Rattle.std.proofs.Common.{sym, ap, rules}
+use Rattle.std.proofs.Common.{sym, ap}
 use Rattle.search.specs.targets.Seats.{may_stand}
 use Rattle.search.proofs.targets.may_stand.Goals as goal
 

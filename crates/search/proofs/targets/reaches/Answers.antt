@@ -1,5 +1,5 @@
-use Rattle.std.proofs.Common.{◌≡◌, ℕ, ◌+◌, ◌-◌, ◌≤◌, List, length, ⊎_elim, arith, rules}
-use Rattle.search.specs.targets.CountLaws.{count_from, count-one, count-zero, count-end, reached, weighed}
+use Rattle.std.proofs.Common.{arith}
+use Rattle.search.specs.targets.CountLaws.{count-one, count-zero, count-end, reached, weighed}
 use Rattle.search.proofs.targets.reaches.Goals as goal
 use Rattle.search.proofs.targets.reaches.Goals.{then-masks-i-ne0, else-masks-i-ne0}
 
@@ -25,7 +25,7 @@ loop-i-preserved c =
     let masks = c.args.masks.now in
     let more = c.loop-i-test.true in
     elim c.if-masks-i-ne0.branch [
-      then-masks-i-ne0 w ↦ record { within = omega (arith, more); lacking = omega (arith, w.left-is, l.invariant.lacking, c.if-left-eq0.false, count-one masks l.i (omega (arith, more)) w.if-masks-i-ne0.true) }
+      | then-masks-i-ne0 w ↦ record { within = omega (arith, more); lacking = omega (arith, w.left-is, l.invariant.lacking, c.if-left-eq0.false, count-one masks l.i (omega (arith, more)) w.if-masks-i-ne0.true) }
       | else-masks-i-ne0 w ↦ record { within = omega (arith, more); lacking = omega (arith, w.left-is, l.invariant.lacking, count-zero masks l.i (omega (arith, more)) w.if-masks-i-ne0.false) }
     ]
 

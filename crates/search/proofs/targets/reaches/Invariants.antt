@@ -1,6 +1,6 @@
 -- `reaches`: what is lacking goes down as what is left to count does. Assumes nothing.
-use Rattle.std.proofs.Common.{◌≡◌, ℕ, ◌+◌, ◌-◌, ◌≤◌, List, length, ⊎_elim, arith, rules}
-use Rattle.search.specs.targets.CountLaws.{count_from, count-one, count-zero, count-end, reached, weighed}
+use Rattle.std.proofs.Common.{◌≡◌, ℕ, ◌+◌, ◌-◌, ◌≤◌, List, length}
+use Rattle.search.specs.targets.CountLaws.{count_from}
 use Rattle.search.proofs.targets.reaches.Given as goal
 
 pub record Inv (masks : List ℕ) (least left i : ℕ) : Type 0 where

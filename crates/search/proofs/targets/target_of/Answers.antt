@@ -1,6 +1,6 @@
 -- `target_of`: past the image's end there is no target, and else the sum is one of 64 bits. Assumes nothing.
 use Rattle.image.specs.View.{stretches_in}
-use Rattle.std.proofs.Common.{◌+◌, sym, arith, rules}
+use Rattle.std.proofs.Common.{◌+◌, sym, arith}
 use Rattle.search.specs.targets.MatchLaws.{past-target}
 use Rattle.search.proofs.targets.target_of.Goals as goal
 

@@ -1,5 +1,5 @@
 -- `answer_at`: what stands at the place, or 0. Assumes nothing.
-use Rattle.std.proofs.Common.{sym, arith, rules}
+use Rattle.std.proofs.Common.{sym, arith}
 use lib.ListN.{get_or-eq_default}
 use Rattle.search.proofs.told.answer_at.Goals as goal
 

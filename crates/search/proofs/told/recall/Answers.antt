@@ -1,5 +1,5 @@
 -- `recall`, test by test. Assumes nothing.
-use Rattle.std.proofs.Common.{◌/◌, ◌%◌, arith, rules, eq-eqb, ne_eqb, le-leb}
+use Rattle.std.proofs.Common.{◌/◌, ◌%◌, arith, eq-eqb, ne_eqb, le-leb}
 use borrow.Author.Tests.{lt-leb}
 use Rattle.search.proofs.told.recall.Goals as goal
 

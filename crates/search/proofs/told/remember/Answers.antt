@@ -1,5 +1,5 @@
 -- `remember`: there is no room for the answer, or it is written at its place. Assumes nothing.
-use Rattle.std.proofs.Common.{◌<◌, length, arith, rules, le-leb}
+use Rattle.std.proofs.Common.{◌<◌, length, arith, le-leb}
 use borrow.Author.Tests.{lt-leb}
 use Rattle.search.specs.told.AnswerLaws.{flag_small}
 use Rattle.search.proofs.told.remember.Goals as goal

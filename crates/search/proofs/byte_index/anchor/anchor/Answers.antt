@@ -1,5 +1,4 @@
-use Rattle.std.proofs.Common.{ℕ, ◌+◌, ◌-◌, ◌<◌, ◌≤◌, List, length, get_or, sym, subst, ⊎_elim, arith, rules}
-use Rattle.search.specs.byte_index.Anchor.{Anchor}
+use Rattle.std.proofs.Common.{◌+◌, get_or, sym, subst, arith}
 use Rattle.search.proofs.byte_index.anchor.anchor.Goals as goal
 use Rattle.search.proofs.byte_index.anchor.anchor.Goals.{then-masks-n, else-masks-n, then-masks-i+then-count-rarest+else-count-lt4, then-masks-i+else-count-rarest, else-masks-i}
 use Rattle.search.proofs.byte_index.anchor.anchor.Invariants.{Chosen}
@@ -47,14 +46,14 @@ loop-i-preserved c =
     record {
       within = omega arith;
       ends = elim c.if-masks-i.branch [
-        then-masks-i+then-count-rarest+else-count-lt4 w ↦ omega (arith, w.lesser-end-then-count-rarest.ensures, l.invariant.ends)
+        | then-masks-i+then-count-rarest+else-count-lt4 w ↦ omega (arith, w.lesser-end-then-count-rarest.ensures, l.invariant.ends)
         | then-masks-i+else-count-rarest w ↦ omega (arith, l.invariant.ends)
         | else-masks-i w ↦ omega (arith, l.invariant.ends)
       ];
       in_bytes = l.invariant.in_bytes;
       in-masks = l.invariant.in-masks;
       chosen = elim c.if-masks-i.branch [
-        then-masks-i+then-count-rarest+else-count-lt4 w ↦ subst (Chosen a.bytes.now a.masks.now n) (sym w.place-is)
+        | then-masks-i+then-count-rarest+else-count-lt4 w ↦ subst (Chosen a.bytes.now a.masks.now n) (sym w.place-is)
             (λ h. record { within = omega arith; byte = omega (arith, c.type_inv.bytes l.i); whole = w.if-masks-i.true })
         | then-masks-i+else-count-rarest w ↦ subst (Chosen a.bytes.now a.masks.now n) (sym w.place-is) kept
         | else-masks-i w ↦ subst (Chosen a.bytes.now a.masks.now n) (sym w.place-is) kept

@@ -1,5 +1,5 @@
 -- `anchor` goes over the pattern. The invariant: the place, where it is one, is that of a byte that is compared whole, and the end is the pattern's or before it. Assumes nothing.
-use Rattle.std.proofs.Common.{ℕ, ◌+◌, ◌-◌, ◌<◌, ◌≤◌, List, length, get_or, sym, subst, ⊎_elim, arith, rules}
+use Rattle.std.proofs.Common.{ℕ, ◌-◌, ◌<◌, ◌≤◌, List, length}
 use Rattle.search.specs.byte_index.Anchor.{Anchor}
 use Rattle.search.proofs.byte_index.anchor.anchor.Given as goal
 

@@ -1,5 +1,5 @@
-use Rattle.std.proofs.Common.{◌≡◌, ℕ, ◌-◌, ◌<◌, ◌≤◌, List, length, refl, arith, length-set, rules}
-use Rattle.tables.specs.links.Index.{key_at, LinkedIn}
+use Rattle.std.proofs.Common.{◌-◌, ◌<◌, refl, arith, length-set}
+use Rattle.tables.specs.links.Index.{key_at}
 use Rattle.tables.specs.links.IndexLaws.{none-linked, link-turn, linked-at}
 use Rattle.search.specs.byte_index.IndexLaws.{past-heads, all-indexed}
 use Rattle.search.proofs.byte_index.index.index.Goals as goal

@@ -1,8 +1,6 @@
 -- `index` goes from the last place to the first. The invariant: the places from here on are linked. Assumes nothing.
-use Rattle.std.proofs.Common.{◌≡◌, ℕ, ◌-◌, ◌<◌, ◌≤◌, List, length, refl, arith, length-set, rules}
-use Rattle.tables.specs.links.Index.{key_at, LinkedIn}
-use Rattle.tables.specs.links.IndexLaws.{none-linked, link-turn, linked-at}
-use Rattle.search.specs.byte_index.IndexLaws.{past-heads, all-indexed}
+use Rattle.std.proofs.Common.{◌≡◌, ℕ, ◌≤◌, List, length}
+use Rattle.tables.specs.links.Index.{LinkedIn}
 use Rattle.search.proofs.byte_index.index.index.Given as goal
 
 pub record Inv (image first₀ next₀ first next : List ℕ) (i : ℕ) : Type 0 where

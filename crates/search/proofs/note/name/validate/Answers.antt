@@ -1,5 +1,5 @@
 -- `validate`: the row as it was read, but valid. Assumes nothing.
-use Rattle.std.proofs.Common.{ap, ◌∙◌, rules}
+use Rattle.std.proofs.Common.{ap, ◌∙◌}
 use Rattle.lent.specs.Rows.{put_row}
 use Rattle.search_rules.specs.SearchRows.{noted_cells}
 use Rattle.search.specs.note.NotedNames.{validated}

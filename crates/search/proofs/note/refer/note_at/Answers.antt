@@ -1,6 +1,5 @@
 -- `note_at`, case by case. Assumes nothing.
 use Rattle.search.specs.note.ReferLaws.{notes-nowhere, notes-segment, notes-name}
-use Rattle.std.proofs.Common.{rules}
 use Rattle.search.proofs.note.refer.note_at.Goals as goal
 
 pub returns-in_default : goal.returns-in_default

@@ -1,17 +1,10 @@
-use Rattle.std.proofs.Common.{◌≡◌, ℕ, ◌+◌, ◌-◌, ◌/◌, ◌≤◌, Bool, List, [], ◌∷◌, length, not, sym, refl, ap, ◌∙◌, subst, inl, inr, ⊎_elim, arith, rules}
-use Rattle.lent.specs.declared.part.Part.{Part}
-use Rattle.tables.specs.declared.fill.Fill.{Fill}
-use Rattle.image.specs.declared.Stretch.{Stretch}
+use Rattle.std.proofs.Common.{◌+◌, ◌/◌, ◌≤◌, [], ◌∷◌, length, not, sym, refl, ap, ◌∙◌, subst, inl, inr, arith}
 use Rattle.image.specs.View.{stretches_in, view}
-use Rattle.image.specs.declared.fixup.Rules.{Rules}
 use Rattle.segments.specs.SegmentLayouts.{reference_layout}
-use Rattle.segments.specs.declared.Reference.{Reference}
-use Rattle.segments.specs.recalled.Recall.{rows_of}
 use Rattle.segments.proofs.recalled.RowsLaws.{rows_from, rows-past, rows_few, rows-within, rows-turn, rows_end}
 use Rattle.search_rules.specs.declared.Failed.{Failed}
-use Rattle.search_rules.specs.declared.Failed.TheVariants as Failed
 use Rattle.search.specs.note.NotedNames.{Refers}
-use Rattle.search.specs.note.ReferLaws.{Referring, referring-starts, referring-on, referring-ends}
+use Rattle.search.specs.note.ReferLaws.{referring-starts, referring-on, referring-ends}
 use Rattle.search.proofs.note.refer.refer_all.Goals as goal
 use Rattle.search.proofs.note.refer.refer_all.Goals.{In-loop-k, then-not-is_failed, else-not-is_failed}
 
@@ -87,7 +80,7 @@ loop-k-preserved c =
           q.new.noted q.new.heads q.result q.ensures
           c.is_failed.result c.is_failed.ensures c.if-not-is_failed.failed
           (elim c.if-not-is_failed.branch [
-            then-not-is_failed w ↦ inl (ap not w.if-not-is_failed.true, λ stored symbols. w.failed-is ∙ w.failed_by-failed.ensures stored symbols)
+            | then-not-is_failed w ↦ inl (ap not w.if-not-is_failed.true, λ stored symbols. w.failed-is ∙ w.failed_by-failed.ensures stored symbols)
             | else-not-is_failed w ↦ inr (ap not w.if-not-is_failed.false, w.failed-is)
           ]);
     }

@@ -1,18 +1,14 @@
 -- `refer_all` goes from row to row. The invariant: whoever goes over those that are left has gone over all. Assumes nothing.
-use Rattle.std.proofs.Common.{◌≡◌, ℕ, ◌+◌, ◌-◌, ◌/◌, ◌≤◌, Bool, List, [], ◌∷◌, length, sym, refl, ap, ◌∙◌, subst, inl, inr, ⊎_elim, arith, rules}
+use Rattle.std.proofs.Common.{◌≡◌, ℕ, ◌-◌, ◌≤◌, Bool, List, length}
 use Rattle.lent.specs.declared.part.Part.{Part}
 use Rattle.tables.specs.declared.fill.Fill.{Fill}
 use Rattle.image.specs.declared.Stretch.{Stretch}
 use Rattle.image.specs.View.{stretches_in, view}
 use Rattle.image.specs.declared.fixup.Rules.{Rules}
 use Rattle.segments.specs.SegmentLayouts.{reference_layout}
-use Rattle.segments.specs.declared.Reference.{Reference}
-use Rattle.segments.specs.recalled.Recall.{rows_of}
-use Rattle.segments.proofs.recalled.RowsLaws.{rows_from, rows-past, rows_few, rows-within, rows-turn, rows_end}
+use Rattle.segments.proofs.recalled.RowsLaws.{rows_from}
 use Rattle.search_rules.specs.declared.Failed.{Failed}
-use Rattle.search_rules.specs.declared.Failed.TheVariants as Failed
-use Rattle.search.specs.note.NotedNames.{Refers}
-use Rattle.search.specs.note.ReferLaws.{Referring, referring-starts, referring-on, referring-ends}
+use Rattle.search.specs.note.ReferLaws.{Referring}
 use Rattle.search.proofs.note.refer.refer_all.Given as goal
 
 pub record Inv (image : List ℕ) (s : List Stretch) (rules : Rules) (position : ℕ) (valid : Bool) (library segments : List ℕ) (n : ℕ)

@@ -1,11 +1,8 @@
-use Rattle.std.proofs.Common.{◌≡◌, ℕ, ◌+◌, ◌-◌, ◌≤◌, List, length, sym, refl, ◌∙◌, subst, arith}
+use Rattle.std.proofs.Common.{ℕ, ◌+◌, ◌-◌, List, sym, refl, ◌∙◌, subst, arith}
 use Rattle.lent.specs.Lists.{joined, from}
 use Rattle.image.specs.View.{stretches_in, view}
-use Rattle.search_rules.specs.declared.Asked.{Asked}
-use Rattle.search.specs.declared.visit.Fills.{Fills}
-use Rattle.search.specs.visit.Visits.{Stored, stored, segments_in, Visits, ToldOf}
+use Rattle.search.specs.visit.Visits.{Stored, stored, segments_in, Visits}
 use Rattle.search.specs.visit.VisitLaws.{matches_by, all-by-number, next-number, no_number}
-use Rattle.search.specs.visit.VisitsLeft.{Leading}
 use Rattle.search.specs.visit.VisitsLeftLaws.{leading-starts, leading-on, leading-ends}
 use Rattle.search.proofs.visit.all.search_all.Goals as goal
 

@@ -1,13 +1,12 @@
 -- `search_all` goes from segment to segment. The invariant: whoever searches those that are left has searched all. Assumes nothing.
-use Rattle.std.proofs.Common.{◌≡◌, ℕ, ◌+◌, ◌-◌, ◌≤◌, List, length, sym, refl, ◌∙◌, subst, arith}
+use Rattle.std.proofs.Common.{◌≡◌, ℕ, ◌-◌, ◌≤◌, List, length}
 use Rattle.lent.specs.Lists.{joined, from}
 use Rattle.image.specs.View.{stretches_in, view}
 use Rattle.search_rules.specs.declared.Asked.{Asked}
 use Rattle.search.specs.declared.visit.Fills.{Fills}
-use Rattle.search.specs.visit.Visits.{Stored, stored, segments_in, Visits, ToldOf}
-use Rattle.search.specs.visit.VisitLaws.{matches_by, all-by-number, next-number, no_number}
+use Rattle.search.specs.visit.Visits.{Stored, stored, segments_in, ToldOf}
+use Rattle.search.specs.visit.VisitLaws.{matches_by}
 use Rattle.search.specs.visit.VisitsLeft.{Leading}
-use Rattle.search.specs.visit.VisitsLeftLaws.{leading-starts, leading-on, leading-ends}
 use Rattle.search.proofs.visit.all.search_all.Given as goal
 
 pub record Inv (cells : List ℕ) (asked : Asked) (library : List ℕ) (t : Stored) (n : ℕ) (told₀ placed₀ positions₀ noted₀ goals₀ : List ℕ) (f₀ : Fills)

@@ -1,5 +1,5 @@
 -- `visit_match`: the references are gone over, and the symbols placed unless the match is kept out. Assumes nothing.
-use Rattle.std.proofs.Common.{ℕ, List, map, length, sym, subst, rules}
+use Rattle.std.proofs.Common.{ℕ, List, map, length, sym, subst}
 use Rattle.lent.specs.Lists.{one}
 use Rattle.image.specs.View.{stretches_in, view}
 use Rattle.image.proofs.ViewLaws.{view-length}

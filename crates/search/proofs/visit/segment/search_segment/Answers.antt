@@ -1,19 +1,14 @@
-use Rattle.std.proofs.Common.{◌≡◌, ℕ, Bool, List, map, length, sym, refl, ap, ◌∙◌, subst, ⊎_elim, arith, rules}
+use Rattle.std.proofs.Common.{◌≡◌, ℕ, Bool, List, map, length, sym, refl, ap, ◌∙◌, subst, arith}
 use Rattle.lent.specs.Lists.{one}
-use Rattle.image.specs.declared.Stretch.{Stretch}
 use Rattle.image.specs.View.{stretches_in, view}
-use Rattle.segments.specs.declared.SegmentRow.{SegmentRow}
-use Rattle.search.specs.declared.matches.MatchCursor.{MatchCursor}
-use Rattle.search.specs.matches.Cursor.{places_left, Sound, Reached}
+use Rattle.search.specs.matches.Cursor.{places_left, Reached}
 use Rattle.search.specs.matches.StepLaws.{stepped-at, stepped-done, reached-less}
-use Rattle.search_rules.specs.declared.Asked.{Asked}
-use Rattle.search.specs.declared.visit.Fills.{Fills}
 use Rattle.search.specs.depth.DeepLaws.{carries-row}
 use Rattle.search.specs.visit.Visits.{Stored, stored, segments_in, Visits, ToldOf, KnownDeep}
 use Rattle.search.specs.visit.SegmentLaws.{match_at, segment-matches, known-valid, visits-nothing}
-use Rattle.search.specs.visit.VisitsLeft.{Leading}
 use Rattle.search.specs.visit.VisitsLeftLaws.{leading-starts, leading-on, leading-ends}
 use Rattle.search.proofs.visit.segment.search_segment.Goals as goal
+use Rattle.search.proofs.visit.segment.search_segment.Goals.{then-asked-gt1, else-asked-gt1}
 
 pub returns-then-row-eq0-2 : goal.returns-then-row-eq0-2
 returns-then-row-eq0-2 c =
@@ -101,11 +96,20 @@ loop-at-preserved c =
     let decided : let a = c.args in KnownDeep (seen) a.asked a.library.now (rows) a.n c.segment_at-row.result c.in-At.at c.if-asked-gt1.deep × ToldOf (seen) a.asked (rows) a.n c.if-asked-gt1.told = let a = c.args in
     let Deep : Bool → Type 0 = KnownDeep (seen) a.asked a.library.now (rows) a.n c.segment_at-row.result c.in-At.at in
     let True : List ℕ → Type 0 = ToldOf (seen) a.asked (rows) a.n in
-    ⊎_elim
-    (λ w. (subst Deep (sym w.6) ((λ l. w.2.ensures.0), λ l. absurd (omega (arith, l, w.0.taken))), subst True (sym w.5) w.2.ensures.1))
-    (λ w. (subst Deep (sym w.2) ((λ l. absurd (omega (arith, l, w.0.left))), λ l. refl), subst True (sym w.1) c.loop-at.invariant.truth))
-    c.if-asked-gt1.branch in
-    let long : length c.if-asked-gt1.told ≡ length c.loop-at.told = ⊎_elim (λ w. ap length w.5 ∙ w.3.given) (λ w. ap length w.1) c.if-asked-gt1.branch in
+    elim c.if-asked-gt1.branch [
+      | then-asked-gt1 w ↦ (
+        subst Deep (sym w.deep-is) ((λ l. w.fails_deep-deep.ensures.0), λ l. absurd (omega (arith, l, w.if-asked-gt1.true))),
+        subst True (sym w.told-is) w.fails_deep-deep.ensures.1,
+      )
+      | else-asked-gt1 w ↦ (
+        subst Deep (sym w.deep-is) ((λ l. absurd (omega (arith, l, w.if-asked-gt1.false))), λ l. refl),
+        subst True (sym w.told-is) c.loop-at.invariant.truth,
+      )
+    ] in
+    let long : length c.if-asked-gt1.told ≡ length c.loop-at.told = elim c.if-asked-gt1.branch [
+      | then-asked-gt1 w ↦ ap length w.told-is ∙ w.fails_deep-deep.auto.told
+      | else-asked-gt1 w ↦ ap length w.told-is
+    ] in
     let a = c.args in
     let l = c.loop-at in
     let v = c.visit_match-f in
@@ -118,10 +122,10 @@ loop-at-preserved c =
     record {
       told-long = long ∙ l.invariant.told-long;
       truth = (decided).1;
-      placed-long = c.placed-1.given ∙ l.invariant.placed-long;
-      positions-long = c.positions-1.given ∙ l.invariant.positions-long;
-      noted-long = c.noted-1.given ∙ l.invariant.noted-long;
-      goals-long = c.goals-1.given ∙ l.invariant.goals-long;
+      placed-long = v.auto.placed ∙ l.invariant.placed-long;
+      positions-long = v.auto.positions ∙ l.invariant.positions-long;
+      noted-long = v.auto.noted ∙ l.invariant.noted-long;
+      goals-long = v.auto.goals ∙ l.invariant.goals-long;
       sound = (reached).sound;
       leads =
           leading-on (seen) a.asked a.library.now (segments_in t a.n) every a.placed.now a.positions.now a.noted.now

@@ -1,19 +1,15 @@
 -- `search_segment` goes from match to match. The invariant: whoever visits those that are left has visited all. Assumes nothing.
-use Rattle.std.proofs.Common.{◌≡◌, ℕ, Bool, List, map, length, sym, refl, ap, ◌∙◌, subst, ⊎_elim, arith, rules}
-use Rattle.lent.specs.Lists.{one}
+use Rattle.std.proofs.Common.{◌≡◌, ℕ, List, map, length}
 use Rattle.image.specs.declared.Stretch.{Stretch}
 use Rattle.image.specs.View.{stretches_in, view}
 use Rattle.segments.specs.declared.SegmentRow.{SegmentRow}
 use Rattle.search.specs.declared.matches.MatchCursor.{MatchCursor}
-use Rattle.search.specs.matches.Cursor.{places_left, Sound, Reached}
-use Rattle.search.specs.matches.StepLaws.{stepped-at, stepped-done, reached-less}
+use Rattle.search.specs.matches.Cursor.{places_left, Sound}
 use Rattle.search_rules.specs.declared.Asked.{Asked}
 use Rattle.search.specs.declared.visit.Fills.{Fills}
-use Rattle.search.specs.depth.DeepLaws.{carries-row}
-use Rattle.search.specs.visit.Visits.{Stored, stored, segments_in, Visits, ToldOf, KnownDeep}
-use Rattle.search.specs.visit.SegmentLaws.{match_at, segment-matches, known-valid, visits-nothing}
+use Rattle.search.specs.visit.Visits.{Stored, stored, segments_in, ToldOf}
+use Rattle.search.specs.visit.SegmentLaws.{match_at}
 use Rattle.search.specs.visit.VisitsLeft.{Leading}
-use Rattle.search.specs.visit.VisitsLeftLaws.{leading-starts, leading-on, leading-ends}
 use Rattle.search.proofs.visit.segment.search_segment.Given as goal
 
 pub record Inv (image : List ℕ) (s : List Stretch) (asked : Asked) (library : List ℕ) (t : Stored) (n i : ℕ) (told₀ placed₀ positions₀ noted₀ goals₀ : List ℕ)
