@@ -1,29 +1,27 @@
 -- The steps of the check to a depth: a match whose answer is worked out; one reference, case by case; references one after
 -- another; and whether a match is kept out. Assumes nothing.
-use Rattle.std.specs.Prelude.{◌≡◌, ℕ, zero, suc, ◌+◌, ◌-◌, ◌<◌, ◌≤◌, Bool, true, false, not, ◌&&◌, ◌||◌, List, [], ◌≢◌, nat_lt}
+use Rattle.std.specs.Prelude.{◌≡◌, ℕ, zero, suc, ◌<◌, ◌≤◌, Bool, true, false, not, ◌&&◌, ◌||◌, List, ◌≢◌, nat_lt}
 use Rattle.std.proofs.Math.Path.{refl, sym, ap}
 use Rattle.std.proofs.Common.{subst, ◌∙◌, arith, lt-ltb, le-ltb}
 use Rattle.std.proofs.lemmas.Bool.{false≢true}
-use Rattle.std.proofs.Math.Option.{Option, none, some}
+use Rattle.std.proofs.Math.Option.{none, some}
 use Rattle.std.proofs.Math.Decide.{dec_lt}
 use Rattle.lent.specs.declared.part.Part.{Part}
 use Rattle.lent.specs.Choice.{if◌then◌else◌}
-use Rattle.lent.specs.Lists.{all, is_in}
+use Rattle.lent.specs.Lists.{all}
 use Rattle.image.specs.declared.fixup.Rules.{Rules}
 use Rattle.image.specs.declared.fixup.Target.{Target}
 use Rattle.image.specs.declared.fixup.Target.TheVariants.{At, PastEnd, Withheld}
 use Rattle.segments.specs.declared.SegmentNumber.{SegmentNumber}
 use Rattle.segments.specs.declared.SegmentRow.{SegmentRow}
 use Rattle.segments.specs.declared.Goal.{Goal}
-use Rattle.segments.specs.declared.Goal.TheVariants as Goal
 use Rattle.segments.specs.declared.Reference.{Reference}
 use Rattle.segments.specs.Collect.{Collected}
 use Rattle.segments.specs.SegmentLayouts.{reference_layout, segment_row_at}
 use Rattle.segments.specs.recalled.Recall.{rows_of, recalled_by, recalled_at}
 use Rattle.search_rules.specs.declared.Why.TheVariants as Why
 use Rattle.search_rules.specs.declared.Failed.{Failed}
-use Rattle.search_rules.specs.declared.Failed.TheVariants as Failed
-use Rattle.search_rules.specs.Search.{no_segment, segment_of, positions_of, leads, holds_to, failure, failed, failed_from, failed_to}
+use Rattle.search_rules.specs.Search.{no_segment, segment_of, leads, holds_to, failure, failed, failed_from, failed_to}
 use Rattle.search_rules.proofs.FailedLaws.{is_nothing, holds-exactly}
 use Rattle.search_rules.proofs.DepthLaws.{holds-every-less}
 use Rattle.search.specs.targets.Seats.{IsMatch}

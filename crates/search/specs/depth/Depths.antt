@@ -1,6 +1,6 @@
 -- Whether a match holds to a depth, and which of its references fails first there, asked of segments and references that are
 -- stored in rows; and that a table of answers tells the truth. The symbols that are stored with the segments do not matter.
-use Rattle.std.specs.Prelude.{◌≡◌, ℕ, suc, ◌/◌, ◌%◌, ◌<◌, Bool, not, List, ◌==◌, slice_index}
+use Rattle.std.specs.Prelude.{◌≡◌, ℕ, ◌/◌, ◌%◌, ◌<◌, Bool, not, List, ◌==◌, slice_index}
 use Rattle.std.proofs.Math.Option.{Option}
 use Rattle.lent.specs.declared.part.Part.{Part}
 use Rattle.image.specs.declared.fixup.Rules.{Rules}
@@ -13,7 +13,6 @@ use Rattle.segments.specs.SegmentLayouts.{reference_layout}
 use Rattle.segments.specs.recalled.Recall.{rows_of, recalled}
 use Rattle.search_rules.specs.declared.Why.{Why}
 use Rattle.search_rules.specs.declared.Failed.{Failed}
-use Rattle.search_rules.specs.declared.Failed.TheVariants as Failed
 use Rattle.search_rules.specs.Search.{leads, segment_of, holds_to, failure, failed, failed_from, failed_to}
 
 -- why a reference of a match at a position fails at depth d + 1

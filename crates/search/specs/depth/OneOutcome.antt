@@ -1,5 +1,5 @@
 -- What a match comes to at a depth has one outcome, by the contract alone. Assumes nothing.
-use Rattle.std.specs.Prelude.{◌≡◌, ℕ, List, [], refl}
+use Rattle.std.specs.Prelude.{ℕ, List, [], refl}
 use Rattle.std.proofs.Common.{sym, ◌∙◌}
 use Rattle.lent.specs.declared.part.Part.{Part}
 use Rattle.lent.specs.OneOutcome.{Determines}

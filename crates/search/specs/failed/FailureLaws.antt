@@ -11,13 +11,10 @@ use Rattle.image.specs.declared.fixup.Target.{Target}
 use Rattle.image.specs.declared.fixup.Target.TheVariants.{At, PastEnd, Withheld}
 use Rattle.segments.specs.declared.SegmentNumber.{SegmentNumber}
 use Rattle.segments.specs.declared.Goal.{Goal}
-use Rattle.segments.specs.declared.Goal.TheVariants as Goal
 use Rattle.segments.specs.declared.Reference.{Reference}
 use Rattle.segments.specs.recalled.Recall.{recalled}
 use Rattle.search_rules.specs.declared.Why.{Why}
-use Rattle.search_rules.specs.declared.Why.TheVariants as Why
 use Rattle.search_rules.specs.declared.Failed.{Failed}
-use Rattle.search_rules.specs.declared.Failed.TheVariants as Failed
 use Rattle.search_rules.specs.Search.{leads, failure, failed, failed_from}
 use Rattle.search_rules.proofs.FailedLaws.{is_nothing}
 use Rattle.search.specs.targets.Seats.{IsMatch}

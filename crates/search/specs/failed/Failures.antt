@@ -11,7 +11,6 @@ use Rattle.segments.specs.SegmentLayouts.{reference_layout}
 use Rattle.segments.specs.recalled.Recall.{rows_of, recalled}
 use Rattle.search_rules.specs.declared.Why.{Why}
 use Rattle.search_rules.specs.declared.Failed.{Failed}
-use Rattle.search_rules.specs.declared.Failed.TheVariants as Failed
 use Rattle.search_rules.specs.Search.{leads, failure, failed, failed_from}
 
 -- at depth 1 a match to which a reference leads is not asked for more

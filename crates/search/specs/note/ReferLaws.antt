@@ -13,14 +13,12 @@ use Rattle.image.specs.declared.fixup.Target.{Target}
 use Rattle.image.specs.declared.fixup.Target.TheVariants.{At, PastEnd, Withheld}
 use Rattle.segments.specs.declared.SegmentNumber.{SegmentNumber}
 use Rattle.segments.specs.declared.Goal.{Goal}
-use Rattle.segments.specs.declared.Goal.TheVariants as Goal
 use Rattle.segments.specs.declared.Reference.{Reference}
 use Rattle.tables.specs.by_name.Tables.{table, Takes, LeadsOn}
 use Rattle.tables.specs.by_name.TakeLaws.{takes_none, leads-all, lead-on, all-taken}
 use Rattle.segments.specs.recalled.Recall.{recalled}
 use Rattle.search_rules.specs.declared.Why.{Why}
 use Rattle.search_rules.specs.declared.Failed.{Failed}
-use Rattle.search_rules.specs.declared.Failed.TheVariants as Failed
 use Rattle.search_rules.specs.Search.{leads, failed, failed_from, note_at, note}
 use Rattle.search_rules.specs.SearchRows.{noted_sheet}
 use Rattle.search_rules.proofs.FailedLaws.{is_nothing}

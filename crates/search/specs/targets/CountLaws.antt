@@ -1,6 +1,6 @@
 -- Masks that are not zero, counted one after another. Assumes nothing.
 use Rattle.std.specs.Prelude.{◌≡◌, ℕ, ◌+◌, ◌<◌, ◌≤◌, true, not, List, length, drop, ◌==◌, ◌≢◌, nat_le, slice_index}
-use Rattle.std.proofs.Common.{ap, sym, ◌∙◌, arith, drop_of_length-le}
+use Rattle.std.proofs.Common.{sym, ◌∙◌, arith, drop_of_length-le}
 use Rattle.std.proofs.Math.Decide.{dec_lt}
 use borrow.Author.Tests.{eq-eqb, ne_eqb, le-leb, lt-leb}
 use Rattle.lent.specs.Lists.{keep}

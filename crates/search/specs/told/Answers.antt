@@ -3,7 +3,6 @@ use Rattle.std.specs.Prelude.{ℕ, ◌+◌, ◌*◌, ◌/◌, ◌%◌, Bool, tru
 use Rattle.lent.specs.Choice.{if◌then◌else◌}
 use Rattle.lent.specs.Rows.{flag}
 use Rattle.search.specs.declared.told.Recalled.{Recalled}
-use Rattle.search.specs.declared.told.Recalled.TheVariants as Recalled
 
 -- an answer as a number: 8 times the segment's number, twice the depth, and 1 where the match holds
 abbrev pub answer_of : ℕ → ℕ → Bool → ℕ

@@ -1,7 +1,6 @@
 -- What is remembered has one outcome, by the contracts alone. Assumes nothing.
 use Rattle.std.specs.Prelude.{◌≡◌, ℕ, Bool, List, slice_index}
 use Rattle.lent.specs.OneOutcome.{Determines, by-equation}
-use Rattle.search.specs.declared.told.Recalled.{Recalled}
 use Rattle.search.specs.told.Answers.{recall_of, remembered}
 
 pub answer-at-one : (told : List ℕ) (at : ℕ) → Determines (λ r. r ≡ slice_index told at)

@@ -1,0 +1,96 @@
+use Rattle.std.proofs.Common.{ℕ, ◌+◌, ◌-◌, List, sym, refl, ◌∙◌, subst, arith}
+use Rattle.lent.specs.Lists.{joined, from}
+use Rattle.image.specs.View.{stretches_in, view}
+use Rattle.search.specs.visit.Visits.{Stored, stored, segments_in, Visits}
+use Rattle.search.specs.visit.VisitLaws.{matches_by, all-by-number, next-number, no_number}
+use Rattle.search.specs.visit.VisitsLeftLaws.{leading-starts, leading-on, leading-ends}
+use Rattle.search.proofs.visit.all.search_all.Goals as goal
+
+pub loop-i-init : goal.loop-i-init
+loop-i-init c =
+    let rows : Stored = stored c.args.segments.now c.args.references.now c.args.symbols.now c.args.bytes.now c.args.masks.now in
+    let seen : List ℕ = view c.args.image.now (stretches_in c.args.s.now) in
+    let a = c.args in
+    record {
+      within = omega arith;
+      told-long = refl;
+      truth = c.requires.1;
+      placed-long = refl;
+      positions-long = refl;
+      noted-long = refl;
+      goals-long = refl;
+      leads = leading-starts (seen) a.asked a.library.now (segments_in (rows) a.n)
+          (joined (matches_by (seen) (rows)) (from 0 (a.n - 0))) a.placed.now a.positions.now a.noted.now a.goals.now a.before;
+    }
+
+pub search_segment-f-requires : goal.search_segment-f-requires
+search_segment-f-requires c =
+    (c.requires.0, c.loop-i.invariant.truth)
+
+pub overflow_add-i : goal.overflow_add-i
+overflow_add-i c =
+    omega (arith, c.loop-i-test.true, c.ranges)
+
+pub loop-i-smaller : goal.loop-i-smaller
+loop-i-smaller c =
+    omega (arith, c.loop-i-test.true)
+
+pub loop-i-preserved : goal.loop-i-preserved
+loop-i-preserved c =
+    let rows : Stored = stored c.args.segments.now c.args.references.now c.args.symbols.now c.args.bytes.now c.args.masks.now in
+    let seen : List ℕ = view c.args.image.now (stretches_in c.args.s.now) in
+    let a = c.args in
+    let l = c.loop-i in
+    let v = c.search_segment-f in
+    let more = joined (matches_by (seen) (rows)) in
+    record {
+      within = omega (arith, c.loop-i-test.true);
+      told-long = c.told-1.given ∙ l.invariant.told-long;
+      truth = v.ensures.1;
+      placed-long = c.placed-1.given ∙ l.invariant.placed-long;
+      positions-long = c.positions-1.given ∙ l.invariant.positions-long;
+      noted-long = c.noted-1.given ∙ l.invariant.noted-long;
+      goals-long = c.goals-1.given ∙ l.invariant.goals-long;
+      leads =
+          leading-on (seen) a.asked a.library.now (segments_in (rows) a.n) (more (from 0 (a.n - 0))) a.placed.now
+          a.positions.now a.noted.now a.goals.now a.before {left = more (from l.i (a.n - l.i))} l.placed l.positions l.noted l.goals l.f l.invariant.leads
+          (matches_by (seen) (rows) l.i) (more (from (l.i + 1) (a.n - (l.i + 1))))
+          v.new.placed v.new.positions
+          v.new.noted v.new.goals v.result
+          (next-number (seen) (rows) l.i a.n (omega (arith, c.loop-i-test.true)))
+          v.ensures.0;
+    }
+
+pub returns : goal.returns
+returns c =
+    let rows : Stored = stored c.args.segments.now c.args.references.now c.args.symbols.now c.args.bytes.now c.args.masks.now in
+    let seen : List ℕ = view c.args.image.now (stretches_in c.args.s.now) in
+    let a = c.args in
+    let l = c.loop-i in
+    subst (λ ms. Visits (seen) a.asked a.library.now (segments_in (rows) a.n) ms a.placed.now a.positions.now
+    a.noted.now a.goals.now a.before l.placed l.positions l.noted l.goals l.f)
+    (sym (all-by-number (seen) (rows) a.n))
+    (leading-ends (seen) a.asked a.library.now (segments_in (rows) a.n)
+    (joined (matches_by (seen) (rows)) (from 0 (a.n - 0))) a.placed.now a.positions.now a.noted.now a.goals.now
+    a.before {left = joined (matches_by (seen) (rows)) (from l.i (a.n - l.i))} l.placed l.positions l.noted l.goals l.f l.invariant.leads
+    (no_number (seen) (rows) l.i a.n (omega (arith, c.loop-i-test.false))))
+
+pub shape_of-told : goal.shape_of-told
+shape_of-told c =
+    c.loop-i.invariant.told-long
+
+pub shape_of-placed : goal.shape_of-placed
+shape_of-placed c =
+    c.loop-i.invariant.placed-long
+
+pub shape_of-positions : goal.shape_of-positions
+shape_of-positions c =
+    c.loop-i.invariant.positions-long
+
+pub shape_of-noted : goal.shape_of-noted
+shape_of-noted c =
+    c.loop-i.invariant.noted-long
+
+pub shape_of-goals : goal.shape_of-goals
+shape_of-goals c =
+    c.loop-i.invariant.goals-long
