@@ -1,9 +1,9 @@
 -- What the collection comes to: the answer, and what is left in the lists that were lent to it.
-use Rattle.std.specs.Prelude.{ℕ, Bool, ◌||◌, List, [], ◌∷◌, ltb, length}
+use Rattle.std.specs.Prelude.{ℕ, Bool, ◌||◌, List, [], ◌∷◌, ltb, length, if◌then◌else◌}
 use Rattle.std.proofs.Math.Option.{Option, none, some}
 use Rattle.lent.specs.declared.refusal.Refusal.{Refusal}
 use Rattle.lent.specs.declared.refusal.Refusal.TheVariants.{LibraryTooLong, TooFewRows}
-use Rattle.lent.specs.Choice.{if◌then◌else◌, when, leading}
+use Rattle.lent.specs.Choice.{when, leading}
 use Rattle.lent.specs.Lists.{total}
 use Rattle.lent.specs.Refusals.{zeroes}
 use Rattle.lent.specs.Rows.{zeros, padded, too_many}

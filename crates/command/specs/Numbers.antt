@@ -1,6 +1,5 @@
 -- A number as it is written on the command line: decimal, or hexadecimal behind 0x.
-use Rattle.std.specs.Prelude.{ℕ, ◌+◌, ◌-◌, ◌*◌, Bool, false, List, [], ◌∷◌, eqb, leb, ltb, length, get_or, drop}
-use Rattle.lent.specs.Choice.{if◌then◌else◌}
+use Rattle.std.specs.Prelude.{ℕ, ◌+◌, ◌-◌, ◌*◌, Bool, false, List, [], ◌∷◌, eqb, leb, ltb, length, get_or, drop, if◌then◌else◌}
 use Rattle.command.specs.declared.number.Number.{Number}
 use Rattle.command.specs.declared.number.Number.TheVariants.{Value, TooLarge, NotANumber}
 

@@ -1,7 +1,6 @@
 -- The options of the command line, and what is known of them.
-use Rattle.std.specs.Prelude.{ℕ, Bool, true, false, List, [], ◌∷◌, eqb, length, get_or}
+use Rattle.std.specs.Prelude.{ℕ, Bool, true, false, List, [], ◌∷◌, eqb, length, get_or, if◌then◌else◌}
 use Prim.Native.String.{String}
-use Rattle.lent.specs.Choice.{if◌then◌else◌}
 use Rattle.lent.specs.Parts.{same}
 use Rattle.describe.specs.Describe.{text}
 use Rattle.command.specs.Values.{number_value, rules_value}

@@ -1,6 +1,5 @@
 -- What is to be withheld: START:LENGTH, two numbers with a colon between them.
-use Rattle.std.specs.Prelude.{ℕ, suc, ◌+◌, List, [], ◌∷◌, eqb, leb, length, take, drop}
-use Rattle.lent.specs.Choice.{if◌then◌else◌}
+use Rattle.std.specs.Prelude.{ℕ, suc, ◌+◌, List, [], ◌∷◌, eqb, leb, length, take, drop, if◌then◌else◌}
 use Rattle.image.specs.declared.cover.Stretches.{Stretches}
 use Rattle.image.specs.Cover.{one_more}
 use Rattle.command.specs.Words.{too_long, mistake}

@@ -1,6 +1,5 @@
 -- What the value of an option says; i is the number of the word that is the value.
-use Rattle.std.specs.Prelude.{ℕ, List}
-use Rattle.lent.specs.Choice.{if◌then◌else◌}
+use Rattle.std.specs.Prelude.{ℕ, List, if◌then◌else◌}
 use Rattle.lent.specs.Parts.{same}
 use Rattle.describe.specs.Describe.{text}
 use Rattle.command.specs.Words.{too_long, mistake}

@@ -1,8 +1,7 @@
 -- What the code's tables spell, and what it takes off a name and writes.
-use Rattle.std.specs.Prelude.{ℕ, zero, suc, ◌+◌, ◌≡◌, List, [], ◌∷◌, ◌++◌, leb, length, take, drop, get_or}
+use Rattle.std.specs.Prelude.{ℕ, zero, suc, ◌+◌, ◌≡◌, List, [], ◌∷◌, ◌++◌, leb, length, take, drop, get_or, if◌then◌else◌}
 use Rattle.std.proofs.Math.Option.{Option, none, some}
 use Rattle.std.proofs.lemmas.List.Edits.{sets}
-use Rattle.lent.specs.Choice.{if◌then◌else◌}
 use Rattle.describe.specs.declared.words.Saying.{Saying}
 use Rattle.describe.specs.declared.Piece.{Piece}
 use Rattle.describe.specs.declared.words.Taken.{Taken}

@@ -1,6 +1,5 @@
 -- What the exported functions give their callers: plain numbers instead of settings, answers and counts.
-use Rattle.std.specs.Prelude.{ℕ, Bool, List, [], ◌∷◌, get_or}
-use Rattle.lent.specs.Choice.{if◌then◌else◌}
+use Rattle.std.specs.Prelude.{ℕ, Bool, List, [], ◌∷◌, get_or, if◌then◌else◌}
 use Rattle.lent.specs.Rows.{put_row}
 use Rattle.image.specs.Cover.{no_stretches, gathered}
 use Rattle.segments.specs.SegmentRows.{segment_width, reference_width, symbol_width}

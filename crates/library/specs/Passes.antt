@@ -1,8 +1,7 @@
 -- Where the records of entries, the contents with their fixups, and repetitions of them end; and where a module's parts stand.
-use Rattle.std.specs.Prelude.{ℕ, Bool, true, List}
+use Rattle.std.specs.Prelude.{ℕ, Bool, true, List, if◌then◌else◌}
 use Rattle.lent.specs.declared.part.Part.{Part}
 use Rattle.lent.specs.declared.refusal.Refusal.TheVariants.{NamesDiffer}
-use Rattle.lent.specs.Choice.{if◌then◌else◌}
 use Rattle.lent.specs.Parts.{same_name}
 use Rattle.omf51.specs.declared.Edition.{Edition}
 use Rattle.omf51.specs.declared.Edition.TheVariants.{One, Two}

@@ -1,9 +1,9 @@
 -- What search and list together come to: the answer, and what is left in the lists that were lent for them.
-use Rattle.std.specs.Prelude.{ℕ, List, [], ◌∷◌, ltb, length}
+use Rattle.std.specs.Prelude.{ℕ, List, [], ◌∷◌, ltb, length, if◌then◌else◌}
 use Rattle.std.proofs.Math.Option.{Option, none, some}
 use Rattle.lent.specs.declared.refusal.Refusal.{Refusal}
 use Rattle.lent.specs.declared.refusal.Refusal.TheVariants.{ImageTooLong, TooFewRows}
-use Rattle.lent.specs.Choice.{if◌then◌else◌, when, leading}
+use Rattle.lent.specs.Choice.{when, leading}
 use Rattle.lent.specs.Refusals.{zeroes}
 use Rattle.lent.specs.Rows.{zeros, padded, too_many}
 use Rattle.segments.specs.Collect.{Collected}

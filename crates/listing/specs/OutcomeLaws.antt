@@ -1,5 +1,5 @@
 -- The ends of search and list: by what the search came to, and by whether there was room for the lines. Assumes nothing.
-use Rattle.std.specs.Prelude.{ℕ, ◌*◌, ◌<◌, ◌≤◌, ◌≡◌, Bool, List, ltb}
+use Rattle.std.specs.Prelude.{ℕ, ◌*◌, ◌<◌, ◌≤◌, ◌≡◌, Bool, List, ltb, if◌then◌else◌}
 use Rattle.std.proofs.Math.Path.{refl, sym, ap, subst}
 use Rattle.std.proofs.Common.{◌∙◌, arith, lt-ltb, le-ltb}
 use Rattle.std.proofs.Math.Bool.{true, false}
@@ -8,7 +8,7 @@ use Rattle.std.proofs.Math.Option.{none, some}
 use Rattle.std.proofs.Math.ListN.{length}
 use Rattle.lent.specs.declared.refusal.Refusal.{Refusal}
 use Rattle.lent.specs.declared.refusal.Refusal.TheVariants.{ImageTooLong, TooFewRows}
-use Rattle.lent.specs.Choice.{if◌then◌else◌, leading}
+use Rattle.lent.specs.Choice.{leading}
 use Rattle.lent.specs.Rows.{zeros}
 use Rattle.tables.specs.declared.fill.Fill.{Fill}
 use Rattle.segments.specs.Collect.{Collected}

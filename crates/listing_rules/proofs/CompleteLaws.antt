@@ -1,5 +1,5 @@
 -- The list has exactly the lines that are to be listed. Assumes nothing.
-use Rattle.std.specs.Prelude.{ℕ, ◌≤◌, ◌<◌, max, ◌≡◌, ◌⊎◌, ◌↔◌, ◌&&◌, ◌||◌}
+use Rattle.std.specs.Prelude.{ℕ, ◌≤◌, ◌<◌, max, ◌≡◌, ◌⊎◌, ◌↔◌, ◌&&◌, ◌||◌, if◌then◌else◌}
 use Rattle.std.proofs.Math.Path.{refl, sym}
 use Rattle.std.proofs.Common.{ap}
 use Rattle.std.proofs.Math.Logic.{inl, inr}
@@ -10,7 +10,6 @@ use native.Mathlib.Omega.{arith}
 use borrow.Author.Tests.{eqb-true, eq-eqb, leb-true, le-leb}
 use Rattle.std.proofs.Math.Dec.{eqb, leb, ltb}
 use Rattle.std.proofs.Math.ListN.{length}
-use Rattle.lent.specs.Choice.{if◌then◌else◌}
 use Rattle.lent.specs.ChoiceLaws.{both}
 use Rattle.lent.specs.Lists.{keep, joined, fold, from, sorted}
 use Rattle.lent.specs.Members.{◌among◌, of-keep, of-joined, of-sorted, to-keep, to-joined, to-from}

@@ -1,8 +1,7 @@
 -- What stands before what in lists that are put together, put in order, or kept by a test. Assumes nothing.
-use Rattle.std.specs.Prelude.{ℕ, zero, suc, ◌+◌, ◌≤◌, ◌<◌, ◌≡◌, refl, ◌⊎◌, Bool, true, false, List, [], ◌∷◌, ◌++◌, map, length, get_or}
+use Rattle.std.specs.Prelude.{ℕ, zero, suc, ◌+◌, ◌≤◌, ◌<◌, ◌≡◌, refl, ◌⊎◌, Bool, true, false, List, [], ◌∷◌, ◌++◌, map, length, get_or, if◌then◌else◌}
 use Rattle.std.proofs.Common.{sym, inl, inr, arith}
 use mathlib.Core.List.Memᴰ
-use Rattle.lent.specs.Choice.{if◌then◌else◌}
 use Rattle.lent.specs.Lists.{keep, joined, from}
 use Rattle.lent.specs.Members.{◌among◌, of-keep, of-joined}
 use Rattle.listing_rules.specs.Earlier.{Earlier}

@@ -1,12 +1,11 @@
 -- The names that are listed at a position are in byte order, and each is there once. Assumes nothing.
-use Rattle.std.specs.Prelude.{ℕ, ◌≡◌, refl, ◌⊎◌, true, ◌&&◌, ◌||◌, List, [], map, length}
+use Rattle.std.specs.Prelude.{ℕ, ◌≡◌, refl, ◌⊎◌, true, ◌&&◌, ◌||◌, List, [], map, length, if◌then◌else◌}
 use Rattle.std.proofs.Math.Path.{sym}
 use Rattle.std.proofs.Common.{ap, ◌∙◌, inl, inr, arith, eqb-true}
 use Rattle.std.proofs.Math.Bool.{Bool, false}
 use Rattle.std.proofs.lemmas.Bool.{false≢true}
 use mathlib.Core.List.Memᴰ
 use Rattle.std.proofs.Math.Dec.{eqb}
-use Rattle.lent.specs.Choice.{if◌then◌else◌}
 use Rattle.lent.specs.ChoiceLaws.{both}
 use Rattle.lent.specs.Lists.{keep, sorted}
 use Rattle.lent.specs.Members.{◌among◌, of-keep}

@@ -1,6 +1,5 @@
 -- Grades of names, and the list: names by address.
-use Rattle.std.specs.Prelude.{ℕ, max, Bool, false, not, ◌&&◌, ◌||◌, List, [], ◌∷◌, ◌++◌, map, eqb, leb, ltb, length, get_or}
-use Rattle.lent.specs.Choice.{if◌then◌else◌}
+use Rattle.std.specs.Prelude.{ℕ, max, Bool, false, not, ◌&&◌, ◌||◌, List, [], ◌∷◌, ◌++◌, map, eqb, leb, ltb, length, get_or, if◌then◌else◌}
 use Rattle.lent.specs.Lists.{keep, joined, fold, all, from, sorted}
 use Rattle.lent.specs.Parts.{name_before}
 use Rattle.image.specs.declared.Seat.TheVariants.{Anywhere}

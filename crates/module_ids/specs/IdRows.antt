@@ -1,8 +1,7 @@
 -- What the ids of a module lead to, as rows of numbers.
-use Rattle.std.specs.Prelude.{ℕ, ◌+◌, ◌-◌, ◌*◌, ◌/◌, ◌%◌, ◌<◌, List, [], ◌∷◌, eqb}
+use Rattle.std.specs.Prelude.{ℕ, ◌+◌, ◌-◌, ◌*◌, ◌/◌, ◌%◌, ◌<◌, List, [], ◌∷◌, eqb, if◌then◌else◌}
 use Rattle.std.proofs.Math.Option.{Option, none, some}
 use Rattle.lent.specs.declared.part.Part.{Part}
-use Rattle.lent.specs.Choice.{if◌then◌else◌}
 use Rattle.lent.specs.Lists.{keep, place_of, first}
 use Rattle.lent.specs.Rows.{Layout, row_at}
 use Rattle.omf51.specs.declared.ModuleId.{ModuleId}

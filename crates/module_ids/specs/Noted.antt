@@ -1,7 +1,6 @@
 -- What one more definition changes in the row of its id, and what a table tells of a module's definitions.
-use Rattle.std.specs.Prelude.{ℕ, ◌+◌, ◌*◌, ◌<◌, ◌≤◌, ◌≡◌, Bool, List, [], length}
+use Rattle.std.specs.Prelude.{ℕ, ◌+◌, ◌*◌, ◌<◌, ◌≤◌, ◌≡◌, Bool, List, [], length, if◌then◌else◌}
 use Rattle.lent.specs.declared.part.Part.{Part}
-use Rattle.lent.specs.Choice.{if◌then◌else◌}
 use Rattle.lent.specs.Lists.{keep}
 use Rattle.lent.specs.Rows.{flag, put_row}
 use Rattle.omf51.specs.declared.ModuleId.{ModuleId}

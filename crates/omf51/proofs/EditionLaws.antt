@@ -1,6 +1,6 @@
 -- EDITION 2 IS STRICTER: what it reads edition 1 reads too, and it stops where edition 1 stops; else it refuses with what
 -- edition 1 refuses with, or with 14 or 15. Assumes nothing.
-use Rattle.std.specs.Prelude.{ℕ, zero, suc, ◌≡◌, Bool, eqb, length}
+use Rattle.std.specs.Prelude.{ℕ, zero, suc, ◌≡◌, Bool, eqb, length, if◌then◌else◌}
 use Rattle.std.proofs.Math.Path.{refl}
 use Rattle.std.proofs.Common.{sym, ap, ◌∙◌, arith}
 use Rattle.std.proofs.Math.Bool.{true, false}
@@ -8,7 +8,6 @@ use mathlib.Core.List.{List, [], ◌++◌}
 use Rattle.std.proofs.Math.Option.{some}
 use Rattle.lent.specs.declared.refusal.Refusal.{Refusal}
 use Rattle.lent.specs.declared.refusal.Refusal.TheVariants.{WrongSum, LeftOver}
-use Rattle.lent.specs.Choice.{if◌then◌else◌}
 use Rattle.lent.specs.ChoiceLaws.{chosen}
 use Rattle.lent.specs.Parts.{byte_at, same_name}
 use Rattle.omf51.specs.declared.Edition.TheVariants.{One, Two}

@@ -1,7 +1,7 @@
 -- Reading has one path through the file, in either edition: it ends in no two ways, so it ends with a refusal of 5 to 8,
 -- 14 and 15, or with none, exactly if the file is so. Assumes nothing.
 use Prim.Native.Nat.{ℕ, zero, suc, ◌+◌, ◌≤◌, ◌<◌}
-use Rattle.std.specs.Prelude.{◌≡◌, ◌↔◌, List, eqb, ltb, length}
+use Rattle.std.specs.Prelude.{◌≡◌, ◌↔◌, List, eqb, ltb, length, if◌then◌else◌}
 use Rattle.std.proofs.Math.Path.{refl, ap, subst}
 use Rattle.std.proofs.Common.{sym, ◌∙◌, lt-ltb, le-ltb, eq-eqb, ne_eqb}
 use Rattle.std.proofs.Math.Option.{Option, none, some}
@@ -9,7 +9,6 @@ use native.Mathlib.Omega.{arith}
 use Rattle.lent.specs.declared.refusal.Refusal.{Refusal}
 use Rattle.lent.specs.declared.refusal.Refusal.TheVariants.{RuleSet, ImageTooLong, LibraryTooLong, StretchPastEnd, NoModule, BodyPastEnd, LengthZero, NamesDiffer, TooFewRows, UnknownKind}
 use Rattle.lent.specs.declared.refusal.Refusal.TheVariants.{UnknownBlock, ContentPastSegment, NoKeptSegment, WrongSum, LeftOver, TooManyStretches, TooDeep, NotBanked, OtherEdition}
-use Rattle.lent.specs.Choice.{if◌then◌else◌}
 use Rattle.lent.specs.Parts.{byte_at, same_name}
 use Rattle.omf51.specs.declared.Edition.{Edition}
 use Rattle.omf51.specs.declared.Edition.TheVariants.{One, Two}

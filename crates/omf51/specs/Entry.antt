@@ -1,9 +1,8 @@
 -- The entries of bodies. The fields of an entry stand one after another, so an entry is whole
 -- if its last field ends within the body.
-use Rattle.std.specs.Prelude.{ℕ, ◌+◌, ◌%◌, Bool, ◌||◌, List, eqb, leb}
+use Rattle.std.specs.Prelude.{ℕ, ◌+◌, ◌%◌, Bool, ◌||◌, List, eqb, leb, if◌then◌else◌}
 use Rattle.std.specs.Int.Bits.{bit_and}
 use Rattle.lent.specs.declared.part.Part.{Part}
-use Rattle.lent.specs.Choice.{if◌then◌else◌}
 use Rattle.lent.specs.Lists.{one}
 use Rattle.lent.specs.Parts.{byte_at, word_at}
 use Rattle.omf51.specs.declared.Frame.{Frame}

@@ -1,9 +1,8 @@
 -- The whole file: bare modules, or a library that begins with a 2Ch record.
-use Rattle.std.specs.Prelude.{ℕ, List, [], eqb, length}
+use Rattle.std.specs.Prelude.{ℕ, List, [], eqb, length, if◌then◌else◌}
 use Rattle.std.proofs.Math.Option.{Option, none, some}
 use Rattle.lent.specs.declared.refusal.Refusal.{Refusal}
 use Rattle.lent.specs.declared.refusal.Refusal.TheVariants.{NoModule}
-use Rattle.lent.specs.Choice.{if◌then◌else◌}
 use Rattle.lent.specs.Parts.{byte_at}
 use Rattle.omf51.specs.declared.Edition.{Edition}
 use Rattle.omf51.specs.declared.Edition.TheVariants.{One, Two}

@@ -1,7 +1,6 @@
 -- One module: header, definitions, contents with their fixups, end. The type byte alone decides what a record is.
-use Rattle.std.specs.Prelude.{ℕ, ◌+◌, ◌-◌, Bool, not, ◌||◌, List, [], ◌∷◌, eqb}
+use Rattle.std.specs.Prelude.{ℕ, ◌+◌, ◌-◌, Bool, not, ◌||◌, List, [], ◌∷◌, eqb, if◌then◌else◌}
 use Rattle.lent.specs.declared.refusal.Refusal.TheVariants.{NamesDiffer}
-use Rattle.lent.specs.Choice.{if◌then◌else◌}
 use Rattle.lent.specs.Lists.{one, is_in}
 use Rattle.lent.specs.Parts.{byte_at, word_at, same_name}
 use Rattle.omf51.specs.declared.Edition.{Edition}

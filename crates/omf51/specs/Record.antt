@@ -1,8 +1,7 @@
 -- One record: a type byte, two bytes of length, a body of length - 1 bytes, and a checksum byte. Edition 1 does not
 -- examine the checksum, nor what is left of a body; edition 2 does.
-use Rattle.std.specs.Prelude.{ℕ, ◌+◌, ◌-◌, ◌%◌, Bool, false, List, eqb, ltb, length, take, drop}
+use Rattle.std.specs.Prelude.{ℕ, ◌+◌, ◌-◌, ◌%◌, Bool, false, List, eqb, ltb, length, take, drop, if◌then◌else◌}
 use Rattle.lent.specs.declared.refusal.Refusal.TheVariants.{BodyPastEnd, LengthZero, WrongSum, LeftOver}
-use Rattle.lent.specs.Choice.{if◌then◌else◌}
 use Rattle.lent.specs.Lists.{total}
 use Rattle.lent.specs.Parts.{byte_at, word_at}
 use Rattle.omf51.specs.declared.Edition.{Edition}

@@ -1,6 +1,5 @@
 -- A text in a lent buffer, and the lines that lent rows hold.
-use Rattle.std.specs.Prelude.{ℕ, List, ◌++◌, map, leb, length, drop}
-use Rattle.lent.specs.Choice.{if◌then◌else◌}
+use Rattle.std.specs.Prelude.{ℕ, List, ◌++◌, map, leb, length, drop, if◌then◌else◌}
 use Rattle.lent.specs.Lists.{from}
 use Rattle.listing_rules.specs.declared.Line.{Line}
 use Rattle.listing_rules.specs.LineLayout.{line_at}

@@ -1,11 +1,10 @@
 -- The rows of the list, read back as lines. Assumes nothing.
-use Rattle.std.specs.Prelude.{ℕ, zero, suc, ◌*◌, ◌≤◌, ◌<◌, ◌≡◌, refl, ◌⊎◌, Bool, List, [], ◌∷◌, length, get_or}
+use Rattle.std.specs.Prelude.{ℕ, zero, suc, ◌*◌, ◌≤◌, ◌<◌, ◌≡◌, refl, ◌⊎◌, Bool, List, [], ◌∷◌, length, get_or, if◌then◌else◌}
 use Rattle.std.proofs.Common.{sym, ap, inl, inr}
 use Rattle.std.proofs.Math.Bool.{true, false, not}
 use mathlib.Core.List.Memᴰ
 use Rattle.std.proofs.Math.Decide.{dec_lt}
 use native.Mathlib.Omega.{arith}
-use Rattle.lent.specs.Choice.{if◌then◌else◌}
 use Rattle.lent.specs.Members.{◌among◌}
 use Rattle.lent.specs.Rows.{padded}
 use Rattle.lent.specs.RowLaws.{get-filled}

@@ -1,9 +1,9 @@
 -- The whole run: what is lent, the stages, the order of the refusals, the answer, and what is left in lent memory.
-use Rattle.std.specs.Prelude.{ℕ, Bool, ◌||◌, List, [], ◌∷◌, ltb, length}
+use Rattle.std.specs.Prelude.{ℕ, Bool, ◌||◌, List, [], ◌∷◌, ltb, length, if◌then◌else◌}
 use Rattle.std.proofs.Math.Option.{Option, none, some}
 use Rattle.lent.specs.declared.refusal.Refusal.{Refusal}
 use Rattle.lent.specs.declared.refusal.Refusal.TheVariants.{RuleSet, ImageTooLong, LibraryTooLong, TooManyStretches, StretchPastEnd, TooFewRows, TooDeep, OtherEdition}
-use Rattle.lent.specs.Choice.{if◌then◌else◌, when, leading}
+use Rattle.lent.specs.Choice.{when, leading}
 use Rattle.lent.specs.Lists.{total}
 use Rattle.lent.specs.Refusals.{refusal_number, zeroes}
 use Rattle.lent.specs.Rows.{zeros, padded, too_many}

@@ -1,12 +1,12 @@
 -- The three ends of the search: done, image too long, too few rows. Assumes nothing.
-use Rattle.std.specs.Prelude.{◌≡◌, ℕ, ◌*◌, ◌<◌, ◌≤◌, Bool, true, false, ◌||◌, List, length, ◌≢◌, nat_lt, refl}
+use Rattle.std.specs.Prelude.{◌≡◌, ℕ, ◌*◌, ◌<◌, ◌≤◌, Bool, true, false, ◌||◌, List, length, ◌≢◌, nat_lt, refl, if◌then◌else◌}
 use Rattle.std.proofs.Math.Path.{sym, ap}
 use Rattle.std.proofs.Common.{◌∙◌, arith, lt-ltb, le-ltb}
 use Rattle.std.proofs.lemmas.Bool.{false≢true}
 use Rattle.std.proofs.Math.Option.{none, some}
 use Rattle.lent.specs.declared.refusal.Refusal.{Refusal}
 use Rattle.lent.specs.declared.refusal.Refusal.TheVariants.{ImageTooLong, TooFewRows}
-use Rattle.lent.specs.Choice.{if◌then◌else◌, leading}
+use Rattle.lent.specs.Choice.{leading}
 use Rattle.lent.specs.Rows.{zeros}
 use Rattle.tables.specs.declared.fill.Fill.{Fill}
 use Rattle.search_rules.specs.declared.Asked.{Asked}

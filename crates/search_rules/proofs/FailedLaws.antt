@@ -1,13 +1,12 @@
 -- The first reference of a match that fails: a match holds exactly if none does, and the one that is told fails, for the
 -- reason that is told, while those before it do not. Assumes nothing.
 use Prim.Native.Nat.{ℕ, zero, suc, ◌+◌, ◌-◌, ◌≤◌, ◌<◌}
-use Rattle.std.specs.Prelude.{◌≡◌, Bool, true, false, ◌&&◌, length}
+use Rattle.std.specs.Prelude.{◌≡◌, Bool, true, false, ◌&&◌, length, if◌then◌else◌}
 use Rattle.std.proofs.Math.Path.{refl, ap}
 use Rattle.std.proofs.Common.{sym, ◌∙◌, arith}
 use mathlib.Core.List.{List, [], ◌∷◌}
 use Rattle.std.proofs.Math.Option.{Option, none, some}
 use Rattle.std.proofs.Math.ListN.{get_elem?}
-use Rattle.lent.specs.Choice.{if◌then◌else◌}
 use Rattle.lent.specs.FirstOf.{none≢some}
 use Rattle.lent.specs.Lists.{is_in, all}
 use Rattle.image.specs.declared.fixup.Rules.{Rules}

@@ -1,6 +1,5 @@
 -- The symbols that are put, by which public definitions a segment carries.
-use Rattle.std.specs.Prelude.{ℕ, ◌+◌, ◌-◌, ◌≡◌, Bool, true, ◌&&◌, List, [], leb, ltb, length}
-use Rattle.lent.specs.Choice.{if◌then◌else◌}
+use Rattle.std.specs.Prelude.{ℕ, ◌+◌, ◌-◌, ◌≡◌, Bool, true, ◌&&◌, List, [], leb, ltb, length, if◌then◌else◌}
 use Rattle.lent.specs.Lists.{one, joined}
 use Rattle.tables.specs.declared.fill.Fill.{Fill}
 use Rattle.tables.specs.fill.FilledRows.{Adds}

@@ -1,9 +1,8 @@
 -- Where collected segments and their symbols come from. Assumes nothing.
-use Rattle.std.specs.Prelude.{ℕ, ◌+◌, ◌-◌, ◌≤◌, ◌<◌, ◌≡◌, refl, ◌⊎◌, Bool, true, false, ◌&&◌, List, [], ◌++◌, map, leb, ltb, length}
+use Rattle.std.specs.Prelude.{ℕ, ◌+◌, ◌-◌, ◌≤◌, ◌<◌, ◌≡◌, refl, ◌⊎◌, Bool, true, false, ◌&&◌, List, [], ◌++◌, map, leb, ltb, length, if◌then◌else◌}
 use Rattle.std.proofs.Common.{sym, ap, ◌∙◌, inl, inr, arith, leb-true, ltb-true, eqb-true}
 use mathlib.Core.List.Memᴰ
 use Rattle.lent.specs.declared.part.Part.{Part}
-use Rattle.lent.specs.Choice.{if◌then◌else◌}
 use Rattle.lent.specs.ChoiceLaws.{both}
 use Rattle.lent.specs.Lists.{one, numbered}
 use Rattle.lent.specs.Members.{◌among◌, of-keep, of-joined, of-fold}

@@ -1,7 +1,6 @@
 -- The segments of all modules: where each may stand, its pattern bytes and masks, its references, its symbols.
-use Rattle.std.specs.Prelude.{ℕ, ◌+◌, ◌-◌, Bool, true, false, ◌&&◌, List, [], ◌++◌, map, eqb, leb, ltb, length}
+use Rattle.std.specs.Prelude.{ℕ, ◌+◌, ◌-◌, Bool, true, false, ◌&&◌, List, [], ◌++◌, map, eqb, leb, ltb, length, if◌then◌else◌}
 use Rattle.std.proofs.Math.Option.{Option, none, some}
-use Rattle.lent.specs.Choice.{if◌then◌else◌}
 use Rattle.lent.specs.Lists.{one, keep, joined, fold, numbered}
 use Rattle.lent.specs.Parts.{bytes_of}
 use Rattle.image.specs.declared.Seat.{Seat}

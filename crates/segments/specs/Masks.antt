@@ -1,7 +1,6 @@
 -- The masks of a content under its fixups, and contents merged into a pattern.
-use Rattle.std.specs.Prelude.{ℕ, ◌+◌, List, [], ◌∷◌, ◌++◌, eqb, take, drop, set, replicate}
+use Rattle.std.specs.Prelude.{ℕ, ◌+◌, List, [], ◌∷◌, ◌++◌, eqb, take, drop, set, replicate, if◌then◌else◌}
 use Rattle.std.specs.Int.Bits.{bit_or}
-use Rattle.lent.specs.Choice.{if◌then◌else◌}
 use Rattle.lent.specs.Lists.{fold}
 use Rattle.lent.specs.Rows.{zeros}
 use Rattle.image.specs.declared.fixup.Kind.TheVariants.{Word, Inblock}

@@ -1,10 +1,10 @@
 -- Refusals 10 to 13, in file order: module after module, content after content, each fixup of a
 -- content and then the content itself (12).
-use Rattle.std.specs.Prelude.{◌+◌, Bool, false, not, ◌&&◌, List, ◌++◌, map, eqb, ltb}
+use Rattle.std.specs.Prelude.{◌+◌, Bool, false, not, ◌&&◌, List, ◌++◌, map, eqb, ltb, if◌then◌else◌}
 use Rattle.std.proofs.Math.Option.{Option, none, some}
 use Rattle.lent.specs.declared.refusal.Refusal.{Refusal}
 use Rattle.lent.specs.declared.refusal.Refusal.TheVariants.{UnknownKind, UnknownBlock, ContentPastSegment, NoKeptSegment}
-use Rattle.lent.specs.Choice.{if◌then◌else◌, when, leading}
+use Rattle.lent.specs.Choice.{when, leading}
 use Rattle.lent.specs.Lists.{one, joined}
 use Rattle.omf51.specs.declared.Content.{Content}
 use Rattle.omf51.specs.declared.Definition.{Definition}

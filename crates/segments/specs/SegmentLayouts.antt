@@ -1,6 +1,5 @@
 -- How the rows of the collection are read back. Any numbers make a row: a tag other than 1 counts as 0, and a kind that is neither 2 nor 4 as Inblock.
-use Rattle.std.specs.Prelude.{ℕ, List, eqb}
-use Rattle.lent.specs.Choice.{if◌then◌else◌}
+use Rattle.std.specs.Prelude.{ℕ, List, eqb, if◌then◌else◌}
 use Rattle.lent.specs.Rows.{Layout, row_at}
 use Rattle.image.specs.declared.Seat.{Seat}
 use Rattle.image.specs.declared.Seat.TheVariants.{Anywhere, Only}

@@ -1,7 +1,6 @@
 -- The row of a segment, as the code puts it together.
-use Rattle.std.specs.Prelude.{ℕ, ◌-◌, false, List}
+use Rattle.std.specs.Prelude.{ℕ, ◌-◌, false, List, if◌then◌else◌}
 use Rattle.lent.specs.declared.part.Part.{Part}
-use Rattle.lent.specs.Choice.{if◌then◌else◌}
 use Rattle.tables.specs.declared.fill.Fill.{Fill}
 use Rattle.tables.specs.fill.FilledRows.{one_more, put_more}
 use Rattle.image.specs.declared.Seat.{Seat}

@@ -1,6 +1,5 @@
 -- The two kinds of segments, kept and absolute, put together from what is met along links.
-use Rattle.std.specs.Prelude.{ℕ, ◌+◌, ◌≤◌, ◌<◌, ◌≡◌, Bool, true, false, List, [], eqb, length}
-use Rattle.lent.specs.Choice.{if◌then◌else◌}
+use Rattle.std.specs.Prelude.{ℕ, ◌+◌, ◌≤◌, ◌<◌, ◌≡◌, Bool, true, false, List, [], eqb, length, if◌then◌else◌}
 use Rattle.lent.specs.Lists.{one, keep, joined}
 use Rattle.lent.specs.Parts.{bytes_of}
 use Rattle.image.specs.declared.Seat.TheVariants.{Anywhere, Only}

@@ -2,10 +2,9 @@
 use Prim.Native.Nat.{ℕ, zero, suc, ◌+◌, ◌-◌, ◌≤◌, ◌<◌}
 use Rattle.std.proofs.Math.Path.{◌≡◌, refl}
 use Rattle.std.proofs.Common.{sym, ◌∙◌, leb-true}
-use Rattle.std.specs.Prelude.{Bool, true, false, List, [], leb}
+use Rattle.std.specs.Prelude.{Bool, true, false, List, [], leb, if◌then◌else◌}
 use native.Mathlib.Omega.{arith}
 use Rattle.lent.specs.declared.refusal.Refusal.{Refusal}
-use Rattle.lent.specs.Choice.{if◌then◌else◌}
 use Rattle.lent.specs.Lists.{one}
 use Rattle.lent.specs.Parts.{byte_at}
 use Rattle.omf51.specs.declared.End.{End}

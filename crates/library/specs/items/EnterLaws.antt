@@ -1,9 +1,8 @@
 -- A record that was passed: its frame, and what it holds. Assumes nothing.
-use Rattle.std.specs.Prelude.{ℕ, ◌+◌, ◌-◌, refl, Bool, true, false, List, [], ◌++◌}
+use Rattle.std.specs.Prelude.{ℕ, ◌+◌, ◌-◌, refl, Bool, true, false, List, [], ◌++◌, if◌then◌else◌}
 use Rattle.std.proofs.Math.Path.{◌≡◌}
 use Rattle.std.proofs.Common.{arith}
 use Rattle.lent.specs.declared.refusal.Refusal.{Refusal}
-use Rattle.lent.specs.Choice.{if◌then◌else◌}
 use Rattle.lent.specs.Parts.{byte_at}
 use Rattle.omf51.specs.declared.Edition.TheVariants.{One}
 use Rattle.omf51.specs.declared.Frame.{Frame}

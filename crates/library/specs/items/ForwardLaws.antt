@@ -1,7 +1,6 @@
 -- A walk goes forward: each entry stands behind the one before, and within the library, so no walk has more entries than the library has bytes. Assumes nothing.
-use Rattle.std.specs.Prelude.{ℕ, zero, suc, ◌+◌, ◌-◌, ◌≤◌, ◌<◌, ◌≡◌, refl, Bool, true, false, List, length}
+use Rattle.std.specs.Prelude.{ℕ, zero, suc, ◌+◌, ◌-◌, ◌≤◌, ◌<◌, ◌≡◌, refl, Bool, true, false, List, length, if◌then◌else◌}
 use Rattle.std.proofs.Common.{subst, arith}
-use Rattle.lent.specs.Choice.{if◌then◌else◌}
 use Rattle.lent.specs.ChoiceLaws.{chosen}
 use Rattle.lent.specs.Parts.{byte_at}
 use Rattle.omf51.specs.declared.Frame.{Frame}

@@ -1,6 +1,5 @@
 -- The items that are left of a walk, from a cursor on, as the definition lists them.
-use Rattle.std.specs.Prelude.{ℕ, List, [], ◌++◌, leb, length}
-use Rattle.lent.specs.Choice.{if◌then◌else◌}
+use Rattle.std.specs.Prelude.{ℕ, List, [], ◌++◌, leb, length, if◌then◌else◌}
 use Rattle.omf51.specs.declared.Frame.{Frame}
 use Rattle.omf51.specs.declared.Definition.{Definition}
 use Rattle.omf51.specs.declared.Fixup.{Fixup}

@@ -1,6 +1,5 @@
 -- A walk over a module's entries: where it stands, and the next entry.
-use Rattle.std.specs.Prelude.{ℕ, zero, suc, ◌+◌, ◌-◌, List, leb, length}
-use Rattle.lent.specs.Choice.{if◌then◌else◌}
+use Rattle.std.specs.Prelude.{ℕ, zero, suc, ◌+◌, ◌-◌, List, leb, length, if◌then◌else◌}
 use Rattle.lent.specs.Parts.{byte_at}
 use Rattle.omf51.specs.declared.End.{End}
 use Rattle.omf51.specs.declared.End.TheVariants.{At, Stop, Refused}

@@ -1,7 +1,6 @@
 -- The grade of a placed symbol, asked of rows in memory: whether a name is placed or noted somewhere is found by links.
-use Rattle.std.specs.Prelude.{ℕ, ◌+◌, Bool, true, not, ◌||◌, List, [], eqb, ltb}
+use Rattle.std.specs.Prelude.{ℕ, ◌+◌, Bool, true, not, ◌||◌, List, [], eqb, ltb, if◌then◌else◌}
 use Rattle.lent.specs.declared.part.Part.{Part}
-use Rattle.lent.specs.Choice.{if◌then◌else◌}
 use Rattle.lent.specs.Lists.{all}
 use Rattle.lent.specs.Parts.{bytes_of}
 use Rattle.image.specs.declared.fixup.Rules.{Rules}

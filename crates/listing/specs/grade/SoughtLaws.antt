@@ -1,5 +1,5 @@
 -- THE GRADE of a row that a search left is the definition's. Assumes nothing.
-use Rattle.std.specs.Prelude.{ℕ, zero, suc, ◌+◌, ◌<◌, ◌≡◌, Bool, ◌&&◌, ◌||◌, length}
+use Rattle.std.specs.Prelude.{ℕ, zero, suc, ◌+◌, ◌<◌, ◌≡◌, Bool, ◌&&◌, ◌||◌, length, if◌then◌else◌}
 use Rattle.std.proofs.Math.Path.{refl, sym, ap, fun_ext}
 use Rattle.std.proofs.Common.{◌∙◌, add-zero, lt-ltb, le-ltb}
 use Rattle.std.proofs.Math.Bool.{true, false, and-true}
@@ -8,7 +8,6 @@ use Rattle.std.proofs.Math.Decide.{dec_lt}
 use native.Mathlib.Omega.{arith}
 use Rattle.std.proofs.Math.ListN.{get_or, get_or-eq_default, length-map}
 use Rattle.lent.specs.declared.part.Part.{Part}
-use Rattle.lent.specs.Choice.{if◌then◌else◌}
 use Rattle.lent.specs.Lists.{all, joined, from}
 use Rattle.image.specs.declared.fixup.Target.{Target}
 use Rattle.image.specs.declared.fixup.Target.TheVariants.{At, PastEnd, Withheld}

@@ -1,6 +1,5 @@
 -- Names noted at or past the image's end, target by target.
-use Rattle.std.specs.Prelude.{ℕ, ◌+◌, ◌-◌, ◌*◌, ◌%◌, ◌≤◌, ◌<◌, ◌≡◌, Bool, true, false, ◌&&◌, ◌||◌, List, [], ◌++◌, map, eqb, length, take, drop}
-use Rattle.lent.specs.Choice.{if◌then◌else◌}
+use Rattle.std.specs.Prelude.{ℕ, ◌+◌, ◌-◌, ◌*◌, ◌%◌, ◌≤◌, ◌<◌, ◌≡◌, Bool, true, false, ◌&&◌, ◌||◌, List, [], ◌++◌, map, eqb, length, take, drop, if◌then◌else◌}
 use Rattle.lent.specs.Lists.{keep, joined, from}
 use Rattle.lent.specs.Rows.{cell_of, put_row}
 use Rattle.tables.specs.declared.fill.Fill.{Fill}

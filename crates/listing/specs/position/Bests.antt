@@ -1,6 +1,5 @@
 -- Lent memory while the names of a position are gone over: behind the lines in front stand those of the best grade so far.
-use Rattle.std.specs.Prelude.{ℕ, ◌+◌, ◌*◌, ◌≤◌, ◌≡◌, not, ◌&&◌, List, [], ◌++◌, reverse, eqb, length}
-use Rattle.lent.specs.Choice.{if◌then◌else◌}
+use Rattle.std.specs.Prelude.{ℕ, ◌+◌, ◌*◌, ◌≤◌, ◌≡◌, not, ◌&&◌, List, [], ◌++◌, reverse, eqb, length, if◌then◌else◌}
 use Rattle.lent.specs.Lists.{one}
 use Rattle.search_rules.specs.declared.Placed.{Placed}
 use Rattle.search_rules.specs.declared.Noted.{Noted}

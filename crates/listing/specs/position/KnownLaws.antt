@@ -1,7 +1,6 @@
 -- The lines of rows of which it is known what they hold. Assumes nothing.
-use Rattle.std.specs.Prelude.{ℕ, ◌<◌, ◌≡◌, true, ◌||◌, List, map}
+use Rattle.std.specs.Prelude.{ℕ, ◌<◌, ◌≡◌, true, ◌||◌, List, map, if◌then◌else◌}
 use Rattle.std.proofs.Common.{subst}
-use Rattle.lent.specs.Choice.{if◌then◌else◌}
 use Rattle.lent.specs.Lists.{one, keep}
 use Rattle.image.specs.declared.fixup.Rules.{Rules}
 use Rattle.tables.specs.by_name.Sheet.{key_buckets, key_bucket}

@@ -1,6 +1,5 @@
 -- The lines of a position, once all of its names were met: put in order behind those in front, or left out.
-use Rattle.std.specs.Prelude.{ℕ, ◌<◌, ◌≡◌, List, [], ◌++◌, length}
-use Rattle.lent.specs.Choice.{if◌then◌else◌}
+use Rattle.std.specs.Prelude.{ℕ, ◌<◌, ◌≡◌, List, [], ◌++◌, length, if◌then◌else◌}
 use Rattle.lent.specs.Lists.{sorted}
 use Rattle.lent.specs.Members.{◌among◌}
 use Rattle.tables.specs.declared.fill.Fill.{Fill}

@@ -1,9 +1,8 @@
 -- The line of a row, if it has one: by the code's tests, and by the definition's. Assumes nothing.
-use Rattle.std.specs.Prelude.{ℕ, ◌<◌, Bool, ◌&&◌, ◌||◌, List, [], map, eqb}
+use Rattle.std.specs.Prelude.{ℕ, ◌<◌, Bool, ◌&&◌, ◌||◌, List, [], map, eqb, if◌then◌else◌}
 use Rattle.std.proofs.Math.Path.{◌≡◌, refl, subst}
 use Rattle.std.proofs.Common.{sym, ap, ◌∙◌, mod-eq_of_lt, arith, eqb-true, eq-eqb, ne_eqb}
 use Rattle.std.proofs.Math.Bool.{true, false, not}
-use Rattle.lent.specs.Choice.{if◌then◌else◌}
 use Rattle.lent.specs.Lists.{one, keep}
 use Rattle.segments.specs.Collect.{Collected}
 use Rattle.tables.specs.by_name.Sheet.{key_buckets, key_bucket}

@@ -1,5 +1,5 @@
 -- What a fixup leaves by a row is what the definition says it leaves. Assumes nothing.
-use Rattle.std.specs.Prelude.{ℕ, ◌+◌, ◌≡◌, Bool, not, ◌&&◌, [], eqb, ltb}
+use Rattle.std.specs.Prelude.{ℕ, ◌+◌, ◌≡◌, Bool, not, ◌&&◌, [], eqb, ltb, if◌then◌else◌}
 use Rattle.std.proofs.Math.Path.{refl, sym, ap}
 use Rattle.std.proofs.Common.{◌∙◌, arith}
 use Rattle.std.proofs.Math.Bool.{true, false}
@@ -8,7 +8,7 @@ use Rattle.std.proofs.Math.Option.{Option, none, some}
 use borrow.Author.Tests.{ne_eqb, eqb-true}
 use Rattle.lent.specs.declared.refusal.Refusal.{Refusal}
 use Rattle.lent.specs.declared.refusal.Refusal.TheVariants.{NoKeptSegment, UnknownKind, UnknownBlock}
-use Rattle.lent.specs.Choice.{if◌then◌else◌, when}
+use Rattle.lent.specs.Choice.{when}
 use Rattle.lent.specs.FirstOf.{none≢some}
 use Rattle.lent.specs.Lists.{keep, place_of, first}
 use Rattle.image.specs.declared.fixup.Kind.{Kind}

@@ -1,9 +1,9 @@
 -- Refusals 10 to 13 by what an id leads to.
-use Rattle.std.specs.Prelude.{◌+◌, Bool, true, false, not, ◌&&◌, eqb, ltb}
+use Rattle.std.specs.Prelude.{◌+◌, Bool, true, false, not, ◌&&◌, eqb, ltb, if◌then◌else◌}
 use Rattle.std.proofs.Math.Option.{Option, none, some}
 use Rattle.lent.specs.declared.refusal.Refusal.{Refusal}
 use Rattle.lent.specs.declared.refusal.Refusal.TheVariants.{UnknownKind, UnknownBlock, ContentPastSegment, NoKeptSegment}
-use Rattle.lent.specs.Choice.{if◌then◌else◌, when}
+use Rattle.lent.specs.Choice.{when}
 use Rattle.omf51.specs.declared.Content.{Content}
 use Rattle.omf51.specs.declared.Fixup.{Fixup}
 use Rattle.module_ids.specs.declared.Mark.{Mark}

@@ -1,7 +1,6 @@
 -- What a fixup leaves, by what its id leads to.
-use Rattle.std.specs.Prelude.{ℕ, ◌+◌, Bool, false, ◌&&◌, List, [], eqb}
+use Rattle.std.specs.Prelude.{ℕ, ◌+◌, Bool, false, ◌&&◌, List, [], eqb, if◌then◌else◌}
 use Rattle.std.proofs.Math.Option.{Option, none, some}
-use Rattle.lent.specs.Choice.{if◌then◌else◌}
 use Rattle.lent.specs.Lists.{one}
 use Rattle.image.specs.declared.fixup.Kind.{Kind}
 use Rattle.image.specs.fixup.Target.{kind_of}

@@ -1,6 +1,5 @@
 -- Which public definitions of a module are gathered, and by which key: all of them by id, or those of id 0 by offset.
-use Rattle.std.specs.Prelude.{ℕ, List, eqb}
-use Rattle.lent.specs.Choice.{if◌then◌else◌}
+use Rattle.std.specs.Prelude.{ℕ, List, eqb, if◌then◌else◌}
 use Rattle.lent.specs.Lists.{keep}
 use Rattle.omf51.specs.declared.ModuleId.{ModuleId}
 use Rattle.omf51.specs.declared.Definition.{Definition}

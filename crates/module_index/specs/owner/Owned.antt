@@ -1,6 +1,5 @@
 -- The contents of an id go to the first kept segment of it.
-use Rattle.std.specs.Prelude.{ℕ, Bool, false, List, eqb, get_or}
-use Rattle.lent.specs.Choice.{if◌then◌else◌}
+use Rattle.std.specs.Prelude.{ℕ, Bool, false, List, eqb, get_or, if◌then◌else◌}
 use Rattle.omf51.specs.declared.ModuleId.{ModuleId}
 use Rattle.module_ids.specs.declared.KeptAs.{KeptAs}
 use Rattle.module_ids.specs.declared.KeptAs.TheVariants.{None, Place}

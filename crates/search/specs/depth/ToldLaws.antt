@@ -1,9 +1,8 @@
 -- A table of answers that tells the truth: one of zeros does, what it says is so, and one more true answer keeps it true.
 -- Assumes nothing.
-use Rattle.std.specs.Prelude.{◌≡◌, ℕ, ◌/◌, ◌%◌, ◌<◌, ◌≤◌, Bool, true, false, List, ◌==◌, slice_index, slice_index_or, refl}
+use Rattle.std.specs.Prelude.{◌≡◌, ℕ, ◌/◌, ◌%◌, ◌<◌, ◌≤◌, Bool, true, false, List, ◌==◌, slice_index, slice_index_or, refl, if◌then◌else◌}
 use Rattle.std.proofs.Common.{sym, ap, ◌∙◌, arith}
 use Rattle.std.proofs.lemmas.Bool.{false≢true}
-use Rattle.lent.specs.Choice.{if◌then◌else◌}
 use Rattle.tables.specs.zeros.Zeros.{zero_list}
 use Rattle.tables.specs.zeros.ZeroLaws.{zero-at}
 use Rattle.image.specs.declared.fixup.Rules.{Rules}

@@ -1,6 +1,5 @@
 -- Where the search for a pattern stands: which matches are left, and which links lead to them.
-use Rattle.std.specs.Prelude.{◌≡◌, ℕ, ◌-◌, ◌<◌, true, List, [], ◌∷◌, length, ◌==◌, ◌≢◌, slice_index}
-use Rattle.lent.specs.Choice.{if◌then◌else◌}
+use Rattle.std.specs.Prelude.{◌≡◌, ℕ, ◌-◌, ◌<◌, true, List, [], ◌∷◌, length, ◌==◌, ◌≢◌, slice_index, if◌then◌else◌}
 use Rattle.lent.specs.Lists.{one, keep}
 use Rattle.image.specs.declared.Seat.{Seat}
 use Rattle.image.specs.declared.Stretch.{Stretch}

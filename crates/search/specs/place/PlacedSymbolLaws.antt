@@ -1,9 +1,8 @@
 -- What placing a symbol does to the rows: it adds one at most, and no name twice at a position. Assumes nothing.
-use Rattle.std.specs.Prelude.{◌≡◌, ℕ, ◌≤◌, Bool, true, false, ◌||◌, List, ◌++◌, length, nat_le}
+use Rattle.std.specs.Prelude.{◌≡◌, ℕ, ◌≤◌, Bool, true, false, ◌||◌, List, ◌++◌, length, nat_le, if◌then◌else◌}
 use Rattle.std.proofs.Math.Path.{refl}
 use native.Mathlib.Omega.{arith}
 use Rattle.std.proofs.Math.ListN.{length-append}
-use Rattle.lent.specs.Choice.{if◌then◌else◌}
 use Rattle.lent.specs.Lists.{one}
 use Rattle.tables.specs.by_name.Tables.{Single}
 use Rattle.tables.specs.by_name.SingleLaws.{single_more}

@@ -1,6 +1,5 @@
 -- The answers that the check of references remembers, one a place, and what an answer says to a question.
-use Rattle.std.specs.Prelude.{ℕ, ◌+◌, ◌*◌, ◌/◌, ◌%◌, Bool, true, false, leb, List, length, ◌==◌, nat_eq, nat_le, slice_set}
-use Rattle.lent.specs.Choice.{if◌then◌else◌}
+use Rattle.std.specs.Prelude.{ℕ, ◌+◌, ◌*◌, ◌/◌, ◌%◌, Bool, true, false, leb, List, length, ◌==◌, nat_eq, nat_le, slice_set, if◌then◌else◌}
 use Rattle.lent.specs.Rows.{flag}
 use Rattle.search.specs.declared.told.Recalled.{Recalled}
 

@@ -1,6 +1,5 @@
 -- The pattern of one segment within the memory of all patterns.
-use Rattle.std.specs.Prelude.{ℕ, ◌+◌, List, ◌++◌, leb, length, take, drop}
-use Rattle.lent.specs.Choice.{if◌then◌else◌}
+use Rattle.std.specs.Prelude.{ℕ, ◌+◌, List, ◌++◌, leb, length, take, drop, if◌then◌else◌}
 use Rattle.segments.specs.Masks.{merged}
 
 -- new bytes merged, at an offset, into the `size` bytes of memory from `start` on; where these pass its end it stays as it is

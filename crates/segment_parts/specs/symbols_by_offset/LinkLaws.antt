@@ -1,9 +1,8 @@
 -- What a link says: it leads to the first place of its key, and where it is 0 there is none. Assumes nothing.
-use Rattle.std.specs.Prelude.{ℕ, zero, suc, ◌+◌, ◌-◌, ◌<◌, ◌≤◌, ◌≡◌, refl, Bool, true, false, List, eqb, length}
+use Rattle.std.specs.Prelude.{ℕ, zero, suc, ◌+◌, ◌-◌, ◌<◌, ◌≤◌, ◌≡◌, refl, Bool, true, false, List, eqb, length, if◌then◌else◌}
 use Rattle.std.proofs.Common.{subst, arith, eqb-true}
 use Rattle.std.proofs.Math.Option.{Option, none, some}
 use Rattle.std.proofs.lemmas.Bool.{eqb-false}
-use Rattle.lent.specs.Choice.{if◌then◌else◌}
 use Rattle.tables.specs.links.First.{first_of, first_in, link_to}
 use Rattle.tables.specs.links.Index.{key_at, link_from}
 

@@ -1,8 +1,7 @@
 -- The segments that rows in memory tell of. Any numbers tell of some: a part of the rows, or of the pattern memory, that does
 -- not fit is empty.
-use Rattle.std.specs.Prelude.{ℕ, ◌+◌, ◌/◌, List, [], map, leb, length}
+use Rattle.std.specs.Prelude.{ℕ, ◌+◌, ◌/◌, List, [], map, leb, length, if◌then◌else◌}
 use Rattle.lent.specs.declared.part.Part.{Part}
-use Rattle.lent.specs.Choice.{if◌then◌else◌}
 use Rattle.lent.specs.Lists.{from}
 use Rattle.lent.specs.Parts.{bytes_of}
 use Rattle.lent.specs.Rows.{Layout, row_at}

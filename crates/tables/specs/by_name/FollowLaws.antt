@@ -1,9 +1,8 @@
 -- Following links, step by step. Assumes nothing.
-use Rattle.std.specs.Prelude.{◌≡◌, ℕ, zero, suc, ◌-◌, ◌<◌, ◌≤◌, Bool, true, false, List, ◌==◌, nat_lt}
+use Rattle.std.specs.Prelude.{◌≡◌, ℕ, zero, suc, ◌-◌, ◌<◌, ◌≤◌, Bool, true, false, List, ◌==◌, nat_lt, if◌then◌else◌}
 use Rattle.std.proofs.Math.Path.{refl, sym, ap}
 use native.Mathlib.Omega.{arith}
 use borrow.Author.Tests.{ne_eqb, lt-ltb, le-ltb, ltb-true}
-use Rattle.lent.specs.Choice.{if◌then◌else◌}
 use Rattle.lent.specs.declared.part.Part.{Part}
 use Rattle.lent.specs.Rows.{cell_of}
 use Rattle.tables.specs.by_name.Tables.{row_is, followed_for}

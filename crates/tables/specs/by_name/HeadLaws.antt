@@ -1,9 +1,8 @@
 -- A head that was set leads where it was set to, and no other changes. Assumes nothing.
-use Rattle.std.specs.Prelude.{◌≡◌, ℕ, ◌+◌, ◌*◌, ◌/◌, ◌%◌, ◌<◌, ◌≤◌, Bool, true, false, List, length, set, ◌≢◌, nat_lt, slice_index, slice_index_or, slice_set, refl}
+use Rattle.std.specs.Prelude.{◌≡◌, ℕ, ◌+◌, ◌*◌, ◌/◌, ◌%◌, ◌<◌, ◌≤◌, Bool, true, false, List, length, set, ◌≢◌, nat_lt, slice_index, slice_index_or, slice_set, refl, if◌then◌else◌}
 use Rattle.std.proofs.Common.{sym, ap, ◌∙◌, arith, ltb-true, ltb-false, lt-ltb, le-ltb}
 use Rattle.std.proofs.Math.ListN.{length-set, get_or-eq_default}
 use Rattle.std.proofs.Math.Seq.{set_out, get_or-set_same, get_or-set_other}
-use Rattle.lent.specs.Choice.{if◌then◌else◌}
 use Rattle.tables.specs.zeros.Zeros.{zero_list}
 use Rattle.tables.specs.zeros.ZeroLaws.{zero-length, zero-at}
 use Rattle.tables.specs.by_name.Heads.{head_count, near, head_at, low_head, head_set, head_limit, Blank}

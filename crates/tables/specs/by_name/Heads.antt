@@ -1,6 +1,5 @@
 -- The heads of the buckets: for each bucket of keys, and then for each of key and name, a link to its newest row, in numbers of 32 bits.
-use Rattle.std.specs.Prelude.{◌≡◌, ℕ, ◌+◌, ◌*◌, ◌/◌, ◌%◌, ◌<◌, ◌≤◌, List, length, nat_lt, slice_index, slice_index_or, slice_set}
-use Rattle.lent.specs.Choice.{if◌then◌else◌}
+use Rattle.std.specs.Prelude.{◌≡◌, ℕ, ◌+◌, ◌*◌, ◌/◌, ◌%◌, ◌<◌, ◌≤◌, List, length, nat_lt, slice_index, slice_index_or, slice_set, if◌then◌else◌}
 use Rattle.tables.specs.by_name.Sheet.{key_buckets, name_buckets, key_bucket}
 
 -- how many heads there are

@@ -1,6 +1,5 @@
 -- The newest thing that passes a test, among things that came one after another, as a link: one more than its number, or 0.
-use Rattle.std.specs.Prelude.{ℕ, ◌+◌, Bool, List, [], ◌∷◌}
-use Rattle.lent.specs.Choice.{if◌then◌else◌}
+use Rattle.std.specs.Prelude.{ℕ, ◌+◌, Bool, List, [], ◌∷◌, if◌then◌else◌}
 
 -- the newest among n earlier things and these, where `newest` is the link to the newest among the n earlier things
 unfoldable pub newest_from : {A : Type 0} → (A → Bool) → ℕ → ℕ → List A → ℕ

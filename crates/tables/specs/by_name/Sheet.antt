@@ -1,9 +1,8 @@
 -- Tables of named things: each thing has a key and a name, and is kept as a row, in the order in which things
 -- came. A row has two links: to the newest earlier row in its key's bucket, and to the newest earlier row in
 -- the bucket of its key and name together.
-use Rattle.std.specs.Prelude.{ℕ, ◌+◌, ◌-◌, ◌*◌, ◌/◌, ◌%◌, Bool, ◌&&◌, List, [], ◌∷◌, ◌++◌, length, take, drop, ◌==◌, nat_le}
+use Rattle.std.specs.Prelude.{ℕ, ◌+◌, ◌-◌, ◌*◌, ◌/◌, ◌%◌, Bool, ◌&&◌, List, [], ◌∷◌, ◌++◌, length, take, drop, ◌==◌, nat_le, if◌then◌else◌}
 use Rattle.lent.specs.declared.part.Part.{Part}
-use Rattle.lent.specs.Choice.{if◌then◌else◌}
 use Rattle.lent.specs.Lists.{one, fold}
 use Rattle.lent.specs.Parts.{bytes_of, same_name}
 use Rattle.lent.specs.Rows.{Layout}

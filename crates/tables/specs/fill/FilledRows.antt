@@ -1,6 +1,5 @@
 -- Lent memory that is filled with rows: what it holds while there is room, and that there are too many rows once there is none.
-use Rattle.std.specs.Prelude.{◌≡◌, ℕ, ◌+◌, ◌*◌, ◌<◌, ◌≤◌, true, false, List, ◌++◌, length, ◌==◌, nat_le}
-use Rattle.lent.specs.Choice.{if◌then◌else◌}
+use Rattle.std.specs.Prelude.{◌≡◌, ℕ, ◌+◌, ◌*◌, ◌<◌, ◌≤◌, true, false, List, ◌++◌, length, ◌==◌, nat_le, if◌then◌else◌}
 use Rattle.lent.specs.Lists.{joined}
 use Rattle.lent.specs.Rows.{padded, put_row, Layout}
 use Rattle.tables.specs.declared.fill.Fill.{Fill}

@@ -1,7 +1,6 @@
 -- The first number between two bounds that passes a test; as a link, it is one more, or 0 where there is none.
-use Rattle.std.specs.Prelude.{ℕ, zero, suc, ◌+◌, ◌-◌, Bool}
+use Rattle.std.specs.Prelude.{ℕ, zero, suc, ◌+◌, ◌-◌, Bool, if◌then◌else◌}
 use Rattle.std.proofs.Math.Option.{Option, none, some}
-use Rattle.lent.specs.Choice.{if◌then◌else◌}
 
 unfoldable pub first_of : (ℕ → Bool) → ℕ → ℕ → Option ℕ
 first_of p zero at = none

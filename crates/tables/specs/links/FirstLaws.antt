@@ -1,9 +1,8 @@
 -- A search for the first number that passes a test, step by step. Assumes nothing.
-use Rattle.std.specs.Prelude.{◌≡◌, ℕ, suc, ◌+◌, ◌-◌, ◌<◌, ◌≤◌, Bool, true, false}
+use Rattle.std.specs.Prelude.{◌≡◌, ℕ, suc, ◌+◌, ◌-◌, ◌<◌, ◌≤◌, Bool, true, false, if◌then◌else◌}
 use Rattle.std.proofs.Common.{◌∙◌}
 use Rattle.std.proofs.Math.Option.{none, some}
 use native.Mathlib.Omega.{arith}
-use Rattle.lent.specs.Choice.{if◌then◌else◌}
 use Rattle.tables.specs.links.First.{first_of, first_in}
 
 module _ (p : ℕ → Bool) (low high : ℕ) where

@@ -1,8 +1,7 @@
 -- Things are linked from the last to the first, each to the next of its key. Assumes nothing.
-use Rattle.std.specs.Prelude.{◌≡◌, ℕ, zero, suc, ◌+◌, ◌-◌, ◌<◌, ◌≤◌, Bool, true, false, List, length, take, nat_eq, slice_index, slice_set, refl}
+use Rattle.std.specs.Prelude.{◌≡◌, ℕ, zero, suc, ◌+◌, ◌-◌, ◌<◌, ◌≤◌, Bool, true, false, List, length, take, nat_eq, slice_index, slice_set, refl, if◌then◌else◌}
 use Rattle.std.proofs.Common.{sym, ap, subst, ◌∙◌, arith, length-take, get_or-take}
 use Rattle.std.proofs.Math.Option.{some}
-use Rattle.lent.specs.Choice.{if◌then◌else◌}
 use Rattle.tables.specs.links.First.{first_of, link_to}
 use Rattle.tables.specs.links.Things.{thing_key, keys_of, next_of}
 use Rattle.tables.specs.links.ThingLaws.{keys-long, next-long, key-is, key-small, linked_at, link-keys, link-places, link-next}

@@ -1,10 +1,10 @@
 -- `rules_of`: 1 is as documented, any other number as found. Assumes nothing.
+use Rattle.std.specs.Prelude.{if◌then◌else◌}
 use Rattle.libfind.proofs.collected.rules_of.Statement.{statement}
 use Rattle.libfind.proofs.collected.rules_of.Tie as tie
 use mathlib.Core.Path.{refl, sym, ap}
 use borrow.Author.Tests.{ne_eqb}
 use Rattle.image.specs.declared.fixup.Rules.TheVariants.{Documented, AsFound}
-use Rattle.lent.specs.Choice.{if◌then◌else◌}
 
 returns : tie.Need-returns
 returns c = rw c.if1.true refl

@@ -1,4 +1,5 @@
 -- `is_borne`: a number that is not below n has no segment. Assumes nothing.
+use Rattle.std.specs.Prelude.{if◌then◌else◌}
 use borrow.Author.Rules.{rules}
 use Rattle.listing.proofs.grade.is_borne.Statement.{statement}
 use Rattle.listing.proofs.grade.is_borne.Tie as tie
@@ -6,7 +7,6 @@ use mathlib.Core.Path.{refl, sym, ap, ◌∙◌}
 use mathlib.Core.Bool.{Bool}
 use mathlib.Core.List.{[]}
 use borrow.Author.Tests.{lt-ltb, le-ltb}
-use Rattle.lent.specs.Choice.{if◌then◌else◌}
 use Rattle.lent.specs.Lists.{all}
 use Rattle.image.specs.View.{stretches_in, view}
 use Rattle.segments.specs.declared.Reference.{Reference}

@@ -1,7 +1,7 @@
 -- `link_at` tells the first kept segment from another. Assumes nothing.
+use Rattle.std.specs.Prelude.{if◌then◌else◌}
 use mathlib.Core.Path.{ap, sym, ◌∙◌}
 use lib.ListN.{get_or}
-use Rattle.lent.specs.Choice.{if◌then◌else◌}
 use borrow.Author.Rules.{rules}
 use Rattle.module_index.proofs.owner.link_at.Goals as goal
 
