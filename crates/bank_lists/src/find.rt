@@ -10,8 +10,11 @@ use command::refusal_words::say_refused;
 use lent::refusal::Refusal;
 use libfind::begin::Checked;
 use run::{Answer, Settings};
+use std::env::Env;
+use std::fs::Files;
+use system::standard_error::StandardError;
 
-fn find(board: &[u8], library: &[u8], settings: Settings) {
+fn find(rt: &(impl Print + StandardError), board: &[u8], library: &[u8], settings: Settings) {
     let mut segments = command::memory::segments();
     let mut references = command::memory::references();
     let mut symbols = command::memory::symbols();
@@ -35,8 +38,8 @@ fn find(board: &[u8], library: &[u8], settings: Settings) {
     );
     let answer = came.answer;
     match answer {
-        Answer::Done(_) => print(library, &lines, came),
-        Answer::Refused(r) => say_refused(r, memory::lent()),
+        Answer::Done(_) => print(rt, library, &lines, came),
+        Answer::Refused(r) => say_refused(rt, r, memory::lent()),
     }
 }
 
@@ -48,30 +51,36 @@ fn is_board(size: usize) -> bool {
     }
 }
 
-fn find_on(board: &[u8], library: &[u8], settings: Settings) {
+fn find_on(rt: &(impl Print + StandardError), board: &[u8], library: &[u8], settings: Settings) {
     if is_refused(
         library,
         is_board(board.len()),
         settings.edition,
         settings.depth,
     ) {
-        say_refused(Refusal::LibraryTooLong, memory::lent());
+        say_refused(rt, Refusal::LibraryTooLong, memory::lent());
         return;
     }
-    find(board, taken(library), settings);
+    find(rt, board, taken(library), settings);
 }
 
 // Lists what stands of the library in each bank's view of the board; both files are told by the numbers of their words.
-pub fn list_banks(board: usize, library: usize, settings: Settings) {
+pub fn list_banks<R: Env + Files + Print + StandardError>(
+    rt: &R,
+    board: usize,
+    library: usize,
+    settings: Settings,
+) {
     let mut first = memory::board_room();
-    let Loaded::Size(in_board) = load(board, &mut first) else {
+    let Loaded::Size(in_board) = load(rt, board, &mut first) else {
         return;
     };
     let mut second = file::room();
-    let Loaded::Size(in_library) = load(library, &mut second) else {
+    let Loaded::Size(in_library) = load(rt, library, &mut second) else {
         return;
     };
     find_on(
+        rt,
         bytes_of(&first, in_board),
         bytes_of(&second, in_library),
         settings,

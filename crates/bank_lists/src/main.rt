@@ -11,19 +11,20 @@ use command::arguments::{Requested, read_request};
 use command::mistake::say_usage;
 use command::settings::settings_with;
 
-fn main() {
-    let asked = read_request();
+fn main(rt: HostRuntime) {
+    let asked = read_request(&rt);
     let requested = asked.requested;
     let withheld = asked.withheld;
     match requested {
         Requested::Whole(request) => {
             let plain = request.settings;
             list_banks(
+                &rt,
                 request.image,
                 request.library,
                 settings_with(plain, withheld),
             )
         }
-        Requested::Wrong(mistake) => say_usage(mistake),
+        Requested::Wrong(mistake) => say_usage(&rt, mistake),
     }
 }

@@ -2,35 +2,29 @@
 use bank_rules::BankAnswer;
 use command::message::say_unwritten;
 use command::output::write_lines;
-use libc::STDOUT_FILENO;
+use std::io;
+use system::standard_error::StandardError;
 
-fn put(text: &[u8]) -> bool {
-    io::write_all(STDOUT_FILENO, text)
+// Puts what stands before a bank's list.
+fn put_title(rt: &impl Print, k: usize) -> io::Result<()> {
+    if k != 0 {
+        rt.write_all(b"\n")?;
+    }
+    rt.write_all(b"Bank ")?;
+    rt.print(k)?;
+    rt.write_all(b"\n")
 }
 
-fn put_gap(k: usize) -> bool {
-    k == 0 || put(b"\n")
-}
-
-// Whether what stands before a bank's list is written.
-fn put_title(k: usize) -> bool {
-    if !put_gap(k) {
-        return false;
-    }
-    if !put(b"Bank ") {
-        return false;
-    }
-    if !io::print_decimal(STDOUT_FILENO, k as u64) {
-        return false;
-    }
-    put(b"\n")
-}
-
-fn put_bank(library: &[u8], lines: &[u64], k: usize, from: usize, to: usize) -> bool {
-    if !put_title(k) {
-        return false;
-    }
-    write_lines(library, lines, from, to)
+fn put_bank(
+    rt: &impl Print,
+    library: &[u8],
+    lines: &[u64],
+    k: usize,
+    from: usize,
+    to: usize,
+) -> io::Result<()> {
+    put_title(rt, k)?;
+    write_lines(rt, library, lines, from, to)
 }
 
 // How many lines a bank has.
@@ -41,24 +35,26 @@ fn lines_of(each: &[u64], k: usize) -> usize {
     0
 }
 
-// Whether all banks are written. Their lines stand one after another.
-fn put_banks(library: &[u8], lines: &[u64], each: &[u64], banks: usize) -> bool {
-    let mut from = 0;
-    let mut k = 0;
-    while k < banks {
-        let to = std::num::wrapping_add_usize(from, lines_of(each, k));
-        if !put_bank(library, lines, k, from, to) {
-            return false;
-        }
+// Puts all banks. Their lines stand one after another.
+fn put_banks(
+    rt: &impl Print,
+    library: &[u8],
+    lines: &[u64],
+    each: &[u64],
+    banks: usize,
+) -> io::Result<()> {
+    let mut from: usize = 0;
+    for k in 0..banks {
+        let to = from.wrapping_add(lines_of(each, k));
+        put_bank(rt, library, lines, k, from, to)?;
         from = to;
-        k += 1;
     }
-    true
+    Ok(())
 }
 
-pub fn print(library: &[u8], lines: &[u64], came: BankAnswer) {
+pub fn print(rt: &(impl Print + StandardError), library: &[u8], lines: &[u64], came: BankAnswer) {
     let each = came.lines;
-    if !put_banks(library, lines, &each, came.banks) {
-        say_unwritten();
+    if let Err(e) = put_banks(rt, library, lines, &each, came.banks) {
+        say_unwritten(rt, e);
     }
 }

@@ -1,6 +1,6 @@
 -- The first colon of a word, looked for from one place on; and the numbers on both sides of it. Assumes nothing.
 use Rattle.std.specs.Prelude.{ℕ, suc, ◌+◌, ◌-◌, ◌≤◌, ◌<◌, ◌≡◌, List, length, get_or, take, drop}
-use Rattle.std.proofs.Common.{sym, ap, arith, drop_of_length-le, length-drop, take_all}
+use Rattle.std.proofs.Common.{arith, drop_of_length-le, length-drop, take_all}
 use borrow.Author.Tests.{eq-eqb, ne_eqb, lt-leb}
 use Rattle.lent.specs.PartLaws.{drop-turn}
 use Rattle.command.specs.Values.{number_read}

@@ -8,6 +8,8 @@ use crate::settings::{Plain, Wanted, settings_of};
 use crate::stretch::{stretch_value, with_stretch};
 use crate::words;
 use image::cover::{Stretches, no_stretches};
+use std::env::Env;
+use system::arguments;
 
 // What the next word may be: a file or an option, or only the value of the option before it.
 #[derive(Clone, Copy)]
@@ -230,24 +232,24 @@ fn reach(known: Given, withheld: Stretches, word: &[u8], i: usize) -> Reached
 }
 
 // Reads word i and takes it.
-fn take_argument(known: Given, withheld: Stretches, i: usize) -> Reached
+fn take_argument(rt: &impl Env, known: Given, withheld: Stretches, i: usize) -> Reached
     ensures { FromWord known withheld i result }
 {
     let mut room = words::room();
-    let n = words::read_word(i, &mut room);
+    let n = words::read_word(rt, i, &mut room);
     reach(known, withheld, &room[..n], i)
 }
 
 // What the program's own command line asks for.
-pub fn read_request() -> Asked
+pub fn read_request(rt: &impl Env) -> Asked
     ensures { FromWords result }
 {
-    let count = os::arg_count();
+    let count = arguments::count(rt);
     let mut known = begin();
     let mut withheld = no_stretches();
     let mut i = 1;
     while i < count {
-        let reached = take_argument(known, withheld, i);
+        let reached = take_argument(rt, known, withheld, i);
         let step = reached.step;
         withheld = reached.withheld;
         match step {

@@ -2,48 +2,50 @@
 use crate::message::say_unwritten;
 use lent::names::name;
 use lent::part::Part;
-use libc::STDOUT_FILENO;
 use listing_rules::rows::line_at;
 use printing::{Printed, print_heading, print_line};
+use std::io;
+use std::io::ErrorKind;
+use system::standard_error::StandardError;
 
-// Whether what was put into the room is written out. No line is longer than the room: an address takes 18 columns at most, a name 257, a description 89.
-fn written(printed: Printed, room: &[u8]) -> bool {
+// Writes out what was put into the room. No line is longer than the room: an address takes 18 columns at most, a name 257, a description 89.
+fn write(rt: &impl Print, printed: Printed, room: &[u8]) -> io::Result<()> {
     match printed {
-        Printed::Written(len) => io::write_all(STDOUT_FILENO, name(room, Part { at: 0, len })),
-        Printed::NoRoom => false,
+        Printed::Written(len) => rt.write_all(name(room, Part { at: 0, len })),
+        Printed::NoRoom => Err(io::Error::from(ErrorKind::WriteZero)),
     }
 }
 
-fn write_heading() -> bool {
+fn write_heading(rt: &impl Print) -> io::Result<()> {
     let mut room = [0u8; 512];
     let printed = print_heading(&mut room);
-    written(printed, &room)
+    write(rt, printed, &room)
 }
 
-fn write_line(library: &[u8], lines: &[u64], i: usize) -> bool {
+fn write_line(rt: &impl Print, library: &[u8], lines: &[u64], i: usize) -> io::Result<()> {
     let mut room = [0u8; 512];
     let printed = print_line(library, line_at(lines, i), &mut room);
-    written(printed, &room)
+    write(rt, printed, &room)
 }
 
-// Whether the heading is written, and the lines from a number on up to another.
-pub fn write_lines(library: &[u8], lines: &[u64], from: usize, to: usize) -> bool {
-    if !write_heading() {
-        return false;
+// Writes the heading, and the lines from a number on up to another.
+pub fn write_lines(
+    rt: &impl Print,
+    library: &[u8],
+    lines: &[u64],
+    from: usize,
+    to: usize,
+) -> io::Result<()> {
+    write_heading(rt)?;
+    for i in from..to {
+        write_line(rt, library, lines, i)?;
     }
-    let mut i = from;
-    while i < to {
-        if !write_line(library, lines, i) {
-            return false;
-        }
-        i += 1;
-    }
-    true
+    Ok(())
 }
 
 // Prints the first n lines.
-pub fn print(library: &[u8], lines: &[u64], n: usize) {
-    if !write_lines(library, lines, 0, n) {
-        say_unwritten();
+pub fn print(rt: &(impl Print + StandardError), library: &[u8], lines: &[u64], n: usize) {
+    if let Err(e) = write_lines(rt, library, lines, 0, n) {
+        say_unwritten(rt, e);
     }
 }

@@ -1,7 +1,9 @@
 // The words of the command line, told by their numbers; word 0 is the program's own name.
 ghost use Rattle.std.specs.Prelude.{◌≡◌, length};
-ghost use Rattle.io.specs.Counts.{IsPrefixLen};
+ghost use Rattle.system.specs.Counts.{IsPrefixLen};
 ghost use Rattle.command.specs.Words.{too_long};
+
+use std::env::Env;
 
 // No word is longer.
 const LONGEST: usize = 4096;
@@ -14,14 +16,13 @@ pub fn room() -> [u8; 4097]
 }
 
 // Puts word i into the room and answers how many bytes of the room are the word; a word that is too long fills the room.
-pub fn read_word(i: usize, room: &mut [u8]) -> usize
+pub fn read_word(rt: &impl Env, i: usize, room: &mut [u8]) -> usize
     ensures { IsPrefixLen result room.new }
 {
-    let n = os::arg(i, room);
-    if os::errno() != 0 {
-        return room.len();
+    match rt.arg(i, room) {
+        Ok(n) => n,
+        Err(_) => room.len(),
     }
-    n
 }
 
 pub fn is_too_long(word: &[u8]) -> bool

@@ -11,16 +11,16 @@ const SEGMENTS: [u64; 8] = [0, 0, 0, 1, 0, 3, 0, 0];
 // Each row: place, kind, offset, and the goal: segment 0, or a name.
 const REFERENCES: [u64; 18] = [0, 4, 0, 0, 0, 0, 2, 2, 0, 1, 0, 0, 5, 4, 0, 1, 0, 0];
 
-fn reason(why: Why) {
+fn reason(rt: &impl Print, why: Why) {
     match why {
-        Why::PastEnd => say(b" past the end"),
-        Why::Withheld => say(b" withheld"),
-        Why::NoMatch => say(b" no match"),
-        Why::NotHeld => say(b" not held"),
+        Why::PastEnd => say(rt, b" past the end"),
+        Why::Withheld => say(rt, b" withheld"),
+        Why::NoMatch => say(rt, b" no match"),
+        Why::NotHeld => say(rt, b" not held"),
     }
 }
 
-fn first(image: &[u8], s: &[u64], depth: u64, count: usize) {
+fn first(rt: &impl Print, image: &[u8], s: &[u64], depth: u64, count: usize) {
     let part = Part { at: 0, len: count };
     match first_failed(
         image,
@@ -35,25 +35,25 @@ fn first(image: &[u8], s: &[u64], depth: u64, count: usize) {
         b"\x22",
         b"\xff",
     ) {
-        Failed::Nothing => say(b" none"),
+        Failed::Nothing => say(rt, b" none"),
         Failed::Reference { number: n, why } => {
-            number(n);
-            reason(why);
+            number(rt, n);
+            reason(rt, why);
         }
     }
-    say(b";");
+    say(rt, b";");
 }
 
-pub fn first_failures() {
+pub fn first_failures(rt: &impl Print) {
     let led = b"\x00\x04\x00\x00\x22\x05";
-    say(b"Fails first:");
-    first(led, &NOTHING, 1, 2);
-    first(led, &NOTHING, 1, 3);
-    first(led, &[2, 1], 1, 3);
-    first(led, &[5, 1], 1, 3);
-    first(led, &[4, 1], 1, 3);
-    first(b"\x00\x03\x00\x00\x22\x05", &NOTHING, 1, 3);
-    first(led, &NOTHING, 0, 3);
-    first(led, &NOTHING, 2, 2);
-    say(b"\n");
+    say(rt, b"Fails first:");
+    first(rt, led, &NOTHING, 1, 2);
+    first(rt, led, &NOTHING, 1, 3);
+    first(rt, led, &[2, 1], 1, 3);
+    first(rt, led, &[5, 1], 1, 3);
+    first(rt, led, &[4, 1], 1, 3);
+    first(rt, b"\x00\x03\x00\x00\x22\x05", &NOTHING, 1, 3);
+    first(rt, led, &NOTHING, 0, 3);
+    first(rt, led, &NOTHING, 2, 2);
+    say(rt, b"\n");
 }

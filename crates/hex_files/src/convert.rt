@@ -7,7 +7,9 @@ use command::message::say_unwritten;
 use intel_hex::Answer;
 use intel_hex::export::export_image;
 use intel_hex::import::import_text;
-use libc::STDOUT_FILENO;
+use std::env::Env;
+use std::fs::Files;
+use system::standard_error::StandardError;
 
 // No text is longer: enough for every image in records of one byte, with CR LF.
 const LONGEST: usize = 1048576;
@@ -27,45 +29,45 @@ fn image_out() -> [u8; 65536] {
 }
 
 // Writes what was made, or says why it was not.
-fn write(answer: Answer, out: &[u8]) {
+fn write(rt: &(impl Print + StandardError), answer: Answer, out: &[u8]) {
     match answer {
         Answer::Done(n) => {
-            if !io::write_all(STDOUT_FILENO, bytes_of(out, n)) {
-                say_unwritten();
+            if let Err(e) = rt.write_all(bytes_of(out, n)) {
+                say_unwritten(rt, e);
             }
         }
-        Answer::Refused(r) => say_refused(r),
+        Answer::Refused(r) => say_refused(rt, r),
     }
 }
 
-fn export(image: &[u8], out: &mut [u8]) {
+fn export(rt: &(impl Print + StandardError), image: &[u8], out: &mut [u8]) {
     let answer = export_image(image, out);
-    write(answer, out);
+    write(rt, answer, out);
 }
 
-fn import(text: &[u8], out: &mut [u8]) {
+fn import(rt: &(impl Print + StandardError), text: &[u8], out: &mut [u8]) {
     if LONGEST < text.len() {
-        say_text_too_long();
+        say_text_too_long(rt);
         return;
     }
     let answer = import_text(text, out);
-    write(answer, out);
+    write(rt, answer, out);
 }
 
-pub fn hex() {
+pub fn hex<R: Env + Files + Print + StandardError>(rt: &R) {
     let mut room = file::room();
-    let Loaded::Size(n) = load(2, &mut room) else {
+    let Loaded::Size(n) = load(rt, 2, &mut room) else {
         return;
     };
     let mut out = text_out();
-    export(bytes_of(&room, n), &mut out);
+    export(rt, bytes_of(&room, n), &mut out);
 }
 
-pub fn unhex() {
+pub fn unhex<R: Env + Files + Print + StandardError>(rt: &R) {
     let mut room = text_room();
-    let Loaded::Size(n) = load(2, &mut room) else {
+    let Loaded::Size(n) = load(rt, 2, &mut room) else {
         return;
     };
     let mut out = image_out();
-    import(bytes_of(&room, n), &mut out);
+    import(rt, bytes_of(&room, n), &mut out);
 }

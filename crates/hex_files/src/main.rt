@@ -7,21 +7,22 @@ mod words;
 
 use command::message::say;
 use lent::names::same;
+use system::arguments;
 
-fn main() {
-    if os::arg_count() != 3 {
-        say(b"usage: one file is to be named (--help tells all)\n");
+fn main(rt: HostRuntime) {
+    if arguments::count(&rt) != 3 {
+        say(&rt, b"usage: one file is to be named (--help tells all)\n");
         return;
     }
     let mut room = command::words::room();
-    let n = command::words::read_word(1, &mut room);
+    let n = command::words::read_word(&rt, 1, &mut room);
     if same(&room[..n], b"hex") {
-        convert::hex();
+        convert::hex(&rt);
         return;
     }
     if same(&room[..n], b"unhex") {
-        convert::unhex();
+        convert::unhex(&rt);
         return;
     }
-    say(b"usage: the job is hex or unhex (--help tells all)\n");
+    say(&rt, b"usage: the job is hex or unhex (--help tells all)\n");
 }

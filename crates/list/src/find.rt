@@ -8,11 +8,14 @@ use command::refusal_words::say_refused;
 use lent::refusal::Refusal;
 use libfind::entry::find_names;
 use run::{Answer, Settings};
+use std::env::Env;
+use std::fs::Files;
+use system::standard_error::StandardError;
 
 // No image is longer.
 const LONGEST: usize = 65536;
 
-fn find(image: &[u8], library: &[u8], settings: Settings) {
+fn find(rt: &(impl Print + StandardError), image: &[u8], library: &[u8], settings: Settings) {
     let mut segments = command::memory::segments();
     let mut references = command::memory::references();
     let mut symbols = command::memory::symbols();
@@ -34,35 +37,41 @@ fn find(image: &[u8], library: &[u8], settings: Settings) {
         &mut noted,
         &mut lines,
     ) {
-        Answer::Done(counts) => print(library, &lines, counts.lines),
-        Answer::Refused(r) => say_refused(r, memory::lent()),
+        Answer::Done(counts) => print(rt, library, &lines, counts.lines),
+        Answer::Refused(r) => say_refused(rt, r, memory::lent()),
     }
 }
 
-fn find_in(image: &[u8], library: &[u8], settings: Settings) {
+fn find_in(rt: &(impl Print + StandardError), image: &[u8], library: &[u8], settings: Settings) {
     if is_refused(
         library,
         image.len() <= LONGEST,
         settings.edition,
         settings.depth,
     ) {
-        say_refused(Refusal::LibraryTooLong, memory::lent());
+        say_refused(rt, Refusal::LibraryTooLong, memory::lent());
         return;
     }
-    find(image, taken(library), settings);
+    find(rt, image, taken(library), settings);
 }
 
 // Lists what stands of the library in the image; both are told by the numbers of their words.
-pub fn list(image: usize, library: usize, settings: Settings) {
+pub fn list<R: Env + Files + Print + StandardError>(
+    rt: &R,
+    image: usize,
+    library: usize,
+    settings: Settings,
+) {
     let mut first = file::room();
-    let Loaded::Size(in_image) = load(image, &mut first) else {
+    let Loaded::Size(in_image) = load(rt, image, &mut first) else {
         return;
     };
     let mut second = file::room();
-    let Loaded::Size(in_library) = load(library, &mut second) else {
+    let Loaded::Size(in_library) = load(rt, library, &mut second) else {
         return;
     };
     find_in(
+        rt,
         bytes_of(&first, in_image),
         bytes_of(&second, in_library),
         settings,

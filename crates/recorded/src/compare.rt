@@ -19,13 +19,13 @@ fn same(header: &[u8], came: &[u64]) -> bool {
 }
 
 // Counts a case, before which so many passed; it is shown if it differs and few did before.
-pub fn compare(passed: u64, header: &[u8], came: [u64; 18], tally: &mut [u64]) {
+pub fn compare(rt: &impl Print, passed: u64, header: &[u8], came: [u64; 18], tally: &mut [u64]) {
     if same(header, &came) {
         count(tally, came[0], came[7], is_own(header));
         return;
     }
     if differing(tally) < SHOWN {
-        differ(passed, header, &came);
+        differ(rt, passed, header, &came);
     }
     count_differing(tally);
 }

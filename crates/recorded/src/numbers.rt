@@ -22,12 +22,12 @@ fn two_at(bytes: &[u8], at: usize) -> u64
 pub fn four_at(bytes: &[u8], at: usize) -> u64
     ensures { result < 4294967296 }
 {
-    let next = std::num::wrapping_add_usize(at, 2);
+    let next = at.wrapping_add(2);
     two_at(bytes, at) + two_at(bytes, next) * 65536
 }
 
 pub fn eight_at(bytes: &[u8], at: usize) -> u64 {
-    let next = std::num::wrapping_add_usize(at, 4);
+    let next = at.wrapping_add(4);
     four_at(bytes, at) + four_at(bytes, next) * 4294967296
 }
 

@@ -20,7 +20,7 @@ pub fn at(tally: &[u64], i: usize) -> u64 {
 
 fn add(tally: &mut [u64], i: usize, n: u64) {
     if i < tally.len() {
-        tally[i] = std::num::wrapping_add_u64(tally[i], n);
+        tally[i] = tally[i].wrapping_add(n);
     }
 }
 
@@ -50,10 +50,10 @@ pub fn differing(tally: &[u64]) -> u64 {
 }
 
 pub fn agreed(tally: &[u64]) -> u64 {
-    let mut n = 0;
+    let mut n: u64 = 0;
     let mut i = 0;
     while i < NUMBERS {
-        n = std::num::wrapping_add_u64(n, at(tally, i));
+        n = n.wrapping_add(at(tally, i));
         i += 1;
     }
     n

@@ -15,14 +15,12 @@ fn library_room() -> [u8; 1048832] {
     [0u8; 1048832]
 }
 
-fn main() {
-    let fd = recorded::cases::open(1);
-    if fd < 0 {
+fn main(rt: HostRuntime) {
+    let Some(mut cases) = recorded::cases::open(&rt, 1) else {
         return;
-    }
+    };
     let mut file = file_room();
     let mut library = library_room();
     let mut tally = recorded::tally::no_case();
-    compare::compare_all(fd, &mut file, &mut library, &mut tally);
-    libc::close(fd);
+    compare::compare_all(&rt, &mut cases, &mut file, &mut library, &mut tally);
 }

@@ -7,6 +7,8 @@ use recorded::cases::{LIMIT, begins_with};
 use recorded::numbers::{four_at, within};
 use recorded::show::{cut_short, outcomes, say, say_number};
 use recorded::tally::{count, count_differing, own};
+use std::io::Read;
+use system::files::fill;
 
 // The head of a case: the job, the number, four bytes each for the lengths of the input and of the buffer, for how many
 // bytes are written, and for the digest of the buffer as it is left.
@@ -84,32 +86,37 @@ enum Next {
     CutShort,
 }
 
-fn next_case(fd: i32, head: &mut [u8], input: &mut [u8]) -> Next {
-    if io::read_full(fd, head) < HEAD {
+fn next_case(cases: &mut impl Read, head: &mut [u8], input: &mut [u8]) -> Next {
+    if fill(cases, head).size < HEAD {
         return Next::End;
     }
     let size = four_at(head, 2) as usize;
     if input.len() < size {
         return Next::CutShort;
     }
-    if io::read_full(fd, &mut input[0..size]) < size {
+    if fill(cases, &mut input[0..size]).size < size {
         return Next::CutShort;
     }
     Next::Case(size)
 }
 
 // From case to case; how many there are.
-fn compare_each(fd: i32, input: &mut [u8], tally: &mut [u64]) -> u64 {
+fn compare_each(
+    rt: &impl Print,
+    cases: &mut impl Read,
+    input: &mut [u8],
+    tally: &mut [u64],
+) -> u64 {
     let mut passed = 0;
     while passed < LIMIT {
         let mut head = [0u8; HEAD];
-        match next_case(fd, &mut head, input) {
+        match next_case(cases, &mut head, input) {
             Next::Case(size) => compare(&head, name(input, Part { at: 0, len: size }), tally),
             Next::End => {
                 return passed;
             }
             Next::CutShort => {
-                cut_short(passed);
+                cut_short(rt, passed);
                 return passed;
             }
         }
@@ -118,16 +125,17 @@ fn compare_each(fd: i32, input: &mut [u8], tally: &mut [u64]) -> u64 {
     passed
 }
 
-pub fn compare_all(fd: i32, tally: &mut [u64]) {
-    if !begins_with(fd, 0x0178_6568) {
+pub fn compare_all(rt: &impl Print, cases: &mut impl Read, tally: &mut [u64]) {
+    if !begins_with(rt, cases, 0x0178_6568) {
         return;
     }
     let mut input = trial::room();
-    let passed = compare_each(fd, &mut input, tally);
-    outcomes(tally, passed, b" recorded cases agree: done ");
+    let passed = compare_each(rt, cases, &mut input, tally);
+    outcomes(rt, tally, passed, b" recorded cases agree: done ");
     say_number(
+        rt,
         b"; exports, of which each that was done came back: ",
         own(tally),
     );
-    say(b"\n");
+    say(rt, b"\n");
 }

@@ -5,12 +5,10 @@
 mod compare;
 mod trial;
 
-fn main() {
-    let fd = recorded::cases::open(1);
-    if fd < 0 {
+fn main(rt: HostRuntime) {
+    let Some(mut cases) = recorded::cases::open(&rt, 1) else {
         return;
-    }
+    };
     let mut tally = recorded::tally::no_case();
-    compare::compare_all(fd, &mut tally);
-    libc::close(fd);
+    compare::compare_all(&rt, &mut cases, &mut tally);
 }

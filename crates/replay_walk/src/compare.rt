@@ -9,6 +9,8 @@ use recorded::cases::{LIMIT, begins_with};
 use recorded::numbers::{eight_at, four_at, within};
 use recorded::show::{cut_short, outcomes, say};
 use recorded::tally::{count, count_differing};
+use std::io::Read;
+use system::files::fill;
 
 // The head of a case: the number, why the walk stopped, how many stretches there are, an empty byte; four bytes each for how
 // many zeros the image begins with and how many bytes stand behind them, how many numbers are lent, how many steps are
@@ -68,7 +70,7 @@ enum Next {
 }
 
 // Reads n bytes behind zeros into the image's room.
-fn read_image(fd: i32, zeros: usize, n: usize, room: &mut [u8]) -> Next {
+fn read_image(cases: &mut impl Read, zeros: usize, n: usize, room: &mut [u8]) -> Next {
     if room.len() < zeros {
         return Next::CutShort;
     }
@@ -76,25 +78,25 @@ fn read_image(fd: i32, zeros: usize, n: usize, room: &mut [u8]) -> Next {
         return Next::CutShort;
     }
     let end = zeros + n;
-    if io::read_full(fd, &mut room[zeros..end]) < n {
+    if fill(cases, &mut room[zeros..end]).size < n {
         return Next::CutShort;
     }
     Next::Case(end)
 }
 
-fn next_case(fd: i32, head: &mut [u8], pairs: &mut [u8], room: &mut [u8]) -> Next {
-    if io::read_full(fd, head) < HEAD {
+fn next_case(cases: &mut impl Read, head: &mut [u8], pairs: &mut [u8], room: &mut [u8]) -> Next {
+    if fill(cases, head).size < HEAD {
         return Next::End;
     }
     let n = within(PAIRS, byte_of(head, 2) as usize * 16);
     if pairs.len() < n {
         return Next::CutShort;
     }
-    if io::read_full(fd, &mut pairs[0..n]) < n {
+    if fill(cases, &mut pairs[0..n]).size < n {
         return Next::CutShort;
     }
     read_image(
-        fd,
+        cases,
         four_at(head, 4) as usize,
         four_at(head, 8) as usize,
         room,
@@ -109,11 +111,11 @@ enum Compared {
 }
 
 // One case, with room of its own, so that nothing of an earlier one stands in it.
-fn compare_next(fd: i32, tally: &mut [u64]) -> Compared {
+fn compare_next(cases: &mut impl Read, tally: &mut [u64]) -> Compared {
     let mut head = [0u8; HEAD];
     let mut pairs = [0u8; PAIRS];
     let mut room = trial::image_room();
-    match next_case(fd, &mut head, &mut pairs, &mut room) {
+    match next_case(cases, &mut head, &mut pairs, &mut room) {
         Next::Case(size) => {
             compare(&head, &pairs, name(&room, Part { at: 0, len: size }), tally);
             Compared::One
@@ -124,10 +126,10 @@ fn compare_next(fd: i32, tally: &mut [u64]) -> Compared {
 }
 
 // From case to case; how many there are.
-fn compare_each(fd: i32, tally: &mut [u64]) -> u64 {
+fn compare_each(rt: &impl Print, cases: &mut impl Read, tally: &mut [u64]) -> u64 {
     let mut passed = 0;
     while passed < LIMIT {
-        match compare_next(fd, tally) {
+        match compare_next(cases, tally) {
             Compared::One => {
                 passed += 1;
             }
@@ -135,7 +137,7 @@ fn compare_each(fd: i32, tally: &mut [u64]) -> u64 {
                 return passed;
             }
             Compared::CutShort => {
-                cut_short(passed);
+                cut_short(rt, passed);
                 return passed;
             }
         }
@@ -143,11 +145,11 @@ fn compare_each(fd: i32, tally: &mut [u64]) -> u64 {
     passed
 }
 
-pub fn compare_all(fd: i32, tally: &mut [u64]) {
-    if !begins_with(fd, 0x016b_6c77) {
+pub fn compare_all(rt: &impl Print, cases: &mut impl Read, tally: &mut [u64]) {
+    if !begins_with(rt, cases, 0x016b_6c77) {
         return;
     }
-    let passed = compare_each(fd, tally);
-    outcomes(tally, passed, b" recorded walks agree: done ");
-    say(b"\n");
+    let passed = compare_each(rt, cases, tally);
+    outcomes(rt, tally, passed, b" recorded walks agree: done ");
+    say(rt, b"\n");
 }

@@ -8,18 +8,14 @@ mod trial;
 
 use recorded::cases::open;
 
-fn main() {
-    let cases = open(1);
-    if cases < 0 {
+fn main(rt: HostRuntime) {
+    let Some(mut cases) = open(&rt, 1) else {
         return;
-    }
+    };
     let mut tally = recorded::tally::no_case();
-    compare::compare_all(cases, &mut tally);
-    libc::close(cases);
-    let instructions = open(2);
-    if instructions < 0 {
+    compare::compare_all(&rt, &mut cases, &mut tally);
+    let Some(mut instructions) = open(&rt, 2) else {
         return;
-    }
-    told::compare_all(instructions);
-    libc::close(instructions);
+    };
+    told::compare_all(&rt, &mut instructions);
 }

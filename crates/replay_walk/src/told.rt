@@ -6,6 +6,8 @@ use recorded::numbers::four_at;
 use recorded::show::{say, say_number};
 use routine::Row;
 use routine::step::{Step, step_at};
+use std::io::Read;
+use system::files::fill;
 
 const LIMIT: u64 = 1000000;
 
@@ -92,40 +94,40 @@ fn agrees(image: &mut [u8], entry: &[u8]) -> bool {
 }
 
 // Reads the next instruction, if there is one.
-fn next_entry(fd: i32, entry: &mut [u8]) -> bool {
-    io::read_full(fd, entry) == ENTRY
+fn next_entry(file: &mut impl Read, entry: &mut [u8]) -> bool {
+    fill(file, entry).size == ENTRY
 }
 
 // From instruction to instruction: how many there are, and how many of them agree.
-fn compare_each(fd: i32, image: &mut [u8], counts: &mut [u64; 2]) {
+fn compare_each(file: &mut impl Read, image: &mut [u8], counts: &mut [u64; 2]) {
     let mut left = LIMIT;
     while 0 < left {
         let mut entry = [0u8; ENTRY];
-        if !next_entry(fd, &mut entry) {
+        if !next_entry(file, &mut entry) {
             return;
         }
-        counts[0] = std::num::wrapping_add_u64(counts[0], 1);
+        counts[0] = counts[0].wrapping_add(1);
         if agrees(image, &entry) {
-            counts[1] = std::num::wrapping_add_u64(counts[1], 1);
+            counts[1] = counts[1].wrapping_add(1);
         }
         left -= 1;
     }
 }
 
-pub fn compare_all(fd: i32) {
+pub fn compare_all(rt: &impl Print, file: &mut impl Read) {
     let mut start = [0u8; 4];
-    if io::read_full(fd, &mut start) < 4 {
-        say(b"the file of instructions is empty\n");
+    if fill(file, &mut start).size < 4 {
+        say(rt, b"the file of instructions is empty\n");
         return;
     }
     if four_at(&start, 0) != 0x0164_6c74 {
-        say(b"the file of instructions is of another version\n");
+        say(rt, b"the file of instructions is of another version\n");
         return;
     }
     let mut image = trial::image_room();
     let mut counts = [0u64; 2];
-    compare_each(fd, &mut image[0..65536], &mut counts);
-    say_number(b"", counts[1]);
-    say_number(b" of ", counts[0]);
-    say(b" instructions are as dis51 tells them\n");
+    compare_each(file, &mut image[0..65536], &mut counts);
+    say_number(rt, b"", counts[1]);
+    say_number(rt, b" of ", counts[0]);
+    say(rt, b" instructions are as dis51 tells them\n");
 }

@@ -2,6 +2,7 @@
 use command::mistake::Mistake;
 use command::values::{Read, number_value};
 use command::words;
+use std::env::Env;
 
 #[derive(Clone, Copy)]
 pub enum Address {
@@ -10,9 +11,9 @@ pub enum Address {
 }
 
 // Word i as an address: decimal, or hexadecimal behind 0x.
-pub fn read_address(i: usize) -> Address {
+pub fn read_address(rt: &impl Env, i: usize) -> Address {
     let mut room = words::room();
-    let n = words::read_word(i, &mut room);
+    let n = words::read_word(rt, i, &mut room);
     match number_value(&room[..n], i) {
         Read::Number(at) => Address::At(at as usize),
         Read::Wrong(m) => Address::Wrong(m),

@@ -15,18 +15,18 @@ use command::arguments::{Requested, read_request};
 use command::mistake::say_usage;
 
 // The command line is one of an image and a second word; that is the address here.
-fn main() {
-    if !only_withholds() {
+fn main(rt: HostRuntime) {
+    if !only_withholds(&rt) {
         return;
     }
-    let asked = read_request();
+    let asked = read_request(&rt);
     let requested = asked.requested;
     let withheld = asked.withheld;
     match requested {
-        Requested::Whole(request) => match read_address(request.library) {
-            Address::At(start) => walk(request.image, start, withheld),
-            Address::Wrong(mistake) => say_usage(mistake),
+        Requested::Whole(request) => match read_address(&rt, request.library) {
+            Address::At(start) => walk(&rt, request.image, start, withheld),
+            Address::Wrong(mistake) => say_usage(&rt, mistake),
         },
-        Requested::Wrong(mistake) => say_wrong(mistake),
+        Requested::Wrong(mistake) => say_wrong(&rt, mistake),
     }
 }

@@ -6,19 +6,16 @@ use command::message::say_unwritten;
 use lent::names::name;
 use lent::part::Part;
 use lent::rows::cell;
-use libc::STDOUT_FILENO;
 use routine::{ROW_WIDTH, Why};
+use std::io;
+use system::standard_error::StandardError;
 
 fn digit(n: u64) -> u8 {
     let low = (n % 16) as u8;
     if low < 10 { 48 + low } else { 55 + low }
 }
 
-fn put(text: &[u8]) -> bool {
-    io::write_all(STDOUT_FILENO, text)
-}
-
-fn put_address(n: u64) -> bool {
+fn put_address(rt: &impl Print, n: u64) -> io::Result<()> {
     let text = [
         48,
         120,
@@ -27,7 +24,7 @@ fn put_address(n: u64) -> bool {
         digit(n / 16),
         digit(n),
     ];
-    put(&text)
+    rt.write_all(&text)
 }
 
 fn wide(x: u8) -> u64 {
@@ -42,25 +39,21 @@ fn byte_at(image: &[u8], at: usize) -> u64 {
 }
 
 // A byte of the instruction and a space; spaces behind its last byte.
-fn put_byte(image: &[u8], at: usize, is_there: bool) -> bool {
+fn put_byte(rt: &impl Print, image: &[u8], at: usize, is_there: bool) -> io::Result<()> {
     if !is_there {
-        return put(b"   ");
+        return rt.write_all(b"   ");
     }
     let n = byte_at(image, at);
     let text = [digit(n / 16), digit(n), 32];
-    put(&text)
+    rt.write_all(&text)
 }
 
-fn put_bytes(image: &[u8], at: usize) -> bool {
+fn put_bytes(rt: &impl Print, image: &[u8], at: usize) -> io::Result<()> {
     let opcode = (byte_at(image, at) % 256) as u8;
     let len = opcodes::length_of(&opcodes::length_table(), opcode);
-    if !put_byte(image, at, true) {
-        return false;
-    }
-    if !put_byte(image, std::num::wrapping_add_usize(at, 1), 1 < len) {
-        return false;
-    }
-    put_byte(image, std::num::wrapping_add_usize(at, 2), 2 < len)
+    put_byte(rt, image, at, true)?;
+    put_byte(rt, image, at.wrapping_add(1), 1 < len)?;
+    put_byte(rt, image, at.wrapping_add(2), 2 < len)
 }
 
 // How many bytes of a text stand before the spaces at its end.
@@ -76,7 +69,7 @@ fn trimmed(text: &[u8]) -> usize {
 }
 
 // The manual's form, without the spaces behind it where nothing else follows on the line.
-fn put_form(opcode: u64, is_last: bool) -> bool {
+fn put_form(rt: &impl Print, opcode: u64, is_last: bool) -> io::Result<()> {
     let all = forms();
     let form = name(
         &all,
@@ -86,83 +79,60 @@ fn put_form(opcode: u64, is_last: bool) -> bool {
         },
     );
     if is_last {
-        return put(bytes_of(form, trimmed(form)));
+        return rt.write_all(bytes_of(form, trimmed(form)));
     }
-    put(form)
+    rt.write_all(form)
 }
 
-fn put_target(what: u64, target: u64) -> bool {
-    let said = if what == 1 {
-        put(b"  call ")
+fn put_target(rt: &impl Print, what: u64, target: u64) -> io::Result<()> {
+    if what == 1 {
+        rt.write_all(b"  call ")?;
     } else {
-        put(b"  jump ")
-    };
-    if !said {
-        return false;
+        rt.write_all(b"  jump ")?;
     }
-    put_address(target)
+    put_address(rt, target)
 }
 
-fn put_line(image: &[u8], rows: &[u64], i: usize) -> bool {
+fn put_line(rt: &impl Print, image: &[u8], rows: &[u64], i: usize) -> io::Result<()> {
     let address = cell(rows, ROW_WIDTH, i, 0);
     let what = cell(rows, ROW_WIDTH, i, 1);
     let at = address as usize;
-    if !put_address(address) {
-        return false;
-    }
-    if !put(b"    ") {
-        return false;
-    }
-    if !put_bytes(image, at) {
-        return false;
-    }
-    if !put(b"   ") {
-        return false;
-    }
-    if !put_form(byte_at(image, at), what == 0) {
-        return false;
-    }
+    put_address(rt, address)?;
+    rt.write_all(b"    ")?;
+    put_bytes(rt, image, at)?;
+    rt.write_all(b"   ")?;
+    put_form(rt, byte_at(image, at), what == 0)?;
     if what != 0 {
-        if !put_target(what, cell(rows, ROW_WIDTH, i, 2)) {
-            return false;
-        }
+        put_target(rt, what, cell(rows, ROW_WIDTH, i, 2))?;
     }
-    put(b"\n")
+    rt.write_all(b"\n")
 }
 
-fn put_lines(image: &[u8], rows: &[u64], n: usize) -> bool {
-    let mut i = 0;
-    while i < n {
-        if !put_line(image, rows, i) {
-            return false;
-        }
-        i += 1;
+fn put_lines(rt: &impl Print, image: &[u8], rows: &[u64], n: usize) -> io::Result<()> {
+    for i in 0..n {
+        put_line(rt, image, rows, i)?;
     }
-    true
+    Ok(())
 }
 
-fn put_why(why: Why) -> bool {
+fn put_why(rt: &impl Print, why: Why) -> io::Result<()> {
     match why {
-        Why::Return => put(b"stops: return\n"),
-        Why::Limit => put(b"stops: limit of 256 instructions\n"),
-        Why::Reserved => put(b"stops: reserved opcode A5\n"),
-        Why::End => put(b"stops: the image's end\n"),
-        Why::Withheld => put(b"stops: withheld bytes\n"),
+        Why::Return => rt.write_all(b"stops: return\n"),
+        Why::Limit => rt.write_all(b"stops: limit of 256 instructions\n"),
+        Why::Reserved => rt.write_all(b"stops: reserved opcode A5\n"),
+        Why::End => rt.write_all(b"stops: the image's end\n"),
+        Why::Withheld => rt.write_all(b"stops: withheld bytes\n"),
     }
 }
 
-fn put_all(image: &[u8], rows: &[u64], n: usize, why: Why) -> bool {
-    if !put(b"Address | Bytes     | Instruction       | Target\n") {
-        return false;
-    }
-    if !put_lines(image, rows, n) {
-        return false;
-    }
-    put_why(why)
+fn put_all(rt: &impl Print, image: &[u8], rows: &[u64], n: usize, why: Why) -> io::Result<()> {
+    rt.write_all(b"Address | Bytes     | Instruction       | Target\n")?;
+    put_lines(rt, image, rows, n)?;
+    put_why(rt, why)
 }
 
-pub fn print(image: &[u8], rows: &[u64], n: usize, why: Why) {
-    if !put_all(image, rows, n, why) {
-        say_unwritten();
+pub fn print(rt: &(impl Print + StandardError), image: &[u8], rows: &[u64], n: usize, why: Why) {
+    if let Err(e) = put_all(rt, image, rows, n, why) {
+        say_unwritten(rt, e);
     }
 }

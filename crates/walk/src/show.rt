@@ -6,37 +6,54 @@ use command::message::{say, say_number};
 use image::cover::Stretches;
 use routine::walk::walk_routine;
 use routine::{WalkRefusal, Walked, number};
+use std::env::Env;
+use std::fs::Files;
+use system::standard_error::StandardError;
 
 // Enough for every walk.
 fn rows() -> [u64; 768] {
     [0u64; 768]
 }
 
-fn say_refused(r: WalkRefusal) {
-    say(b"refused (");
-    say_number(number(r) as u64);
-    say(b"): ");
+fn say_refused(rt: &impl StandardError, r: WalkRefusal) {
+    say(rt, b"refused (");
+    say_number(rt, number(r) as u64);
+    say(rt, b"): ");
     match r {
-        WalkRefusal::ImageTooLong => say(b"image too long (more than 65536 bytes)\n"),
-        WalkRefusal::TooManyStretches => say(b"more than 16 stretches are withheld\n"),
-        WalkRefusal::StretchPastEnd => say(b"a stretch that is withheld passes the image's end\n"),
-        WalkRefusal::StartPastEnd => say(b"the address is at or past the image's end\n"),
-        WalkRefusal::NoRoom => say(b"there are too few rows\n"),
+        WalkRefusal::ImageTooLong => say(rt, b"image too long (more than 65536 bytes)\n"),
+        WalkRefusal::TooManyStretches => say(rt, b"more than 16 stretches are withheld\n"),
+        WalkRefusal::StretchPastEnd => say(
+            rt,
+            b"a stretch that is withheld passes the image's end\n",
+        ),
+        WalkRefusal::StartPastEnd => say(rt, b"the address is at or past the image's end\n"),
+        WalkRefusal::NoRoom => say(rt, b"there are too few rows\n"),
     }
 }
 
-fn walk_in(image: &[u8], withheld: Stretches, start: usize, rows: &mut [u64]) {
+fn walk_in(
+    rt: &(impl Print + StandardError),
+    image: &[u8],
+    withheld: Stretches,
+    start: usize,
+    rows: &mut [u64],
+) {
     match walk_routine(image, withheld, start, rows) {
-        Walked::Done { steps, why } => print(image, rows, steps, why),
-        Walked::Refused(r) => say_refused(r),
+        Walked::Done { steps, why } => print(rt, image, rows, steps, why),
+        Walked::Refused(r) => say_refused(rt, r),
     }
 }
 
-pub fn walk(image: usize, start: usize, withheld: Stretches) {
+pub fn walk<R: Env + Files + Print + StandardError>(
+    rt: &R,
+    image: usize,
+    start: usize,
+    withheld: Stretches,
+) {
     let mut room = file::room();
-    let Loaded::Size(n) = load(image, &mut room) else {
+    let Loaded::Size(n) = load(rt, image, &mut room) else {
         return;
     };
     let mut rows = rows();
-    walk_in(bytes_of(&room, n), withheld, start, &mut rows);
+    walk_in(rt, bytes_of(&room, n), withheld, start, &mut rows);
 }

@@ -4,6 +4,9 @@ use command::message::{about, say};
 use command::mistake::{Fault, Mistake, say_usage};
 use command::options::{Kind, Valued, kind_of};
 use command::words;
+use std::env::Env;
+use system::arguments;
+use system::standard_error::StandardError;
 
 // What a word is: --withhold, whose value is the next word; an option of another command; or anything else.
 #[derive(Clone, Copy)]
@@ -13,9 +16,9 @@ enum Word {
     Plain,
 }
 
-fn word_of(i: usize) -> Word {
+fn word_of(rt: &impl Env, i: usize) -> Word {
     let mut room = words::room();
-    let n = words::read_word(i, &mut room);
+    let n = words::read_word(rt, i, &mut room);
     match kind_of(&room[..n]) {
         Kind::NoCheck => Word::Other,
         Kind::Valued(option) => match option {
@@ -27,20 +30,25 @@ fn word_of(i: usize) -> Word {
 }
 
 // Whether no option of another command is given; says so where one is.
-pub fn only_withholds() -> bool {
-    let count = os::arg_count();
+pub fn only_withholds(rt: &(impl Env + StandardError)) -> bool {
+    let count = arguments::count(rt);
     let mut is_value = false;
     let mut i = 1;
     while i < count {
         if is_value {
             is_value = false;
         } else {
-            match word_of(i) {
+            match word_of(rt, i) {
                 Word::Withhold => {
                     is_value = true;
                 }
                 Word::Other => {
-                    about(b"usage: there is no option ", i, b" (--help tells all)\n");
+                    about(
+                        rt,
+                        b"usage: there is no option ",
+                        i,
+                        b" (--help tells all)\n",
+                    );
                     return false;
                 }
                 Word::Plain => {}
@@ -51,20 +59,23 @@ pub fn only_withholds() -> bool {
     true
 }
 
-pub fn say_wrong(m: Mistake) {
+pub fn say_wrong(rt: &(impl Env + StandardError), m: Mistake) {
     let fault = m.fault;
     match fault {
         Fault::ThirdFile => about(
+            rt,
             b"usage: only an image and an address are taken, and there is also ",
             m.word,
             b" (--help tells all)\n",
         ),
         Fault::NoImage => say(
+            rt,
             b"usage: an image and an address are to be named (--help tells all)\n",
         ),
         Fault::NoLibrary => say(
+            rt,
             b"usage: an address is to be named behind the image (--help tells all)\n",
         ),
-        _ => say_usage(m),
+        _ => say_usage(rt, m),
     }
 }

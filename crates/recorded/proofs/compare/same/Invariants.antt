@@ -1,0 +1,11 @@
+-- `same` goes along the numbers. Assumes nothing.
+use Rattle.std.proofs.Common.{◌-◌, length}
+use Rattle.recorded.proofs.compare.same.Given as goal
+
+abbrev pub invariant-loop-i : goal.invariant-loop-i
+invariant-loop-i l =
+    Unit
+
+abbrev pub decreases-loop-i : goal.decreases-loop-i
+decreases-loop-i l =
+    length l.came - l.i

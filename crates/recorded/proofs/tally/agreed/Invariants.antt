@@ -1,0 +1,11 @@
+-- `agreed` goes along the numbers. Assumes nothing.
+use Rattle.std.proofs.Common.{◌-◌}
+use Rattle.recorded.proofs.tally.agreed.Given as goal
+
+abbrev pub invariant-loop-i : goal.invariant-loop-i
+invariant-loop-i l =
+    Unit
+
+abbrev pub decreases-loop-i : goal.decreases-loop-i
+decreases-loop-i l =
+    32 - l.i

@@ -1,0 +1,2 @@
+-- What the contracts on the system cite.
+pub mod Counts
