@@ -7,7 +7,6 @@ use Rattle.std.proofs.Math.Decide.{dec_le}
 use Rattle.std.proofs.lemmas.Bool.{lt-leb}
 use Rattle.lent.specs.ChoiceLaws.{same_test}
 use Rattle.lent.specs.Lists.{one, any}
-use Rattle.image.specs.declared.Stretch.{Stretch}
 use Rattle.image.specs.declared.cover.Stretches.{Stretches}
 use Rattle.image.specs.View.{stretches_in}
 use Rattle.image.specs.Cover.{too_many_stretches, cover_of, no_stretches, one_more, gathered, passes_end}

@@ -1,5 +1,5 @@
 -- The entries of a body: each is one or none, each takes a byte at least, and where those from a place on end. Assumes nothing.
-use Rattle.std.specs.Prelude.{ℕ, ◌+◌, ◌≤◌, ◌<◌, ◌≡◌, refl, List, leb, length}
+use Rattle.std.specs.Prelude.{ℕ, ◌≤◌, ◌≡◌, refl, List, leb, length}
 use Rattle.std.proofs.Common.{subst, leb-true}
 use native.Mathlib.Omega.{arith}
 use Rattle.lent.specs.ChoiceLaws.{chosen}

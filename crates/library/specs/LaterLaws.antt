@@ -1,6 +1,6 @@
 -- A LATER BARE MODULE THAT CAN'T BE READ ends the list of modules, and those before it stay, however many there are: it is no refusal 5. Assumes nothing.
 use Rattle.std.specs.Prelude.{ℕ, ◌≡◌, false, List, [], ◌∷◌, eqb}
-use Rattle.std.proofs.Common.{sym, ap, ◌∙◌}
+use Rattle.std.proofs.Common.{ap, ◌∙◌}
 use Rattle.lent.specs.Lists.{one}
 use Rattle.lent.specs.Parts.{byte_at}
 use Rattle.omf51.specs.declared.Edition.TheVariants.{One}

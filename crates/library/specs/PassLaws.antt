@@ -18,9 +18,9 @@ use Rattle.omf51.proofs.RecordLaws.{FrameFits, fits_by, record-framed, used_all}
 use Rattle.omf51.specs.Entry.{definition_at, fixup_at}
 use Rattle.omf51.specs.Module.{fixups_by, definitions_by}
 use Rattle.omf51.specs.Expected.{allows}
-use Rattle.omf51.specs.Ends.{end_of, entry_end}
+use Rattle.omf51.specs.Ends.{end_of}
 use Rattle.library.specs.RepeatLaws.{Moved, Moves}
-use Rattle.library.specs.EndLaws.{after_end, MovedEnd, end-turn, moved-end, Gave, used_end, least-end}
+use Rattle.library.specs.EndLaws.{after_end, MovedEnd, end-turn, moved-end, used_end, least-end}
 use Rattle.library.specs.Passes.{allowed_for, holds, record_end_by, all_end_by, body_end}
 use Rattle.library.specs.BodyLaws.{definition-gave, fixup-gave}
 

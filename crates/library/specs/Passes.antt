@@ -8,7 +8,6 @@ use Rattle.omf51.specs.declared.Edition.TheVariants.{One, Two}
 use Rattle.omf51.specs.declared.End.{End}
 use Rattle.omf51.specs.declared.Frame.{Frame}
 use Rattle.omf51.specs.declared.types.Allowed.{Allowed}
-use Rattle.omf51.specs.declared.types.Allowed.TheVariants as Allowed
 use Rattle.omf51.specs.declared.entry.Entries.{Entries}
 use Rattle.omf51.specs.declared.entry.Entries.TheVariants.{Definitions, Fixups}
 use Rattle.omf51.specs.Reader.{ReadOutcome, read, stop, refused, Reader, and_then, many}

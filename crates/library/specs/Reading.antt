@@ -14,7 +14,6 @@ use Rattle.omf51.specs.Ends.{end_of}
 use Rattle.library.specs.declared.Counted.{Counted}
 use Rattle.library.specs.declared.Counted.TheVariants.{Modules, Refused}
 use Rattle.library.specs.declared.Reading.{Reading}
-use Rattle.library.specs.declared.Reading.TheVariants as Reading
 
 -- modules in a row: how many, and the place after them; none is refusal 5
 abbrev pub count_of : ReadOutcome (List Module) → Counted

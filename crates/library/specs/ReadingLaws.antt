@@ -15,16 +15,14 @@ use Rattle.omf51.specs.declared.End.{End}
 use Rattle.omf51.specs.declared.End.TheVariants.{At, Stop, Refused}
 use Rattle.omf51.specs.declared.Frame.{Frame}
 use Rattle.omf51.specs.Reader.{ReadOutcome, read, stop, refused, and_then, ◌>>=◌, give, many, not_empty}
-use Rattle.omf51.specs.Record.{leaves_over, expected, expected_by, used_up, whole}
-use Rattle.omf51.proofs.RecordLaws.{record-framed, used_all, not-allowed, not-expected, read_first}
+use Rattle.omf51.specs.Record.{leaves_over, expected_by, used_up, whole}
+use Rattle.omf51.proofs.RecordLaws.{record-framed, used_all, not-expected, read_first}
 use Rattle.omf51.specs.Module.{Module, module_by}
 use Rattle.omf51.specs.File.{modules_by, plain_by, library_by, file_read, file_used, file_by}
 use Rattle.omf51.specs.Expected.{one_type}
 use Rattle.omf51.specs.Ends.{end_of}
 use Rattle.library.specs.declared.Counted.{Counted}
-use Rattle.library.specs.declared.Counted.TheVariants as Counted
 use Rattle.library.specs.declared.Reading.{Reading}
-use Rattle.library.specs.declared.Reading.TheVariants as Reading
 use Rattle.library.specs.EndLaws.{then_end}
 use Rattle.library.specs.PassLaws.{whole-end}
 use Rattle.library.specs.Reading.{count_of, reading_of, reading, type_end}

@@ -17,7 +17,7 @@ use Rattle.omf51.specs.Record.{expected_by, whole, record_by}
 use Rattle.omf51.proofs.RecordLaws.{record-framed, used_all}
 use Rattle.omf51.specs.Entry.{id_size}
 use Rattle.omf51.proofs.EntryLaws.{whole-within, cut-past}
-use Rattle.omf51.specs.Module.{fills, is_idle, fixups_by, content_body, Section, section_by, sections_by}
+use Rattle.omf51.specs.Module.{fills, is_idle, fixups_by, content_body, section_by, sections_by}
 use Rattle.omf51.specs.Ends.{end_of}
 use Rattle.library.specs.RepeatLaws.{Moved, Moves, then-moves, then-stays, many-stays}
 use Rattle.library.specs.EndLaws.{after_end, then_end, MovedEnd, end-turn, moved-end, then-end}

@@ -9,7 +9,7 @@ use Rattle.lent.specs.declared.refusal.Refusal.{Refusal}
 use Rattle.lent.specs.Parts.{byte_at}
 use Rattle.omf51.specs.declared.Edition.{Edition}
 use Rattle.omf51.specs.declared.Edition.TheVariants.{One, Two}
-use Rattle.omf51.specs.Reader.{ReadOutcome, read, stop, refused, Reader, and_then, give}
+use Rattle.omf51.specs.Reader.{ReadOutcome, read, stop, refused, Reader, and_then}
 use Rattle.omf51.specs.Record.{expected, expected_by, record_by}
 use Rattle.omf51.proofs.RecordLaws.{not-expected}
 use Rattle.omf51.specs.Module.{Module, module_at}

@@ -6,18 +6,16 @@ use Rattle.lent.specs.declared.refusal.Refusal.TheVariants.{NamesDiffer, NoModul
 use Rattle.lent.specs.Lists.{one}
 use Rattle.lent.specs.Parts.{same_name}
 use Rattle.omf51.specs.declared.Edition.{Edition}
-use Rattle.omf51.specs.declared.Edition.TheVariants.{One}
 use Rattle.omf51.specs.declared.Definition.{Definition}
 use Rattle.omf51.specs.Reader.{ReadOutcome, read, stop, refused, Reader, and_then, give, refuse, after, many}
-use Rattle.omf51.specs.Module.{Section, Module, definitions_by, sections_by, module_by, definitions_at, sections_at, module_at}
+use Rattle.omf51.specs.Module.{Section, Module, definitions_by, sections_by, module_by}
 use Rattle.library.specs.declared.Places.{Places}
 use Rattle.library.specs.declared.ModuleAt.{ModuleAt}
-use Rattle.library.specs.declared.ModuleAt.TheVariants as ModuleAt
 use Rattle.library.specs.declared.Counted.{Counted}
 use Rattle.library.specs.declared.Counted.TheVariants.{Modules, Refused}
 use Rattle.library.specs.Gathered.{items_at, followed}
 use Rattle.library.specs.RepeatLaws.{Moved, Stayed, Moves, moved-stays, then-stays, then-moves, many-stays, onto, many-turn, items-turn, many-items}
-use Rattle.library.specs.Passes.{head_by, last_by, last_places, rest_places, places_by, places_at, places_read}
+use Rattle.library.specs.Passes.{head_by, last_by, last_places, rest_places, places_by, places_read}
 use Rattle.library.specs.PassLaws.{record-moves, definitions-move}
 use Rattle.library.specs.SectionLaws.{sections-move}
 use Rattle.library.specs.Reading.{count_of}

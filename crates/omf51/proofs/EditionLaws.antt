@@ -8,11 +8,10 @@ use mathlib.Core.List.{List, [], ◌++◌}
 use Rattle.std.proofs.Math.Option.{some}
 use Rattle.lent.specs.declared.refusal.Refusal.{Refusal}
 use Rattle.lent.specs.declared.refusal.Refusal.TheVariants.{WrongSum, LeftOver}
-use Rattle.lent.specs.ChoiceLaws.{chosen}
-use Rattle.lent.specs.Parts.{byte_at, same_name}
+use Rattle.lent.specs.Parts.{byte_at}
 use Rattle.omf51.specs.declared.Edition.TheVariants.{One, Two}
 use Rattle.omf51.specs.declared.Frame.{Frame}
-use Rattle.omf51.specs.Reader.{ReadOutcome, read, stop, refused, Reader, and_then, give, after, repeat, many, not_empty}
+use Rattle.omf51.specs.Reader.{ReadOutcome, read, stop, refused, Reader, and_then, after, repeat, not_empty}
 use Rattle.omf51.specs.Record.{expected, record_sum, summed, expected_by, leaves_over, used_up, whole, record_by}
 use Rattle.omf51.specs.Module.{Module, fills, is_idle, content_body, definitions_by, fixups_by, section_by, sections_by, module_by}
 use Rattle.omf51.specs.File.{modules_by, plain_by, library_by, file_read, file_used, file_by, file, file_refusal}

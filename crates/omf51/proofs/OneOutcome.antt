@@ -7,10 +7,8 @@ use Rattle.omf51.specs.declared.Edition.{Edition}
 use Rattle.omf51.specs.declared.Frame.{Frame}
 use Rattle.omf51.specs.declared.types.Allowed.{Allowed}
 use Rattle.omf51.specs.declared.record.Framed.{Framed}
-use Rattle.omf51.specs.declared.record.Framed.TheVariants as Framed
 use Rattle.omf51.specs.declared.entry.Entries.{Entries}
 use Rattle.omf51.specs.declared.entry.Named.{Named}
-use Rattle.omf51.specs.declared.entry.Named.TheVariants as Named
 use Rattle.omf51.specs.Record.{edition_of, expected, expected_by, leaves_over, record_by}
 use Rattle.omf51.specs.Entry.{name_part, segment_size, id_size, is_segment, is_public, name_offset, name_with}
 use Rattle.omf51.specs.Module.{defines, fills}

@@ -7,7 +7,6 @@ use Rattle.omf51.specs.declared.End.TheVariants.{At, Stop, Refused}
 use Rattle.omf51.specs.declared.entry.Entries.{Entries}
 use Rattle.omf51.specs.declared.entry.Entries.TheVariants.{Definitions, Fixups}
 use Rattle.omf51.specs.declared.entry.Named.{Named}
-use Rattle.omf51.specs.declared.entry.Named.TheVariants as Named
 use Rattle.omf51.specs.Reader.{ReadOutcome, read, stop, refused, many, at_least_one}
 use Rattle.omf51.specs.Entry.{definition_at, fixup_at}
 

@@ -9,7 +9,7 @@ use Rattle.omf51.specs.declared.Frame.{Frame}
 use Rattle.omf51.specs.declared.Definition.{Definition}
 use Rattle.omf51.specs.declared.Content.{Content}
 use Rattle.omf51.specs.declared.Fixup.{Fixup}
-use Rattle.omf51.specs.Reader.{read, Reader, and_then, ◌>>=◌, give, refuse, many, at_least_one}
+use Rattle.omf51.specs.Reader.{Reader, and_then, ◌>>=◌, give, refuse, many, at_least_one}
 use Rattle.omf51.specs.Record.{whole, record_by}
 use Rattle.omf51.specs.Entry.{ending, name_with, id_size, id_at, definition_at, fixup_at}
 

@@ -7,7 +7,7 @@ use Rattle.lent.specs.Parts.{byte_at, word_at}
 use Rattle.omf51.specs.declared.Edition.{Edition}
 use Rattle.omf51.specs.declared.Edition.TheVariants.{One, Two}
 use Rattle.omf51.specs.declared.Frame.{Frame}
-use Rattle.omf51.specs.Reader.{ReadOutcome, read, stop, refused, Reader, and_then}
+use Rattle.omf51.specs.Reader.{read, stop, refused, Reader, and_then}
 
 -- the record at a place, whatever its type; the reader stops where a length byte or the checksum byte is missing
 unfoldable pub frame_at : List ℕ → Reader Frame

@@ -1,5 +1,5 @@
 -- `is_apart`: without a pair nothing is asked. Assumes nothing.
-use Rattle.std.proofs.Common.{sym, rules}
+use Rattle.std.proofs.Common.{sym}
 use Rattle.image.proofs.WindowLaws.{no-pair}
 use Rattle.image.proofs.is_apart.Goals as goal
 

@@ -1,5 +1,5 @@
 -- `is_beside` gives one of four answers, each by a law of windows. Assumes nothing.
-use Rattle.std.proofs.Common.{sym, rules}
+use Rattle.std.proofs.Common.{sym}
 use Rattle.image.proofs.WindowLaws.{no-window, no-stretch, window-before, window-after}
 use Rattle.image.proofs.is_beside.Goals as goal
 

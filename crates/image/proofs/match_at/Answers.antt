@@ -1,5 +1,5 @@
 -- `match_at` asks the image, and where the pattern stands there, the window. Assumes nothing.
-use Rattle.std.proofs.Common.{◌&&◌, length, sym, ap, ◌∙◌, rules}
+use Rattle.std.proofs.Common.{◌&&◌, length, sym, ap, ◌∙◌}
 use Rattle.image.specs.View.{stretches_in}
 use Rattle.image.specs.Window.{is_apart}
 use Rattle.image.proofs.ViewMatchLaws.{seen-both}

@@ -1,7 +1,6 @@
-use Rattle.std.proofs.Common.{◌≡◌, ℕ, ◌+◌, ◌-◌, List, length, sym, refl, ◌∙◌, arith, rules}
+use Rattle.std.proofs.Common.{◌+◌, sym, refl, ◌∙◌, arith}
 use Rattle.image.specs.View.{stretches_in, view}
 use Rattle.image.proofs.ViewLaws.{view-length}
-use Rattle.image.specs.Next.{next_match}
 use Rattle.image.proofs.NextLaws.{next-match, next-other, next_past}
 use Rattle.image.proofs.next_match.Goals as goal
 

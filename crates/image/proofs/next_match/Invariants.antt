@@ -1,9 +1,7 @@
 -- `next_match` goes from place to place. The invariant: the next match from here is the next from the start. Assumes nothing.
-use Rattle.std.proofs.Common.{◌≡◌, ℕ, ◌+◌, ◌-◌, List, length, sym, refl, ◌∙◌, arith, rules}
+use Rattle.std.proofs.Common.{◌≡◌, ℕ, ◌+◌, ◌-◌, List, length}
 use Rattle.image.specs.View.{stretches_in, view}
-use Rattle.image.proofs.ViewLaws.{view-length}
 use Rattle.image.specs.Next.{next_match}
-use Rattle.image.proofs.NextLaws.{next-match, next-other, next_past}
 use Rattle.image.proofs.next_match.Given as goal
 
 pub record Inv (image s bytes masks : List ℕ) (from last at : ℕ) : Type 0 where

@@ -1,5 +1,4 @@
-use Rattle.std.proofs.Common.{◌≡◌, ℕ, ◌+◌, ◌-◌, ◌≤◌, eqb, List, sym, arith, rules}
-use Rattle.image.specs.Match.{part_agrees}
+use Rattle.std.proofs.Common.{◌≡◌, ◌+◌, sym, arith, rules}
 use Rattle.image.proofs.MatchLaws.{part_none, part-turn}
 use Rattle.image.proofs.part_agrees.Goals as goal
 

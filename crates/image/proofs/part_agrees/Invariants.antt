@@ -1,7 +1,6 @@
 -- `part_agrees` puts together what differs. The invariant: it is nothing exactly if all bytes so far agree. Assumes nothing.
-use Rattle.std.proofs.Common.{◌≡◌, ℕ, ◌+◌, ◌-◌, ◌≤◌, eqb, List, sym, arith, rules}
+use Rattle.std.proofs.Common.{◌≡◌, ℕ, ◌-◌, ◌≤◌, eqb, List}
 use Rattle.image.specs.Match.{part_agrees}
-use Rattle.image.proofs.MatchLaws.{part_none, part-turn}
 use Rattle.image.proofs.part_agrees.Given as goal
 
 pub record Inv (image bytes masks : List ℕ) (at i differ j : ℕ) : Type 0 where

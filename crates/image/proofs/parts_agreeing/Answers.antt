@@ -1,6 +1,4 @@
-use Rattle.std.proofs.Common.{◌≡◌, ℕ, ◌+◌, ◌-◌, List, sym, ◌∙◌, arith, rules}
-use borrow.Author.Tests.{not-false}
-use Rattle.image.specs.Match.{Agreeing}
+use Rattle.std.proofs.Common.{◌+◌, sym, ◌∙◌, arith}
 use Rattle.image.proofs.MatchLaws.{none-agreeing, part-fewer, part-joins}
 use Rattle.image.proofs.parts_agreeing.Goals as goal
 

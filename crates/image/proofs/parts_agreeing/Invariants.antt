@@ -1,8 +1,6 @@
 -- `parts_agreeing` goes by parts of 32 bytes. The invariant: all bytes so far agree. Assumes nothing.
-use Rattle.std.proofs.Common.{◌≡◌, ℕ, ◌+◌, ◌-◌, List, sym, ◌∙◌, arith, rules}
-use borrow.Author.Tests.{not-false}
+use Rattle.std.proofs.Common.{◌≡◌, ℕ, ◌+◌, ◌-◌, List}
 use Rattle.image.specs.Match.{Agreeing}
-use Rattle.image.proofs.MatchLaws.{none-agreeing, part-fewer, part-joins}
 use Rattle.image.proofs.parts_agreeing.Given as goal
 
 pub record Inv (image bytes masks : List ℕ) (at n last i : ℕ) : Type 0 where

@@ -1,5 +1,4 @@
-use Rattle.std.proofs.Common.{◌≡◌, ◌+◌, ◌-◌, sym, arith, rules}
-use Rattle.image.specs.Match.{Agreeing}
+use Rattle.std.proofs.Common.{◌≡◌, ◌+◌, sym, arith, rules}
 use Rattle.image.proofs.MatchLaws.{part-next, part-fails}
 use Rattle.image.proofs.rest_agrees.Goals as goal
 

@@ -1,7 +1,6 @@
 -- `rest_agrees` goes byte by byte. The invariant: all bytes so far agree. Assumes nothing.
-use Rattle.std.proofs.Common.{◌≡◌, ◌+◌, ◌-◌, sym, arith, rules}
+use Rattle.std.proofs.Common.{◌-◌}
 use Rattle.image.specs.Match.{Agreeing}
-use Rattle.image.proofs.MatchLaws.{part-next, part-fails}
 use Rattle.image.proofs.rest_agrees.Given as goal
 
 abbrev pub invariant-loop-i : goal.invariant-loop-i

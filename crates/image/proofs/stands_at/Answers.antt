@@ -1,6 +1,5 @@
 -- `stands_at` asks for all that has a mask, at once or after the first bytes. Assumes nothing.
 use Rattle.std.proofs.Common.{sym, ◌∙◌, arith, rules}
-use borrow.Author.Tests.{not-true}
 use Rattle.image.proofs.MatchLaws.{none-agreeing, match-past, part-within, part-whole}
 use Rattle.image.proofs.stands_at.Goals as goal
 

@@ -1,5 +1,4 @@
 -- `stretch_at` reads a pair. Assumes nothing.
-use Rattle.std.proofs.Common.{◌≡◌, rules}
 use Rattle.image.proofs.stretch_at.Goals as goal
 
 pub returns : goal.returns

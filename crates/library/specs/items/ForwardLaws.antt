@@ -20,9 +20,7 @@ use Rattle.library.specs.declared.items.Cursor.{Cursor}
 use Rattle.library.specs.declared.items.Step.{Step}
 use Rattle.library.specs.declared.items.Step.TheVariants.{Entry, Done}
 use Rattle.library.specs.declared.items.NextDefinition.{NextDefinition}
-use Rattle.library.specs.declared.items.NextDefinition.TheVariants as NextDefinition
 use Rattle.library.specs.declared.items.NextFixup.{NextFixup}
-use Rattle.library.specs.declared.items.NextFixup.TheVariants as NextFixup
 use Rattle.library.specs.items.Walk.{entry_in, entered_at, after_record, after_entry, steps, next_entry}
 use Rattle.library.specs.items.Items.{past, next_definition, definition_step, next_fixup, fixup_step}
 use Rattle.library.specs.items.ItemLaws.{entry_whole, definition-room, fixup-room}

@@ -11,9 +11,7 @@ use Rattle.library.specs.declared.items.Cursor.{Cursor}
 use Rattle.library.specs.declared.items.Step.{Step}
 use Rattle.library.specs.declared.items.Step.TheVariants.{Entry, Done}
 use Rattle.library.specs.declared.items.NextDefinition.{NextDefinition}
-use Rattle.library.specs.declared.items.NextDefinition.TheVariants as NextDefinition
 use Rattle.library.specs.declared.items.NextFixup.{NextFixup}
-use Rattle.library.specs.declared.items.NextFixup.TheVariants as NextFixup
 use Rattle.library.specs.items.Walk.{next_entry}
 
 -- a definition where it is whole, with its name; and a fixup

@@ -1,5 +1,5 @@
 -- The steps of a walk yield exactly the definition's lists, in file order. Assumes nothing.
-use Rattle.std.specs.Prelude.{ℕ, zero, suc, ◌+◌, ◌-◌, ◌≤◌, ◌<◌, ◌≡◌, refl, List, [], ◌∷◌, ◌++◌, length}
+use Rattle.std.specs.Prelude.{ℕ, zero, suc, ◌-◌, ◌≤◌, ◌<◌, ◌≡◌, refl, List, [], ◌∷◌, ◌++◌, length}
 use Rattle.std.proofs.Common.{sym, subst, ◌∙◌, arith}
 use Rattle.omf51.specs.declared.Edition.TheVariants.{One}
 use Rattle.omf51.specs.declared.Frame.{Frame}
@@ -23,11 +23,8 @@ use Rattle.library.specs.declared.items.Cursor.{Cursor}
 use Rattle.library.specs.declared.items.Step.{Step}
 use Rattle.library.specs.declared.items.Step.TheVariants.{Entry, Done}
 use Rattle.library.specs.declared.items.NextDefinition.{NextDefinition}
-use Rattle.library.specs.declared.items.NextDefinition.TheVariants as NextDefinition
 use Rattle.library.specs.declared.items.NextFixup.{NextFixup}
-use Rattle.library.specs.declared.items.NextFixup.TheVariants as NextFixup
 use Rattle.library.specs.declared.items.NextContent.{NextContent}
-use Rattle.library.specs.declared.items.NextContent.TheVariants as NextContent
 use Rattle.library.specs.items.Walk.{start_at, next_entry}
 use Rattle.library.specs.items.Items.{definition_here, fixup_here, next_definition, definition_step, next_fixup, fixup_step}
 use Rattle.library.specs.items.ItemLaws.{definition-read, definition-room, fixup-read, fixup-room}

@@ -1,5 +1,5 @@
 -- Keys and names: when two of them are the same, and which bucket they are in. Assumes nothing.
-use Rattle.std.specs.Prelude.{◌≡◌, ℕ, ◌+◌, ◌-◌, ◌*◌, ◌%◌, ◌<◌, ◌≤◌, true, false, List, [], ◌∷◌, length, take, drop, ◌==◌, slice_index, refl}
+use Rattle.std.specs.Prelude.{◌≡◌, ℕ, ◌+◌, ◌-◌, ◌*◌, ◌%◌, ◌<◌, ◌≤◌, true, List, [], ◌∷◌, length, take, drop, ◌==◌, slice_index, refl}
 use Rattle.std.proofs.Common.{sym, arith, eq-eqb, eqb-true, le-leb, drop_of_length-le}
 use Rattle.std.proofs.lemmas.Bool.{false≢true, lt-leb}
 use Rattle.lent.specs.declared.part.Part.{Part}

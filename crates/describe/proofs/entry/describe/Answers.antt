@@ -3,7 +3,6 @@ use mathlib.Core.Path.{sym, ap, ◌∙◌}
 use native.Mathlib.Omega.{arith}
 use Rattle.describe.specs.Described.{sentence_in}
 use Rattle.describe.specs.DescribedLaws.{undescribed, too_short, fits}
-use borrow.Author.Rules.{rules}
 use Rattle.describe.proofs.entry.describe.Goals as goal
 
 pub returns-then-out-size : goal.returns-then-out-size

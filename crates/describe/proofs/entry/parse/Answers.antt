@@ -2,7 +2,6 @@
 use mathlib.Core.Path.{◌∙◌}
 use Rattle.describe.specs.Describe.{signs}
 use Rattle.describe.specs.DescribedLaws.{known, perhaps-said, no_front, no_kind, operates, moves-on}
-use borrow.Author.Rules.{rules}
 use Rattle.describe.proofs.entry.parse.Goals as goal
 
 pub returns-in_default : goal.returns-in_default

@@ -3,7 +3,6 @@ use lib.ListN.{drop}
 use Rattle.describe.specs.Describe.{into}
 use Rattle.describe.specs.Described.{say}
 use Rattle.describe.specs.DescribedLaws.{known, perhaps-said, no_move, no-memory, all_moved}
-use borrow.Author.Rules.{rules}
 use Rattle.describe.proofs.entry.parse_moving.Goals as goal
 
 pub returns-in_default : goal.returns-in_default

@@ -1,7 +1,6 @@
 -- `listing::describe::perhaps` meets its contract, case by case.
 use mathlib.Core.Path.{sym, ap}
 use Rattle.describe.specs.Described.{taken}
-use borrow.Author.Rules.{rules}
 use Rattle.describe.proofs.entry.perhaps.Goals as goal
 
 pub returns-in-Took : goal.returns-in-Took

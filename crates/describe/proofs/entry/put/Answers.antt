@@ -1,10 +1,7 @@
-use Prim.Native.Nat.{◌+◌, ◌-◌, ◌≤◌}
-use mathlib.Core.Path.{◌≡◌, refl, sym, ap, ◌∙◌}
+use Prim.Native.Nat.{◌+◌}
+use mathlib.Core.Path.{refl, sym, ap, ◌∙◌}
 use native.Mathlib.Omega.{arith}
-use lib.ListN.{length, length-set}
-use lib.Seq.{sets}
-use borrow.Author.Rules.{rules}
-use Rattle.describe.specs.Described.{say_at}
+use lib.ListN.{length-set}
 use Rattle.describe.specs.DescribedLaws.{length-say, puts_none, puts-more, puts-all}
 use Rattle.describe.proofs.entry.put.Goals as goal
 

@@ -1,12 +1,9 @@
 -- `listing::describe::put` meets its contract: what is left to store completes what the whole text stored from the start.
 use Prim.Native.Nat.{◌+◌, ◌-◌, ◌≤◌}
-use mathlib.Core.Path.{◌≡◌, refl, sym, ap, ◌∙◌}
-use native.Mathlib.Omega.{arith}
-use lib.ListN.{length, length-set}
+use mathlib.Core.Path.{◌≡◌}
+use lib.ListN.{length}
 use lib.Seq.{sets}
-use borrow.Author.Rules.{rules}
 use Rattle.describe.specs.Described.{say_at}
-use Rattle.describe.specs.DescribedLaws.{length-say, puts_none, puts-more, puts-all}
 use Rattle.describe.proofs.entry.put.Given as goal
 
 abbrev pub invariant-loop-j : goal.invariant-loop-j

@@ -1,6 +1,5 @@
 -- `listing::describe::size` meets its contract: a text is as long as its pieces.
 use Rattle.describe.specs.DescribedLaws.{length-sentence}
-use borrow.Author.Rules.{rules}
 use Rattle.describe.proofs.entry.size.Goals as goal
 
 pub returns : goal.returns

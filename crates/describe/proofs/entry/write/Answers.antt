@@ -1,7 +1,6 @@
 -- `listing::describe::write` meets its contract: the pieces, one after another.
 use native.Mathlib.Omega.{arith}
 use Rattle.describe.specs.DescribedLaws.{length-pieces, ◌then-put◌}
-use borrow.Author.Rules.{rules}
 use Rattle.describe.proofs.entry.write.Goals as goal
 
 pub put-a-requires : goal.put-a-requires

@@ -1,5 +1,4 @@
 -- `listing::words::movement` meets its contract: its table spells the definition's words in their order, LD before LDI.
-use borrow.Author.Rules.{rules}
 use Rattle.describe.proofs.vocabulary.movement.Goals as goal
 
 pub returns : goal.returns

@@ -1,11 +1,7 @@
-use Prim.Native.Nat.{◌-◌, ◌≤◌}
-use mathlib.Core.Path.{◌≡◌, refl, ◌∙◌}
+use mathlib.Core.Path.{refl, ◌∙◌}
 use native.Mathlib.Omega.{arith}
-use lib.ListN.{length, drop}
-use borrow.Author.Rules.{rules}
-use Rattle.describe.specs.Describe.{one_of}
-use Rattle.describe.specs.Described.{table_of}
-use Rattle.describe.specs.WordLaws.{table_from, table-turn, table-end}
+use lib.ListN.{drop}
+use Rattle.describe.specs.WordLaws.{table-turn, table-end}
 use Rattle.describe.proofs.vocabulary.one_of.Goals as goal
 
 pub loop-k-init : goal.loop-k-init

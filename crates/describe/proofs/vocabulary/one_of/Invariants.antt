@@ -1,12 +1,10 @@
 -- `listing::words::one_of` meets its contract: the words from the k-th on decide, since none before them stands there.
 use Prim.Native.Nat.{◌-◌, ◌≤◌}
-use mathlib.Core.Path.{◌≡◌, refl, ◌∙◌}
-use native.Mathlib.Omega.{arith}
+use mathlib.Core.Path.{◌≡◌}
 use lib.ListN.{length, drop}
-use borrow.Author.Rules.{rules}
 use Rattle.describe.specs.Describe.{one_of}
 use Rattle.describe.specs.Described.{table_of}
-use Rattle.describe.specs.WordLaws.{table_from, table-turn, table-end}
+use Rattle.describe.specs.WordLaws.{table_from}
 use Rattle.describe.proofs.vocabulary.one_of.Given as goal
 
 abbrev pub invariant-loop-k : goal.invariant-loop-k

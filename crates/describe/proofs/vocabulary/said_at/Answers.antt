@@ -1,7 +1,6 @@
 -- `listing::words::said_at` meets its contract: the bytes are those that the definition's words say, one after another.
 use mathlib.Core.Path.{refl, sym}
 use native.Mathlib.Omega.{arith}
-use borrow.Author.Rules.{rules}
 use Rattle.describe.specs.Described.{said}
 use Rattle.describe.specs.WordLaws.{get_d_past}
 use Rattle.describe.proofs.vocabulary.said_at.Goals as goal

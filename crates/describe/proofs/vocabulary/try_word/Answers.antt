@@ -1,9 +1,8 @@
-use Prim.Native.Nat.{◌-◌, ◌≤◌}
-use mathlib.Core.Path.{◌≡◌, sym, ◌∙◌}
+use mathlib.Core.Path.{sym, ◌∙◌}
 use native.Mathlib.Omega.{arith}
-use lib.ListN.{length, take, length-take}
+use lib.ListN.{length-take}
 use lib.Seq.{get_or-take}
-use Rattle.describe.specs.WordLaws.{Reading, reading-starts, reading-more, reading-ends, reading-past, reading-other}
+use Rattle.describe.specs.WordLaws.{reading-starts, reading-more, reading-ends, reading-past, reading-other}
 use Rattle.describe.proofs.vocabulary.try_word.Goals as goal
 
 pub loop-j-init : goal.loop-j-init

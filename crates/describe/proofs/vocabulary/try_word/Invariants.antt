@@ -1,10 +1,8 @@
 -- `listing::words::try_word` meets its contract: j letters agree, and what is left of the name and of the word decides.
 use Prim.Native.Nat.{◌-◌, ◌≤◌}
-use mathlib.Core.Path.{◌≡◌, sym, ◌∙◌}
-use native.Mathlib.Omega.{arith}
-use lib.ListN.{length, take, length-take}
-use lib.Seq.{get_or-take}
-use Rattle.describe.specs.WordLaws.{Reading, reading-starts, reading-more, reading-ends, reading-past, reading-other}
+use mathlib.Core.Path.{◌≡◌}
+use lib.ListN.{length, take}
+use Rattle.describe.specs.WordLaws.{Reading}
 use Rattle.describe.proofs.vocabulary.try_word.Given as goal
 
 abbrev pub invariant-loop-j : goal.invariant-loop-j

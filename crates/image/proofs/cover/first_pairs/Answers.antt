@@ -1,5 +1,5 @@
 -- `first_pairs` hands back the front of the pairs, or all of them where there are fewer. Assumes nothing.
-use Rattle.std.proofs.Common.{◌*◌, min, take, sym, ap, ◌∙◌, arith, take_all, rules}
+use Rattle.std.proofs.Common.{◌*◌, min, take, sym, ap, ◌∙◌, arith, take_all}
 use native.Mathlib.Nat.{sub-zero}
 use Rattle.image.proofs.cover.first_pairs.Goals as goal
 

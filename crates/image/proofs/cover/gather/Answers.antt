@@ -1,6 +1,5 @@
-use Rattle.std.proofs.Common.{◌≡◌, ℕ, ◌+◌, ◌-◌, ◌≤◌, List, length, drop, sym, ap, ◌∙◌, arith, rules}
-use Rattle.image.specs.declared.cover.Stretches.{Stretches}
-use Rattle.image.specs.Cover.{no_stretches, gathered}
+use Rattle.std.proofs.Common.{◌+◌, drop, sym, ap, ◌∙◌, arith}
+use Rattle.image.specs.Cover.{gathered}
 use Rattle.image.proofs.CoverLaws.{gathered-turn, gathered-last, gathered-end}
 use Rattle.image.proofs.cover.gather.Goals as goal
 

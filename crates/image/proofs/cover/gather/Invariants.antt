@@ -1,8 +1,7 @@
 -- `gather` goes from pair to pair. The invariant: with those that are left it gathers all. Assumes nothing.
-use Rattle.std.proofs.Common.{◌≡◌, ℕ, ◌+◌, ◌-◌, ◌≤◌, List, length, drop, sym, ap, ◌∙◌, arith, rules}
+use Rattle.std.proofs.Common.{◌≡◌, ℕ, ◌-◌, ◌≤◌, List, length, drop}
 use Rattle.image.specs.declared.cover.Stretches.{Stretches}
 use Rattle.image.specs.Cover.{no_stretches, gathered}
-use Rattle.image.proofs.CoverLaws.{gathered-turn, gathered-last, gathered-end}
 use Rattle.image.proofs.cover.gather.Given as goal
 
 pub record Inv (numbers : List ℕ) (w : Stretches) (i : ℕ) : Type 0 where

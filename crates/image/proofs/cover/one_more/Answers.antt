@@ -1,5 +1,5 @@
 -- `one_more`: too many, or a pair behind the others. Assumes nothing.
-use Rattle.std.proofs.Common.{arith, rules, le-leb}
+use Rattle.std.proofs.Common.{arith, le-leb}
 use borrow.Author.Tests.{lt-leb}
 use Rattle.image.proofs.cover.one_more.Goals as goal
 

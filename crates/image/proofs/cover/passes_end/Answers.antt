@@ -1,6 +1,5 @@
-use Rattle.std.proofs.Common.{◌≡◌, ℕ, ◌+◌, ◌-◌, ◌≤◌, true, false, List, length, drop, sym, refl, ap, ◌∙◌, arith, rules}
-use Rattle.image.specs.View.{stretches_in}
-use Rattle.image.specs.Cover.{ends_past, passes_end}
+use Rattle.std.proofs.Common.{true, false, sym, refl, ap, ◌∙◌, arith}
+use Rattle.image.specs.Cover.{ends_past}
 use Rattle.image.proofs.CoverLaws.{ends-turn, ends-none}
 use Rattle.image.proofs.cover.passes_end.Goals as goal
 

@@ -1,8 +1,7 @@
 -- `passes_end` goes from stretch to stretch. The invariant: those that are left decide. Assumes nothing.
-use Rattle.std.proofs.Common.{◌≡◌, ℕ, ◌+◌, ◌-◌, ◌≤◌, true, false, List, length, drop, sym, refl, ap, ◌∙◌, arith, rules}
+use Rattle.std.proofs.Common.{◌≡◌, ℕ, ◌+◌, ◌-◌, ◌≤◌, List, length, drop}
 use Rattle.image.specs.View.{stretches_in}
-use Rattle.image.specs.Cover.{ends_past, passes_end}
-use Rattle.image.proofs.CoverLaws.{ends-turn, ends-none}
+use Rattle.image.specs.Cover.{passes_end}
 use Rattle.image.proofs.cover.passes_end.Given as goal
 
 pub record Inv (s : List ℕ) (len i : ℕ) : Type 0 where

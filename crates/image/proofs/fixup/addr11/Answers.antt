@@ -1,5 +1,5 @@
 -- `addr11` joins bits that do not overlap. Assumes nothing.
-use Rattle.std.proofs.Common.{arith, rules}
+use Rattle.std.proofs.Common.{arith}
 use Rattle.image.specs.fixup.Target.{top_bits}
 use Rattle.image.proofs.fixup.AddressLaws.{top_small, joined11}
 use Rattle.image.proofs.fixup.addr11.Goals as goal

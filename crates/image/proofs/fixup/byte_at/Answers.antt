@@ -1,5 +1,5 @@
 -- `byte_at` is 0 past the end. Assumes nothing.
-use Rattle.std.proofs.Common.{sym, rules}
+use Rattle.std.proofs.Common.{sym}
 use lib.ListN.{get_or-eq_default}
 use Rattle.image.proofs.fixup.byte_at.Goals as goal
 

@@ -1,5 +1,4 @@
 -- `counted` by the rule set. Assumes nothing.
-use Rattle.std.proofs.Common.{◌≡◌, sym, rules}
 use Rattle.image.proofs.fixup.counted.Goals as goal
 
 pub returns-in-AsFound : goal.returns-in-AsFound

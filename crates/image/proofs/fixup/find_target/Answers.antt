@@ -1,12 +1,11 @@
 -- `find_target`: bytes past the end, withheld ones, and those that can be read, which are the image's. Assumes nothing.
-use Rattle.std.proofs.Common.{◌≡◌, ◌+◌, ◌<◌, ◌≤◌, true, false, ltb, length, sym, ap, ◌∙◌, arith, rules, ltb-false, ltb-true}
+use Rattle.std.proofs.Common.{◌≡◌, ◌+◌, ◌≤◌, ltb, length, sym, ap, ◌∙◌, arith, ltb-false, ltb-true}
 use Rattle.image.specs.View.{stretches_in}
 use Rattle.image.specs.Window.{is_apart}
 use Rattle.image.specs.fixup.Target.{reads}
 use Rattle.image.proofs.fixup.TargetLaws.{Bytes, target_past, target-withheld}
 use Rattle.image.proofs.fixup.AddressLaws.{reads-some, target_at}
 use Rattle.image.specs.declared.fixup.Target.TheVariants.{At}
-use borrow.Author.Tests.{not-true, not-false}
 use Rattle.image.proofs.fixup.find_target.Goals as goal
 
 pub returns-then-passes : goal.returns-then-passes

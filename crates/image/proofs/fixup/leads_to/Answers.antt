@@ -1,6 +1,5 @@
 -- `leads_to` by the kind. Assumes nothing.
 use Rattle.image.proofs.fixup.AddressLaws.{leads-relative, leads-word, leads-inblock}
-use Rattle.std.proofs.Common.{rules}
 use Rattle.image.proofs.fixup.leads_to.Goals as goal
 
 pub returns-in-Relative : goal.returns-in-Relative

@@ -1,5 +1,5 @@
 -- `passes`: n bytes are more than there are, or there is too little behind the place, or neither. Assumes nothing.
-use Rattle.std.proofs.Common.{◌+◌, sym, arith, rules, le-ltb, lt-ltb}
+use Rattle.std.proofs.Common.{◌+◌, sym, arith, le-ltb, lt-ltb}
 use Rattle.image.proofs.fixup.passes.Goals as goal
 
 pub returns-then-end-n : goal.returns-then-end-n

@@ -1,5 +1,5 @@
 -- `signed` by its two cases. Assumes nothing.
-use Rattle.std.proofs.Common.{◌+◌, sym, ap, ◌∙◌, rules}
+use Rattle.std.proofs.Common.{◌+◌, sym, ap, ◌∙◌}
 use Rattle.image.proofs.fixup.AddressLaws.{signed_low, signed_high}
 use Rattle.image.proofs.fixup.signed.Goals as goal
 

@@ -1,5 +1,5 @@
 -- `top_bits` by the rule set. Assumes nothing.
-use Rattle.std.proofs.Common.{sym, ap, ◌∙◌, rules}
+use Rattle.std.proofs.Common.{sym, ap, ◌∙◌}
 use Rattle.image.specs.fixup.Target.{top_bits}
 use Rattle.image.proofs.fixup.top_bits.Goals as goal
 

@@ -1,6 +1,5 @@
 -- `closing_end`: each record from where the one before ended. Assumes nothing.
 use mathlib.Core.Path.{sym, ◌∙◌}
-use borrow.Author.Rules.{rules}
 use Rattle.library.proofs.file.closing_end.Goals as goal
 
 pub returns-in-At-type_end : goal.returns-in-At-type_end

@@ -1,5 +1,4 @@
 -- `count_by`, by the edition. Assumes nothing.
-use borrow.Author.Rules.{rules}
 use Rattle.library.proofs.file.count_by.Goals as goal
 
 pub returns-in-One : goal.returns-in-One

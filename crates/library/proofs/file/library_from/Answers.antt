@@ -1,7 +1,6 @@
 -- `library_from`: the modules, and then the closing records. Assumes nothing.
 use mathlib.Core.Path.{sym, ◌∙◌}
 use Rattle.library.specs.ReadingLaws.{library-known, library-closed}
-use borrow.Author.Rules.{rules}
 use Rattle.library.proofs.file.library_from.Goals as goal
 
 pub returns-in-At : goal.returns-in-At

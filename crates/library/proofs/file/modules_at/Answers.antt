@@ -1,7 +1,6 @@
 -- `modules_at`: none in a row is refusal 5. Assumes nothing.
 use mathlib.Core.Path.{sym, ◌∙◌}
 use Rattle.library.specs.ReadingLaws.{none-counted, some-counted, count-refused}
-use borrow.Author.Rules.{rules}
 use Rattle.library.proofs.file.modules_at.Goals as goal
 
 pub returns-then-count-eq0 : goal.returns-then-count-eq0

@@ -7,7 +7,6 @@ use Rattle.omf51.specs.Record.{expected_by}
 use Rattle.omf51.proofs.RecordLaws.{read_by}
 use Rattle.omf51.specs.Expected.{one_type, frame_read}
 use Rattle.library.specs.ReadingLaws.{bare-known, library-read, library-halts, library-refuses}
-use borrow.Author.Rules.{rules}
 use Rattle.library.proofs.file.read.Goals as goal
 use Rattle.library.proofs.file.read.Goals.{Else-byte_at-eq44, Then-byte_at-eq44}
 

@@ -8,7 +8,6 @@ use Rattle.omf51.specs.Expected.{one_type, frame_read}
 use Rattle.omf51.specs.Ends.{end_of}
 use Rattle.library.specs.Reading.{type_end}
 use Rattle.library.specs.ReadingLaws.{type-known}
-use borrow.Author.Rules.{rules}
 use Rattle.library.proofs.file.type_end.Goals as goal
 
 pub overflow_add-result : goal.overflow_add-result

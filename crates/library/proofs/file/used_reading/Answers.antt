@@ -1,6 +1,5 @@
 -- `used_reading` by what is left of the file. Assumes nothing.
 use mathlib.Core.Path.{sym, ◌∙◌}
-use borrow.Author.Rules.{rules}
 use Rattle.library.proofs.file.used_reading.Goals as goal
 
 pub returns-then-leaves_over : goal.returns-then-leaves_over

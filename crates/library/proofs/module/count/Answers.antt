@@ -1,16 +1,11 @@
-use Prim.Native.Nat.{ℕ, ◌-◌, ◌≤◌}
 use mathlib.Core.Path.{◌≡◌, sym, ap, ◌∙◌}
-use mathlib.Core.List.{List}
 use native.Mathlib.Omega.{arith}
-use lib.ListN.{length}
 use Rattle.omf51.specs.Reader.{many}
 use Rattle.omf51.specs.declared.Edition.TheVariants.{One}
 use Rattle.omf51.specs.Module.{module_by}
 use Rattle.library.specs.declared.ModuleAt.{ModuleAt}
 use Rattle.library.specs.Passes.{places_read, places_by}
-use Rattle.library.specs.Reading.{count_of}
-use Rattle.library.specs.WholeLaws.{count_from, count-all, count_turn, count-ends, count-refuses, module-moved}
-use borrow.Author.Rules.{rules}
+use Rattle.library.specs.WholeLaws.{count-all, count_turn, count-ends, count-refuses, module-moved}
 use Rattle.library.proofs.module.count.Goals as goal
 
 pub loop-places-init : goal.loop-places-init

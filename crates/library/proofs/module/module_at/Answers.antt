@@ -5,7 +5,6 @@ use Rattle.omf51.specs.declared.entry.Named.{Named}
 use Rattle.omf51.specs.Ends.{name_read}
 use Rattle.library.specs.Passes.{head_by}
 use Rattle.library.specs.ModuleLaws.{head-known}
-use borrow.Author.Rules.{rules}
 use Rattle.library.proofs.module.module_at.Goals as goal
 
 pub returns-in-Read : goal.returns-in-Read

@@ -1,5 +1,5 @@
 -- `named_at` of edition 1: the record, then room in its body for the name and what follows it. Assumes nothing.
-use Prim.Native.Nat.{◌+◌, ◌≤◌}
+use Prim.Native.Nat.{◌+◌}
 use mathlib.Core.Path.{◌≡◌, refl, sym, ap, ◌∙◌}
 use native.Mathlib.Omega.{arith}
 use Rattle.lent.specs.Parts.{byte_at}
@@ -11,7 +11,6 @@ use Rattle.omf51.proofs.RecordLaws.{Fits, read_by, first-expected, record-framed
 use Rattle.omf51.specs.Entry.{name_with}
 use Rattle.omf51.proofs.EntryLaws.{named-cut, named-whole}
 use Rattle.omf51.specs.Expected.{frame_read, one_type}
-use borrow.Author.Rules.{rules}
 use Rattle.library.proofs.module.named_at.Goals as goal
 
 pub overflow_sub-end : goal.overflow_sub-end

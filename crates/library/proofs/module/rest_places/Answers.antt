@@ -5,7 +5,6 @@ use Rattle.omf51.specs.declared.End.{End}
 use Rattle.omf51.specs.declared.entry.Entries.TheVariants.{Definitions}
 use Rattle.library.specs.Passes.{all_end_by}
 use Rattle.library.specs.ModuleLaws.{rest-known, contents-known}
-use borrow.Author.Rules.{rules}
 use Rattle.library.proofs.module.rest_places.Goals as goal
 
 pub returns-in-At-skip_sections : goal.returns-in-At-skip_sections

@@ -1,5 +1,4 @@
 -- `holds` by what the record should hold. Assumes nothing.
-use borrow.Author.Rules.{rules}
 use Rattle.library.proofs.repeat.holds.Goals as goal
 
 pub returns-in-Definitions : goal.returns-in-Definitions

@@ -1,5 +1,4 @@
 -- `own_end` by the end of the first entry. Assumes nothing.
-use borrow.Author.Rules.{rules}
 use Rattle.library.proofs.repeat.own_end.Goals as goal
 
 pub returns-in-At : goal.returns-in-At

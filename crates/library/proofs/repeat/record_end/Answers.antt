@@ -11,7 +11,6 @@ use Rattle.omf51.specs.Ends.{entry_end}
 use Rattle.library.specs.Passes.{allowed_for}
 use Rattle.library.specs.EndLaws.{own_end, used-own}
 use Rattle.library.specs.PassLaws.{record-halts, record-refuses, record-holds, record-skipped}
-use borrow.Author.Rules.{rules}
 use Rattle.library.proofs.repeat.record_end.Goals as goal
 
 pub overflow_add-next : goal.overflow_add-next

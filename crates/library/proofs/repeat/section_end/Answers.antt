@@ -9,7 +9,6 @@ use Rattle.omf51.specs.Module.{fills, is_idle, sections_by}
 use Rattle.omf51.specs.Expected.{frame_read}
 use Rattle.omf51.specs.Ends.{end_of}
 use Rattle.library.specs.SectionLaws.{section-content, section-idle}
-use borrow.Author.Rules.{rules}
 use Rattle.library.proofs.repeat.section_end.Goals as goal
 
 pub returns-then-fills : goal.returns-then-fills

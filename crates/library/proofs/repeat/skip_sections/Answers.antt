@@ -1,11 +1,7 @@
-use Prim.Native.Nat.{◌-◌}
-use mathlib.Core.Path.{◌≡◌, refl, sym, ◌∙◌}
+use mathlib.Core.Path.{sym, ◌∙◌}
 use native.Mathlib.Omega.{arith}
-use lib.ListN.{length}
 use Rattle.omf51.specs.declared.Edition.TheVariants.{One}
-use Rattle.library.specs.Passes.{sections_end_by}
 use Rattle.library.specs.SectionLaws.{sections-turn, section-moved}
-use borrow.Author.Rules.{rules}
 use Rattle.library.proofs.repeat.skip_sections.Goals as goal
 
 pub loop-next-smaller : goal.loop-next-smaller

@@ -1,12 +1,9 @@
 -- `skip_sections` goes from content to content. The invariant: from here it ends as from the start. Assumes nothing.
 use Prim.Native.Nat.{◌-◌}
-use mathlib.Core.Path.{◌≡◌, refl, sym, ◌∙◌}
-use native.Mathlib.Omega.{arith}
+use mathlib.Core.Path.{◌≡◌}
 use lib.ListN.{length}
 use Rattle.omf51.specs.declared.Edition.TheVariants.{One}
 use Rattle.library.specs.Passes.{sections_end_by}
-use Rattle.library.specs.SectionLaws.{sections-turn, section-moved}
-use borrow.Author.Rules.{rules}
 use Rattle.library.proofs.repeat.skip_sections.Given as goal
 
 abbrev pub invariant-loop-next : goal.invariant-loop-next

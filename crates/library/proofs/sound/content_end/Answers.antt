@@ -9,7 +9,6 @@ use Rattle.omf51.proofs.RecordLaws.{Fits, read_by}
 use Rattle.omf51.specs.Module.{fills}
 use Rattle.omf51.specs.Expected.{frame_read}
 use Rattle.library.specs.SectionLaws.{content-halts, content-refuses, content-cut, content-whole}
-use borrow.Author.Rules.{rules}
 use Rattle.library.proofs.sound.content_end.Goals as goal
 
 pub overflow_sub-end : goal.overflow_sub-end

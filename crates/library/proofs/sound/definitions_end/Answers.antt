@@ -10,7 +10,6 @@ use Rattle.omf51.proofs.RecordLaws.{read_by}
 use Rattle.omf51.specs.Expected.{allows, frame_read}
 use Rattle.library.specs.EndLaws.{used_end}
 use Rattle.library.specs.PassLaws.{record-halts, record-refuses, record-holds, record-skipped}
-use borrow.Author.Rules.{rules}
 use Rattle.library.proofs.sound.definitions_end.Goals as goal
 
 pub overflow_add-next : goal.overflow_add-next

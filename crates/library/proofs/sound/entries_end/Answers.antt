@@ -1,7 +1,6 @@
 -- `entries_end`: the first entry, and those behind it. Assumes nothing.
 use mathlib.Core.Path.{sym, ◌∙◌}
 use Rattle.library.specs.BodyLaws.{entries-known}
-use borrow.Author.Rules.{rules}
 use Rattle.library.proofs.sound.entries_end.Goals as goal
 
 pub returns-in-At : goal.returns-in-At

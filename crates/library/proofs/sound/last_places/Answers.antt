@@ -6,7 +6,6 @@ use Rattle.omf51.specs.declared.entry.Named.{Named}
 use Rattle.omf51.specs.Ends.{name_read}
 use Rattle.library.specs.Passes.{last_by}
 use Rattle.library.specs.ModuleLaws.{last-known, last-same, last-differs}
-use borrow.Author.Rules.{rules}
 use Rattle.library.proofs.sound.last_places.Goals as goal
 
 pub returns-then-same : goal.returns-then-same

@@ -1,10 +1,6 @@
-use Prim.Native.Nat.{◌-◌}
-use mathlib.Core.Path.{◌≡◌, refl, sym, ◌∙◌}
+use mathlib.Core.Path.{refl, sym, ◌∙◌}
 use native.Mathlib.Omega.{arith}
-use lib.ListN.{length}
-use Rattle.omf51.specs.Ends.{rest_end}
 use Rattle.library.specs.BodyLaws.{rest-turn, rest-used, entry-moved}
-use borrow.Author.Rules.{rules}
 use Rattle.library.proofs.sound.rest_end.Goals as goal
 
 pub loop-at-init : goal.loop-at-init

@@ -1,11 +1,8 @@
 -- `rest_end` goes from entry to entry. The invariant: from here they end as from the start. Assumes nothing.
 use Prim.Native.Nat.{◌-◌}
-use mathlib.Core.Path.{◌≡◌, refl, sym, ◌∙◌}
-use native.Mathlib.Omega.{arith}
+use mathlib.Core.Path.{◌≡◌}
 use lib.ListN.{length}
 use Rattle.omf51.specs.Ends.{rest_end}
-use Rattle.library.specs.BodyLaws.{rest-turn, rest-used, entry-moved}
-use borrow.Author.Rules.{rules}
 use Rattle.library.proofs.sound.rest_end.Given as goal
 
 abbrev pub invariant-loop-at : goal.invariant-loop-at

@@ -1,12 +1,8 @@
-use Prim.Native.Nat.{◌-◌}
-use mathlib.Core.Path.{◌≡◌, refl, sym, ◌∙◌}
+use mathlib.Core.Path.{sym, ◌∙◌}
 use native.Mathlib.Omega.{arith}
-use lib.ListN.{length}
 use Rattle.omf51.specs.declared.Edition.TheVariants.{Two}
 use Rattle.omf51.specs.declared.entry.Entries.TheVariants.{Definitions}
-use Rattle.library.specs.Passes.{all_end_by}
 use Rattle.library.specs.PassLaws.{all-turn, record-moved}
-use borrow.Author.Rules.{rules}
 use Rattle.library.proofs.sound.skip_definitions.Goals as goal
 
 pub loop-next-smaller : goal.loop-next-smaller

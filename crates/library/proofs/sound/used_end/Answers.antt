@@ -1,6 +1,5 @@
 -- `used_end` by where the entries end. Assumes nothing.
 use mathlib.Core.Path.{sym, ◌∙◌}
-use borrow.Author.Rules.{rules}
 use Rattle.library.proofs.sound.used_end.Goals as goal
 
 pub returns-then-leaves_over : goal.returns-then-leaves_over

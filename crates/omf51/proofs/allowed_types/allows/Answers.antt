@@ -1,7 +1,6 @@
 -- `allows` by what may stand there. Assumes nothing.
 use mathlib.Core.Path.{◌∙◌, sym, ap}
 use mathlib.Core.Bool.{not}
-use borrow.Author.Rules.{rules}
 use Rattle.omf51.proofs.allowed_types.allows.Goals as goal
 
 pub returns-then-defines : goal.returns-then-defines

@@ -1,6 +1,5 @@
 -- `idles`: an unknown type, or one that rests. Assumes nothing.
 use mathlib.Core.Path.{◌∙◌, sym}
-use borrow.Author.Rules.{rules}
 use Rattle.omf51.proofs.allowed_types.idles.Goals as goal
 
 pub returns-then-is_known : goal.returns-then-is_known

@@ -1,6 +1,5 @@
 -- `leaves_over`, by the edition. Assumes nothing.
 use mathlib.Core.Path.{sym}
-use borrow.Author.Rules.{rules}
 use borrow.Author.Tests.{lt-ltb, le-ltb}
 use Rattle.omf51.proofs.by_edition.leaves_over.Goals as goal
 

@@ -8,7 +8,6 @@ use Rattle.omf51.specs.Reader.{read}
 use Rattle.omf51.specs.Record.{record_sum, expected, expected_by}
 use Rattle.omf51.proofs.RecordLaws.{Fits, read_fits, sum-right, sum-wrong}
 use Rattle.omf51.specs.Expected.{allows, frame_read}
-use borrow.Author.Rules.{rules}
 use Rattle.omf51.proofs.by_edition.record_by.Goals as goal
 
 pub returns-in_default : goal.returns-in_default

@@ -1,11 +1,5 @@
-use Prim.Native.Nat.{ℕ, ◌+◌, ◌-◌, ◌%◌, ◌≤◌, ◌<◌}
-use mathlib.Core.Path.{◌≡◌}
-use mathlib.Core.List.{List}
 use native.Mathlib.Omega.{arith}
-use lib.ListN.{length, drop}
-use Rattle.lent.specs.Lists.{total}
 use Rattle.lent.specs.PartLaws.{total-turn, total-done}
-use borrow.Author.Rules.{rules}
 use Rattle.omf51.proofs.by_edition.sum_of.Goals as goal
 
 pub loop-i-init : goal.loop-i-init

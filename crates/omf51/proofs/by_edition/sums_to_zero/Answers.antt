@@ -2,7 +2,6 @@
 use mathlib.Core.Path.{ap}
 use lib.Dec.{eqb}
 use Rattle.omf51.specs.Record.{record_sum}
-use borrow.Author.Rules.{rules}
 use Rattle.omf51.proofs.by_edition.sums_to_zero.Goals as goal
 
 pub returns : goal.returns

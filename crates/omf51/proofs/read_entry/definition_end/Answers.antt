@@ -3,7 +3,6 @@ use Prim.Native.Nat.{◌+◌}
 use mathlib.Core.Path.{refl, sym, ap, ◌∙◌}
 use native.Mathlib.Omega.{arith}
 use Rattle.omf51.proofs.EntryLaws.{definition-cut, definition-whole}
-use borrow.Author.Rules.{rules}
 use Rattle.omf51.proofs.read_entry.definition_end.Goals as goal
 
 pub returns-then-end-at : goal.returns-then-end-at

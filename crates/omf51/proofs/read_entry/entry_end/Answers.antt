@@ -1,5 +1,4 @@
 -- `entry_end` by what the body holds. Assumes nothing.
-use borrow.Author.Rules.{rules}
 use Rattle.omf51.proofs.read_entry.entry_end.Goals as goal
 
 pub returns-in-Definitions : goal.returns-in-Definitions

@@ -1,8 +1,5 @@
 -- `name_at`: the bytes that are read are as many as the length byte says. Assumes nothing.
-use mathlib.Core.Path.{ap, ◌∙◌}
-use lib.ListN.{length}
 use Rattle.omf51.proofs.EntryLaws.{name-long}
-use borrow.Author.Rules.{rules}
 use Rattle.omf51.proofs.read_entry.name_at.Goals as goal
 
 pub returns : goal.returns

@@ -2,7 +2,6 @@
 use mathlib.Core.Path.{◌∙◌, sym, ap}
 use native.Mathlib.Omega.{arith}
 use Prim.Native.Nat.{◌+◌}
-use borrow.Author.Rules.{rules}
 use Rattle.omf51.proofs.read_entry.name_offset.Goals as goal
 
 pub returns-then-is_segment : goal.returns-then-is_segment

@@ -1,5 +1,5 @@
 -- `named_at`: the record, then room in its body for the name and what follows it, then that nothing is left over. Assumes
-use Prim.Native.Nat.{◌+◌, ◌≤◌}
+use Prim.Native.Nat.{◌+◌}
 use mathlib.Core.Path.{◌≡◌, sym, ap, ◌∙◌}
 use native.Mathlib.Omega.{arith}
 use Rattle.lent.specs.Parts.{byte_at}
@@ -10,7 +10,6 @@ use Rattle.omf51.proofs.RecordLaws.{Fits, read_by, record-framed}
 use Rattle.omf51.specs.Entry.{name_with}
 use Rattle.omf51.proofs.EntryLaws.{named-cut, named-whole, named-over}
 use Rattle.omf51.specs.Expected.{frame_read, one_type}
-use borrow.Author.Rules.{rules}
 use Rattle.omf51.proofs.read_entry.named_at.Goals as goal
 
 pub overflow_sub-end : goal.overflow_sub-end

@@ -6,7 +6,6 @@ use lib.ListN.{length}
 use Rattle.lent.specs.Parts.{byte_at}
 use Rattle.lent.specs.PartLaws.{part-fits}
 use Rattle.omf51.specs.Entry.{name_part}
-use borrow.Author.Rules.{rules}
 use Rattle.omf51.proofs.read_entry.read_name.Goals as goal
 
 pub overflow_add-end : goal.overflow_add-end

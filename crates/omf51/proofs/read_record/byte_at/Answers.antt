@@ -1,7 +1,6 @@
 -- `byte_at` within the library and past its end. Assumes nothing.
 use mathlib.Core.Path.{sym}
 use lib.ListN.{get_or-eq_default}
-use borrow.Author.Rules.{rules}
 use Rattle.omf51.proofs.read_record.byte_at.Goals as goal
 
 pub returns-then-library-at : goal.returns-then-library-at

@@ -2,7 +2,6 @@
 use mathlib.Core.Path.{sym, ◌∙◌}
 use native.Mathlib.Omega.{arith}
 use Rattle.omf51.proofs.RecordLaws.{frame-cut, frame-empty, frame_past, frame-unclosed, frame-whole}
-use borrow.Author.Rules.{rules}
 use Rattle.omf51.proofs.read_record.frame_at.Goals as goal
 
 pub returns-then-library-lt3 : goal.returns-then-library-lt3

@@ -2,7 +2,6 @@
 use mathlib.Core.Path.{◌∙◌, sym, ap}
 use Rattle.omf51.specs.Expected.{allows}
 use Rattle.omf51.proofs.RecordLaws.{expected-there, not-expected}
-use borrow.Author.Rules.{rules}
 use Rattle.omf51.proofs.read_record.record_at.Goals as goal
 
 pub returns-then-allows : goal.returns-then-allows

@@ -2,7 +2,6 @@
 use Prim.Native.Nat.{◌+◌}
 use native.Mathlib.Omega.{arith}
 use lib.ListN.{get_or-eq_default}
-use borrow.Author.Rules.{rules}
 use Rattle.omf51.proofs.read_record.word_at.Goals as goal
 
 pub returns-then-library-at : goal.returns-then-library-at

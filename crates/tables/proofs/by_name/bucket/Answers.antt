@@ -1,5 +1,5 @@
 -- `bucket` mixes in the name's ends, and adds the key. Assumes nothing.
-use Rattle.std.proofs.Common.{◌+◌, ◌/◌, ◌%◌, ap, ◌∙◌, rules}
+use Rattle.std.proofs.Common.{◌+◌, ◌/◌, ◌%◌, ap, ◌∙◌}
 use Rattle.tables.specs.by_name.Sheet.{name_buckets, name_bucket}
 use Rattle.tables.proofs.by_name.bucket.Goals as goal
 

@@ -1,5 +1,5 @@
 -- `find` goes two ways, by whether the rows are whole. Assumes nothing.
-use Rattle.std.proofs.Common.{sym, arith, rules}
+use Rattle.std.proofs.Common.{sym, arith}
 use Rattle.tables.specs.by_name.FollowLaws.{follow-none}
 use Rattle.tables.proofs.by_name.find.Goals as goal
 

@@ -1,7 +1,4 @@
-use Rattle.std.proofs.Common.{◌≡◌, sym, refl, ◌∙◌, arith, rules}
-use Rattle.lent.specs.declared.part.Part.{Part}
-use Rattle.lent.specs.Parts.{bytes_of}
-use Rattle.tables.specs.by_name.Tables.{followed}
+use Rattle.std.proofs.Common.{sym, refl, ◌∙◌, arith}
 use Rattle.tables.specs.by_name.FollowLaws.{follow-none}
 use Rattle.tables.specs.by_name.TagLaws.{tag-hit, tag-on, tag-end}
 use Rattle.tables.proofs.by_name.find_by_cells.Goals as goal

@@ -1,10 +1,8 @@
 -- `find_by_cells`: wherever it stands, the way that is left comes to what the whole way comes to. Assumes nothing.
-use Rattle.std.proofs.Common.{◌≡◌, sym, refl, ◌∙◌, arith, rules}
+use Rattle.std.proofs.Common.{◌≡◌}
 use Rattle.lent.specs.declared.part.Part.{Part}
 use Rattle.lent.specs.Parts.{bytes_of}
 use Rattle.tables.specs.by_name.Tables.{followed}
-use Rattle.tables.specs.by_name.FollowLaws.{follow-none}
-use Rattle.tables.specs.by_name.TagLaws.{tag-hit, tag-on, tag-end}
 use Rattle.tables.proofs.by_name.find_by_cells.Given as goal
 
 abbrev pub invariant-loop-here : goal.invariant-loop-here

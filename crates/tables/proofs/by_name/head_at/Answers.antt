@@ -1,5 +1,5 @@
 -- `head_at` within the heads and past their end. Assumes nothing.
-use Rattle.std.proofs.Common.{◌+◌, ◌*◌, ◌%◌, get_or, sym, ap, ◌∙◌, arith, rules}
+use Rattle.std.proofs.Common.{◌+◌, ◌*◌, ◌%◌, get_or, sym, ap, ◌∙◌, arith}
 use Rattle.tables.specs.by_name.Heads.{head_count, near}
 use Rattle.tables.specs.by_name.HeadLaws.{head-past, head_near, head-far}
 use Rattle.tables.proofs.by_name.head_at.Goals as goal

@@ -1,5 +1,5 @@
 -- `is_tagged` compares the key, and then the names. Assumes nothing.
-use Rattle.std.proofs.Common.{◌∙◌, rules, eq-eqb, ne_eqb}
+use Rattle.std.proofs.Common.{◌∙◌, eq-eqb, ne_eqb}
 use Rattle.tables.proofs.by_name.is_tagged.Goals as goal
 
 pub returns-then-tag-key : goal.returns-then-tag-key

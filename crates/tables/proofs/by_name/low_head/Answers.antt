@@ -1,5 +1,5 @@
 -- `low_head`: a link that is near, and one that is not. Assumes nothing.
-use Rattle.std.proofs.Common.{rules, le-ltb, lt-ltb}
+use Rattle.std.proofs.Common.{le-ltb, lt-ltb}
 use Rattle.tables.specs.by_name.Heads.{near}
 use Rattle.tables.proofs.by_name.low_head.Goals as goal
 

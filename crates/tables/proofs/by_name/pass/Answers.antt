@@ -1,6 +1,5 @@
-use Rattle.std.proofs.Common.{◌≡◌, ◌+◌, ◌-◌, ◌*◌, ◌<◌, ◌≤◌, length, sym, ap, ◌∙◌, arith, length-drop, rules}
+use Rattle.std.proofs.Common.{◌≡◌, ◌+◌, ◌-◌, ◌*◌, ◌<◌, ◌≤◌, length, sym, ap, ◌∙◌, arith, length-drop}
 use Rattle.lent.specs.RowLaws.{row_fits}
-use Rattle.tables.specs.by_name.Tags.{Passes}
 use Rattle.tables.specs.by_name.TagLaws.{pass-first, stop-first, stop-here, pass_on, stop-end}
 use Rattle.tables.proofs.by_name.pass.Goals as goal
 

@@ -1,8 +1,6 @@
 -- `pass`: wherever it stands, the way that is left comes to what the whole way comes to. Assumes nothing.
-use Rattle.std.proofs.Common.{◌≡◌, ◌+◌, ◌-◌, ◌*◌, ◌<◌, ◌≤◌, length, sym, ap, ◌∙◌, arith, length-drop, rules}
-use Rattle.lent.specs.RowLaws.{row_fits}
+use Rattle.std.proofs.Common.{◌+◌}
 use Rattle.tables.specs.by_name.Tags.{Passes}
-use Rattle.tables.specs.by_name.TagLaws.{pass-first, stop-first, stop-here, pass_on, stop-end}
 use Rattle.tables.proofs.by_name.pass.Given as goal
 
 abbrev pub invariant-loop-width : goal.invariant-loop-width

@@ -1,5 +1,5 @@
 -- `set_head`: within the heads, with numbers behind them or without, and past their end. Assumes nothing.
-use Rattle.std.proofs.Common.{◌+◌, ◌/◌, ◌%◌, set, sym, ap, ◌∙◌, arith, length-set, rules}
+use Rattle.std.proofs.Common.{◌+◌, ◌/◌, ◌%◌, set, sym, ap, ◌∙◌, arith, length-set}
 use lib.Seq.{set_out}
 use Rattle.tables.specs.by_name.Heads.{head_count, near, low_head, head_set}
 use Rattle.tables.specs.by_name.HeadLaws.{head-out}

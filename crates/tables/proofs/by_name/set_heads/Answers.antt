@@ -1,5 +1,5 @@
 -- `set_heads` sets one head and then the other. Assumes nothing.
-use Rattle.std.proofs.Common.{◌+◌, sym, ap, ◌∙◌, arith, rules}
+use Rattle.std.proofs.Common.{◌+◌, sym, ap, ◌∙◌, arith}
 use Rattle.tables.specs.by_name.Sheet.{key_buckets, key_bucket}
 use Rattle.tables.specs.by_name.Heads.{head_set}
 use Rattle.tables.specs.by_name.HeadLaws.{head-length, head-out}

@@ -1,5 +1,4 @@
-use Rattle.std.proofs.Common.{◌≡◌, ◌-◌, ◌<◌, length, drop, sym, refl, ◌∙◌, arith, rules}
-use Rattle.tables.specs.by_name.Sheet.{spread}
+use Rattle.std.proofs.Common.{sym, refl, ◌∙◌, arith}
 use Rattle.tables.specs.by_name.NamedLaws.{spread-turn, spread-ends}
 use Rattle.tables.proofs.by_name.spread.Goals as goal
 

@@ -1,7 +1,6 @@
 -- `spread` goes over the bytes, and what is left to go over leads to the definition's number. Assumes nothing.
-use Rattle.std.proofs.Common.{◌≡◌, ◌-◌, ◌<◌, length, drop, sym, refl, ◌∙◌, arith, rules}
+use Rattle.std.proofs.Common.{◌≡◌, ◌-◌, ◌<◌, length, drop}
 use Rattle.tables.specs.by_name.Sheet.{spread}
-use Rattle.tables.specs.by_name.NamedLaws.{spread-turn, spread-ends}
 use Rattle.tables.proofs.by_name.spread.Given as goal
 
 abbrev pub invariant-loop-i : goal.invariant-loop-i

@@ -1,5 +1,5 @@
 -- `spread_ends`: a short name is mixed in whole, a longer one by its two ends. Assumes nothing.
-use Rattle.std.proofs.Common.{◌-◌, length, take, drop, sym, ap, ◌∙◌, arith, length-drop, take_all, rules}
+use Rattle.std.proofs.Common.{◌-◌, length, take, drop, sym, ap, ◌∙◌, arith, length-drop, take_all}
 use Rattle.tables.specs.by_name.Sheet.{spread}
 use Rattle.tables.specs.by_name.NamedLaws.{spread-small, ends-short, ends-long}
 use Rattle.tables.proofs.by_name.spread_ends.Goals as goal

@@ -1,6 +1,5 @@
 -- `tag_at` reads what the definition says, cell by cell. Assumes nothing.
 use Rattle.tables.specs.by_name.TagLaws.{tag-made, tag-none}
-use Rattle.std.proofs.Common.{rules}
 use Rattle.tables.proofs.by_name.tag_at.Goals as goal
 
 pub returns-then-width-eq0 : goal.returns-then-width-eq0

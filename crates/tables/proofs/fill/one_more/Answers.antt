@@ -1,5 +1,5 @@
 -- `one_more`: whether the row fits, by a division and no product that could wrap. Assumes nothing.
-use Rattle.std.proofs.Common.{sym, arith, rules}
+use Rattle.std.proofs.Common.{sym, arith}
 use Rattle.lent.specs.RowLaws.{row_fits, row-lacks}
 use Rattle.tables.specs.fill.FilledRowLaws.{stays-over, no-width, more-fits, more-lacks, few-rows}
 use Rattle.tables.proofs.fill.one_more.Goals as goal

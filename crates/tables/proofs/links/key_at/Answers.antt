@@ -1,5 +1,5 @@
 -- `key_at` is the key of the thing there. Assumes nothing.
-use Rattle.std.proofs.Common.{sym, ap, ◌∙◌, rules}
+use Rattle.std.proofs.Common.{sym, ap, ◌∙◌}
 use Rattle.tables.specs.links.Things.{thing_key}
 use Rattle.tables.specs.links.ThingLaws.{key-is}
 use Rattle.tables.proofs.links.key_at.Goals as goal

@@ -1,4 +1,4 @@
-use Rattle.std.proofs.Common.{◌≡◌, ℕ, ◌+◌, ◌-◌, ◌<◌, ◌≤◌, List, length, refl, subst, arith, length-set, rules}
+use Rattle.std.proofs.Common.{◌≡◌, ◌+◌, ◌-◌, ◌<◌, refl, subst, arith, length-set}
 use Rattle.tables.specs.links.Index.{LinkedThings}
 use Rattle.tables.specs.links.LinkedLaws.{none_yet, small-key, small-link, one-linked}
 use Rattle.tables.proofs.links.link.Goals as goal

@@ -1,7 +1,6 @@
 -- `link` goes from the last thing to the first. The invariant: the things from here on are linked. Assumes nothing.
-use Rattle.std.proofs.Common.{◌≡◌, ℕ, ◌+◌, ◌-◌, ◌<◌, ◌≤◌, List, length, refl, subst, arith, length-set, rules}
+use Rattle.std.proofs.Common.{◌≡◌, ℕ, ◌≤◌, List, length}
 use Rattle.tables.specs.links.Index.{LinkedThings}
-use Rattle.tables.specs.links.LinkedLaws.{none_yet, small-key, small-link, one-linked}
 use Rattle.tables.proofs.links.link.Given as goal
 
 pub record Inv (things₀ : List ℕ) (n : ℕ) (first₀ things first : List ℕ) (i : ℕ) : Type 0 where

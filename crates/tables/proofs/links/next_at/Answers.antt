@@ -1,5 +1,5 @@
 -- `next_at` is the link of the thing there. Assumes nothing.
-use Rattle.std.proofs.Common.{sym, ap, ◌∙◌, rules}
+use Rattle.std.proofs.Common.{sym, ap, ◌∙◌}
 use Rattle.tables.specs.links.Things.{thing_next}
 use Rattle.tables.specs.links.ThingLaws.{next-is}
 use Rattle.tables.proofs.links.next_at.Goals as goal

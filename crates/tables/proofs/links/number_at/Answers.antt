@@ -1,5 +1,5 @@
 -- `number_at` within the list and past its end. Assumes nothing.
-use Rattle.std.proofs.Common.{sym, rules}
+use Rattle.std.proofs.Common.{sym}
 use lib.ListN.{get_or-eq_default}
 use Rattle.tables.proofs.links.number_at.Goals as goal
 

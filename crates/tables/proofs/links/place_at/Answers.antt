@@ -1,5 +1,5 @@
 -- `place_at` is the place of the thing there. Assumes nothing.
-use Rattle.std.proofs.Common.{sym, ap, ◌∙◌, rules}
+use Rattle.std.proofs.Common.{sym, ap, ◌∙◌}
 use Rattle.tables.specs.links.Things.{thing_place}
 use Rattle.tables.specs.links.ThingLaws.{place_is}
 use Rattle.tables.proofs.links.place_at.Goals as goal

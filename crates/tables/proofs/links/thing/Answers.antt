@@ -1,5 +1,5 @@
 -- `thing` puts the place above the key. Assumes nothing.
-use Rattle.std.proofs.Common.{refl, arith, rules}
+use Rattle.std.proofs.Common.{refl, arith}
 use Rattle.tables.specs.links.Things.{thing_of}
 use Rattle.tables.proofs.links.thing.Goals as goal
 

@@ -1,5 +1,5 @@
 -- `thing_at` within the table and past its end. Assumes nothing.
-use Rattle.std.proofs.Common.{sym, rules}
+use Rattle.std.proofs.Common.{sym}
 use lib.ListN.{get_or-eq_default}
 use Rattle.tables.proofs.links.thing_at.Goals as goal
 

@@ -1,7 +1,7 @@
-use Rattle.std.proofs.Common.{◌≡◌, ℕ, ◌-◌, ◌<◌, ◌≤◌, List, take, sym, ◌∙◌, arith, length-take, get_or-take, rules}
+use Rattle.std.proofs.Common.{◌≡◌, ◌<◌, take, sym, ◌∙◌, arith, length-take, get_or-take}
 use Rattle.tables.specs.links.Things.{keys_of}
 use Rattle.tables.specs.links.ThingLaws.{keys-long, key-is, key-small}
-use Rattle.tables.specs.links.Index.{key_at, ClearedTo}
+use Rattle.tables.specs.links.Index.{key_at}
 use Rattle.tables.specs.links.IndexLaws.{none-cleared, clear-turn, all-cleared}
 use Rattle.tables.proofs.links.unlink.Goals as goal
 use Rattle.tables.proofs.links.unlink.Goals.{After-key_in-key}

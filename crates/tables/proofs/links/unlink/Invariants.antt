@@ -1,9 +1,7 @@
 -- `unlink` goes over the things. The invariant: the heads of the keys before this place are 0, the others as they were. Assumes nothing.
-use Rattle.std.proofs.Common.{◌≡◌, ℕ, ◌-◌, ◌<◌, ◌≤◌, List, take, sym, ◌∙◌, arith, length-take, get_or-take, rules}
+use Rattle.std.proofs.Common.{ℕ, ◌-◌, ◌≤◌, List, take}
 use Rattle.tables.specs.links.Things.{keys_of}
-use Rattle.tables.specs.links.ThingLaws.{keys-long, key-is, key-small}
-use Rattle.tables.specs.links.Index.{key_at, ClearedTo}
-use Rattle.tables.specs.links.IndexLaws.{none-cleared, clear-turn, all-cleared}
+use Rattle.tables.specs.links.Index.{ClearedTo}
 use Rattle.tables.proofs.links.unlink.Given as goal
 
 pub record Inv (keys : List ℕ) (n : ℕ) (first₀ first : List ℕ) (i : ℕ) : Type 0 where

@@ -1,6 +1,5 @@
 -- `content_of`: its fields one after another. Assumes nothing.
 use native.Mathlib.Omega.{arith}
-use borrow.Author.Rules.{rules}
 use Rattle.library.proofs.items.contents.content_of.Goals as goal
 
 pub overflow_add-data : goal.overflow_add-data

@@ -1,7 +1,6 @@
 -- `definition_of` by the record's type. Assumes nothing.
 use mathlib.Core.Path.{sym, ◌∙◌}
 use Rattle.library.specs.items.ItemLaws.{segment-here, public-here, external-here}
-use borrow.Author.Rules.{rules}
 use Rattle.library.proofs.items.decoded.definition_of.Goals as goal
 
 pub name_at-name-requires : goal.name_at-name-requires

@@ -1,5 +1,4 @@
 -- `fixup_of`: its fields one after another. Assumes nothing.
-use borrow.Author.Rules.{rules}
 use Rattle.library.proofs.items.decoded.fixup_of.Goals as goal
 
 pub returns : goal.returns

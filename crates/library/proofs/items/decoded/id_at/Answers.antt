@@ -3,7 +3,6 @@ use Prim.Native.Nat.{◌+◌, ◌%◌}
 use mathlib.Core.Path.{ap}
 use native.Mathlib.Omega.{arith}
 use borrow.Author.Tests.{eq-eqb, ne_eqb}
-use borrow.Author.Rules.{rules}
 use Rattle.library.proofs.items.decoded.id_at.Goals as goal
 
 pub returns-then-f-eq1 : goal.returns-then-f-eq1

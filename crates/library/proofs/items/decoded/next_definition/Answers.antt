@@ -3,7 +3,6 @@ use mathlib.Core.Path.{sym, ◌∙◌}
 use native.Mathlib.Omega.{arith}
 use Rattle.omf51.specs.declared.entry.Entries.TheVariants.{Definitions}
 use Rattle.library.specs.items.ItemLaws.{step-whole, definition-room}
-use borrow.Author.Rules.{rules}
 use Rattle.library.proofs.items.decoded.next_definition.Goals as goal
 
 pub definition_of-definition-requires : goal.definition_of-definition-requires

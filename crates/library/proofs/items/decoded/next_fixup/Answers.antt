@@ -3,7 +3,6 @@ use mathlib.Core.Path.{sym, ◌∙◌}
 use native.Mathlib.Omega.{arith}
 use Rattle.omf51.specs.declared.entry.Entries.TheVariants.{Fixups}
 use Rattle.library.specs.items.ItemLaws.{step-whole, fixup-room}
-use borrow.Author.Rules.{rules}
 use Rattle.library.proofs.items.decoded.next_fixup.Goals as goal
 
 pub fixup_of-fixup-requires : goal.fixup_of-fixup-requires

@@ -1,7 +1,6 @@
 -- `entered`: by whether the record holds entries. Assumes nothing.
 use mathlib.Core.Path.{sym, ap, ◌∙◌}
 use Rattle.library.specs.Passes.{holds}
-use borrow.Author.Rules.{rules}
 use Rattle.library.proofs.items.entries.entered.Goals as goal
 
 pub returns-then-holds : goal.returns-then-holds

@@ -3,7 +3,6 @@ use mathlib.Core.Path.{sym}
 use borrow.Author.Tests.{le-leb, lt-leb}
 use lib.ListN.{length}
 use Rattle.library.specs.BodyLaws.{entry-none}
-use borrow.Author.Rules.{rules}
 use Rattle.library.proofs.items.entries.entry_in.Goals as goal
 
 pub returns-then-library-frame : goal.returns-then-library-frame

@@ -1,22 +1,14 @@
-use Prim.Native.Nat.{ℕ, suc, ◌-◌, ◌<◌}
+use Prim.Native.Nat.{ℕ, suc, ◌-◌}
 use mathlib.Core.Path.{◌≡◌, refl, sym, subst, ◌∙◌}
-use mathlib.Core.List.{List, [], ◌∷◌}
-use mathlib.Core.Logic.{inl, inr}
 use native.Mathlib.Omega.{arith}
 use lib.ListN.{length}
-use denote.Enum.Declared.{tag_of}
-use types.Run.{OneOf}
-use Rattle.omf51.specs.contracts.End.{the_type}
 use Rattle.omf51.specs.declared.End.{End}
 use Rattle.omf51.specs.declared.End.TheVariants.{At, Stop, Refused}
-use Rattle.omf51.specs.declared.entry.Entries.{Entries}
 use Rattle.omf51.specs.declared.Edition.TheVariants.{One}
 use Rattle.library.specs.EndLaws.{Halts}
 use Rattle.library.specs.PassLaws.{record-moved}
-use Rattle.library.specs.declared.items.Cursor.{Cursor}
-use Rattle.library.specs.items.Walk.{entry_in, steps, next_entry}
+use Rattle.library.specs.items.Walk.{entry_in}
 use Rattle.library.specs.items.WalkLaws.{step-item, step-record, step-done}
-use borrow.Author.Rules.{rules}
 use Rattle.library.proofs.items.entries.next_entry.Goals as goal
 use Rattle.library.proofs.items.entries.next_entry.Goals.{In_default}
 

@@ -1,15 +1,10 @@
 -- `next_in_definitions`: in the cursor's body, or in the next record, or else as `next_entry` goes on from there. Assumes nothing.
 use Prim.Native.Nat.{suc}
 use mathlib.Core.Path.{◌≡◌, sym, ap, subst, ◌∙◌}
-use mathlib.Core.List.{[], ◌∷◌}
-use mathlib.Core.Logic.{inl, inr}
 use mathlib.Core.Path.{refl}
 use Prim.Native.Nat.{ℕ}
 use native.Mathlib.Omega.{arith}
 use lib.ListN.{length}
-use denote.Enum.Declared.{tag_of}
-use types.Run.{OneOf}
-use Rattle.omf51.specs.contracts.End.{the_type}
 use Rattle.omf51.specs.declared.End.{End}
 use Rattle.omf51.specs.declared.End.TheVariants.{At, Stop, Refused}
 use Rattle.omf51.specs.declared.entry.Entries.TheVariants.{Definitions}
@@ -18,7 +13,6 @@ use Rattle.library.specs.EndLaws.{Halts}
 use Rattle.library.specs.PassLaws.{record-moved}
 use Rattle.library.specs.items.Walk.{entry_in, next_entry}
 use Rattle.library.specs.items.WalkLaws.{step-item, step-done, next-record}
-use borrow.Author.Rules.{rules}
 use Rattle.library.proofs.items.entries.next_in_definitions.Goals as goal
 
 halts : (e : End) → ((k : ℕ) → e ≡ At k → ⊥) → Halts e
