@@ -16,8 +16,7 @@ use Rattle.search_rules.specs.declared.Asked.{Asked}
 use Rattle.search_rules.specs.Search.{Placing, Noting, placed, noted}
 use Rattle.search.specs.declared.SearchCounts.{SearchCounts}
 use Rattle.search.specs.declared.Searched.{Searched}
-use Rattle.search.specs.declared.Searched.TheVariants as Searched
-use Rattle.search.specs.visit.Visits.{stored, segments_in}
+use Rattle.search.specs.visit.Visits.{segments_in}
 use Rattle.search.specs.Outcome.{SearchLists as Searchable, too_few, refusal_of as search_refusal, search_zeroed as zeroed_search, search_filled as filled_search, search_outcome_of as search_outcome, searched}
 use Rattle.search.specs.Fills.{Fitted, Sought}
 use Rattle.search.specs.EndLaws.{zeroed-same}

@@ -42,7 +42,7 @@ infixr 15 ◌or-short◌
     go name (some got) h = h
 
 perhaps-short : {n : ℕ} {p : Step} → Short n p → Short n (perhaps p)
-perhaps-short f = f or_short record { short = λ name. omega arith }
+perhaps-short f = f or-short record { short = λ name. omega arith }
 
 pub longest : (name : List ℕ) → length_in (describe name) ≤ 88
 unfolding describe description all
@@ -53,4 +53,4 @@ longest name = all_short.short name
 
     all_short : Short 88 description
     all_short = one-short 0 front refl and-short perhaps-short (one-short 9 signs refl) and-short one-short 16 types refl
-        and-short (one-short 63 operations refl or_short moving-short)
+        and-short (one-short 63 operations refl or-short moving-short)

@@ -8,7 +8,6 @@ use Rattle.image.specs.declared.fixup.Target.{Target}
 use Rattle.image.specs.declared.fixup.Target.TheVariants.{At, PastEnd, Withheld}
 use Rattle.image.specs.fixup.Target.{target}
 use Rattle.segments.specs.declared.Goal.{Goal}
-use Rattle.segments.specs.declared.Goal.TheVariants as Goal
 use Rattle.segments.specs.declared.Reference.{Reference}
 use Rattle.segments.specs.SegmentLayouts.{reference_layout, segment_row_at}
 use Rattle.tables.specs.by_name.Sheet.{key_buckets, name_bucket}

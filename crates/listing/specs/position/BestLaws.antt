@@ -39,21 +39,25 @@ module _ (x : Line) (all : List Line) where
 
   pub lower-best : x.grade < best_grade all → best (x ∷ all) ≡ best all
   unfolding best keep
-  lower-best h = rw (lower-grade h, ne_eqb x.grade (best_grade all) (omega arith))
+  lower-best h =
+      ap (λ g. keep (λ l. eqb l.grade g) (x ∷ all)) (lower-grade h) ∙ rw (ne_eqb x.grade (best_grade all) (omega arith))
 
   pub higher-grade : best_grade all < x.grade → best_grade (x ∷ all) ≡ x.grade
   higher-grade h = omega (arith, grade-of x all)
 
   pub higher-best : best_grade all < x.grade → best (x ∷ all) ≡ one x
   unfolding best keep
-  higher-best h = rw (higher-grade h, eq-eqb x.grade x.grade refl) (ap (λ ls. x ∷ ls) (none_above x.grade all h))
+  higher-best h =
+      ap (λ g. keep (λ l. eqb l.grade g) (x ∷ all)) (higher-grade h)
+      ∙ rw (eq-eqb x.grade x.grade refl) (ap (λ ls. x ∷ ls) (none_above x.grade all h))
 
   pub equal-grade : x.grade ≡ best_grade all → best_grade (x ∷ all) ≡ best_grade all
   equal-grade h = omega (arith, grade-of x all)
 
   pub equal-best : x.grade ≡ best_grade all → best (x ∷ all) ≡ x ∷ best all
   unfolding best keep
-  equal-best h = rw (equal-grade h, eq-eqb x.grade (best_grade all) h)
+  equal-best h =
+      ap (λ g. keep (λ l. eqb l.grade g) (x ∷ all)) (equal-grade h) ∙ rw (eq-eqb x.grade (best_grade all) h)
 
 -- A LINE PUT behind those that stand there
 module _ (lines ls : List Line) (m : List ℕ) (x : Line) (k : ℕ) (at : k ≡ length lines + length ls) where

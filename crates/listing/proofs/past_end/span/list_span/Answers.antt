@@ -1,0 +1,40 @@
+use native.Mathlib.Omega.{arith}
+use mathlib.Core.Path.{refl, ◌∙◌}
+use Rattle.listing_rules.proofs.FrontLineLaws.{leads-first}
+use Rattle.listing.specs.past_end.Beyond.{spanned}
+use Rattle.listing.specs.past_end.TargetLaws.{spans_on, spans_all}
+use Rattle.listing.proofs.past_end.span.list_span.Goals as goal
+
+pub loop-t-init : goal.loop-t-init
+loop-t-init c =
+    let a = c.args in record { long = refl; spans = λ ns h. leads-first (spanned a.skip ns a.first a.last) a.lines.now a.before }
+
+pub overflow_add-t : goal.overflow_add-t
+overflow_add-t c =
+    omega (arith, c.loop-t-test.true, c.ranges)
+
+pub loop-t-smaller : goal.loop-t-smaller
+loop-t-smaller c =
+    omega (arith, c.loop-t-test.true)
+
+pub loop-t-preserved : goal.loop-t-preserved
+loop-t-preserved c =
+    let a = c.args in
+    let l = c.loop-t in
+    record {
+      long = c.lines-1.given ∙ l.invariant.long;
+      spans =
+          spans_on a.noted.now a.goals.now a.first a.last a.skip a.lines.now a.before l.lines l.f l.t l.invariant.spans
+          c.list_target-f.new.lines c.list_target-f.result c.list_target-f.ensures c.loop-t-test.true;
+    }
+
+pub returns : goal.returns
+returns c =
+    let a = c.args in
+    let l = c.loop-t in
+    spans_all a.noted.now a.goals.now a.first a.last a.skip a.lines.now a.before l.lines l.f l.t l.invariant.spans
+    c.list_target.new.lines c.list_target.result c.list_target.ensures (omega (arith, c.loop-t-test.false))
+
+pub shape_of-lines : goal.shape_of-lines
+shape_of-lines c =
+    c.lines-2-1.given ∙ c.loop-t.invariant.long

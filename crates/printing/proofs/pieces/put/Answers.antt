@@ -1,0 +1,25 @@
+use mathlib.Core.Path.{refl, ◌∙◌}
+use native.Mathlib.Omega.{arith}
+use lib.ListN.{length-set}
+use Rattle.printing.specs.StoreLaws.{text-none, text-more, text-all}
+use Rattle.printing.proofs.pieces.put.Goals as goal
+
+pub loop-j-init : goal.loop-j-init
+loop-j-init c =
+    let a = c.args in record { within = omega arith; long = refl; same = text-none a.at a.text.now a.out.now }
+
+pub loop-j-preserved : goal.loop-j-preserved
+loop-j-preserved c =
+    let a = c.args in
+    let l = c.loop-j in
+    record { within = omega arith; long = simp length-set l.invariant.long; same = text-more a.at a.text.now l.out l.j (omega arith) ∙ l.invariant.same }
+
+pub returns : goal.returns
+returns c =
+    let a = c.args in
+    let l = c.loop-j in
+    record { ends = refl; stored = text-all a.at a.text.now l.out l.j (omega arith) ∙ l.invariant.same }
+
+pub shape_of-out : goal.shape_of-out
+shape_of-out c =
+    c.loop-j.invariant.long
