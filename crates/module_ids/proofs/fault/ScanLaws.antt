@@ -5,15 +5,13 @@ use Rattle.std.proofs.Math.Option.{Option, none, some}
 use Rattle.lent.specs.declared.refusal.Refusal.{Refusal}
 use Rattle.lent.specs.Choice.{or_else, leading}
 use Rattle.lent.specs.Lists.{one, joined}
-use Rattle.omf51.specs.declared.Content.{Content}
-use Rattle.omf51.specs.declared.Fixup.{Fixup}
 use Rattle.omf51.specs.Module.{Section, Module}
 use Rattle.segments.specs.Refuse.{content_refusal, Test, of_fixup, of_content, test_refusal, tests, collect_refusal}
 use Rattle.module_ids.specs.declared.fault.Verdict.{Verdict}
 use Rattle.module_ids.specs.declared.fault.Verdict.TheVariants.{Passed, Refused}
 use Rattle.module_ids.specs.fault.Faults.{verdict_of}
 use Rattle.module_ids.proofs.fault.FaultLaws.{fixup-refusal, content-refusal}
-use Rattle.module_ids.specs.fault.Scan.{section_with, one_fault, section_fault, sections_fault}
+use Rattle.module_ids.specs.fault.Scan.{one_fault, section_fault, sections_fault}
 
 -- the first of two lists, one after the other
 leading-append : {A : Type 0} (xs ys : List (Option A)) → leading (xs ++ ys) ≡ or_else (leading xs) (leading ys)

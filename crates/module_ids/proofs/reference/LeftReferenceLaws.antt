@@ -17,7 +17,6 @@ use Rattle.omf51.specs.declared.Definition.{Definition}
 use Rattle.omf51.specs.declared.Fixup.{Fixup}
 use Rattle.omf51.specs.Module.{Module}
 use Rattle.segments.specs.declared.Goal.{Goal}
-use Rattle.segments.specs.declared.Goal.TheVariants as Goal
 use Rattle.segments.specs.Ids.{is_kept, segment_of, external_of, kept, kept_place, named, is_code, name_in}
 use Rattle.segments.specs.Collect.{left, is_none, goal_of, leaves}
 use Rattle.module_ids.specs.declared.IdRow.{IdRow}
@@ -25,7 +24,6 @@ use Rattle.module_ids.specs.IdRows.{mark_of, kept_as, id_row}
 use Rattle.module_ids.specs.fault.Faults.{is_code_mark, is_kept_as, fixup_fault}
 use Rattle.module_ids.proofs.fault.FaultLaws.{fixup-refusal, mark_code}
 use Rattle.module_ids.specs.declared.reference.Known.{Known}
-use Rattle.module_ids.specs.declared.reference.Known.TheVariants as Known
 use Rattle.module_ids.specs.reference.LeftReference.{code_named, place_in, goal_by, leaves_by, known_of, kind_known}
 
 -- the cases that the code tells apart

@@ -6,7 +6,6 @@ use Rattle.omf51.specs.declared.Fixup.{Fixup}
 use Rattle.segments.specs.declared.Reference.{Reference}
 use Rattle.module_ids.specs.declared.IdRow.{IdRow}
 use Rattle.module_ids.specs.declared.reference.Leaves.{Leaves}
-use Rattle.module_ids.specs.declared.reference.Leaves.TheVariants as Leaves
 use Rattle.module_ids.specs.reference.LeftReference.{leaves_by, left_by}
 
 -- back from the list

@@ -6,7 +6,6 @@ use Rattle.image.specs.declared.fixup.Kind.{Kind}
 use Rattle.image.specs.fixup.Target.{kind_of}
 use Rattle.omf51.specs.declared.Fixup.{Fixup}
 use Rattle.segments.specs.declared.Goal.{Goal}
-use Rattle.segments.specs.declared.Goal.TheVariants as Goal
 use Rattle.segments.specs.declared.Reference.{Reference}
 use Rattle.segments.specs.Collect.{left, is_none}
 use Rattle.module_ids.specs.declared.KeptAs.{KeptAs}
@@ -14,9 +13,7 @@ use Rattle.module_ids.specs.declared.KeptAs.TheVariants.{None, Place}
 use Rattle.module_ids.specs.declared.IdRow.{IdRow}
 use Rattle.module_ids.specs.fault.Faults.{is_code_mark, fixup_fault}
 use Rattle.module_ids.specs.declared.reference.Known.{Known}
-use Rattle.module_ids.specs.declared.reference.Known.TheVariants as Known
 use Rattle.module_ids.specs.declared.reference.Leaves.{Leaves}
-use Rattle.module_ids.specs.declared.reference.Leaves.TheVariants as Leaves
 
 abbrev pub code_named : IdRow → Fixup → Bool
 code_named row f = if eqb f.block 1 then is_code_mark row.segment else if eqb f.block 2 then is_code_mark row.external else false

@@ -1,6 +1,5 @@
 -- `code_named` by the block. Assumes nothing.
 use borrow.Author.Tests.{eq-eqb, ne_eqb}
-use borrow.Author.Rules.{rules}
 use Rattle.module_ids.proofs.reference.code_named.Goals as goal
 
 pub returns-then-f-eq1 : goal.returns-then-f-eq1

@@ -1,7 +1,6 @@
 -- `goal_by` by the block. Assumes nothing.
 use native.Mathlib.Omega.{arith}
 use borrow.Author.Tests.{eq-eqb, ne_eqb}
-use borrow.Author.Rules.{rules}
 use Rattle.module_ids.proofs.reference.goal_by.Goals as goal
 
 pub overflow_add-result : goal.overflow_add-result

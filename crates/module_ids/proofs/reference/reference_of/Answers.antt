@@ -1,11 +1,9 @@
 -- `reference_of`: no refusal, what it names is code, and a kind that leaves a reference. Assumes nothing.
 use mathlib.Core.Path.{sym, ◌∙◌}
 use native.Mathlib.Omega.{arith}
-use borrow.Author.Tests.{not-true, not-false}
 use Rattle.module_ids.proofs.fault.ScanLaws.{told}
 use Rattle.module_ids.specs.fault.Faults.{fixup_fault}
 use Rattle.module_ids.proofs.reference.LeftReferenceLaws.{leaves-refused, leaves-other, leaves-kind, known}
-use borrow.Author.Rules.{rules}
 use Rattle.module_ids.proofs.reference.reference_of.Goals as goal
 
 pub returns-in-Refused : goal.returns-in-Refused

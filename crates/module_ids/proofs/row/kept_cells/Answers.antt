@@ -1,6 +1,5 @@
 -- `kept_cells` by its two cases. Assumes nothing.
 use native.Mathlib.Omega.{arith}
-use borrow.Author.Rules.{rules}
 use Rattle.module_ids.proofs.row.kept_cells.Goals as goal
 
 pub overflow_add-result : goal.overflow_add-result

@@ -1,5 +1,4 @@
 -- `kept_from`: 0 is none. Assumes nothing.
-use borrow.Author.Rules.{rules}
 use borrow.Author.Tests.{eq-eqb, ne_eqb}
 use Rattle.module_ids.proofs.row.kept_from.Goals as goal
 

@@ -2,7 +2,6 @@
 use Prim.Native.Nat.{◌*◌}
 use native.Mathlib.Nat.{add-zero}
 use native.Mathlib.Omega.{arith}
-use borrow.Author.Rules.{rules}
 use Rattle.lent.specs.RowLaws.{cell-there, cell-lacks}
 use Rattle.module_ids.proofs.row.numbers.Goals as goal
 

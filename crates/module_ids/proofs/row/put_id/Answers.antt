@@ -1,6 +1,5 @@
 -- `put_id`: the numbers put are the row's. Assumes nothing.
 use native.Mathlib.Omega.{arith}
-use borrow.Author.Rules.{rules}
 use Rattle.module_ids.proofs.row.put_id.Goals as goal
 
 pub kept_cells-k-requires : goal.kept_cells-k-requires

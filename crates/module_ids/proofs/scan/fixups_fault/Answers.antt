@@ -1,10 +1,7 @@
-use Prim.Native.Nat.{ℕ}
 use mathlib.Core.Path.{◌≡◌, refl, sym, ap, ◌∙◌}
 use mathlib.Core.List.{List, ◌∷◌}
 use native.Mathlib.Omega.{arith}
-use lib.ListN.{length}
 use Rattle.omf51.specs.declared.Definition.{Definition}
-use Rattle.library.specs.declared.items.Cursor.{Cursor}
 use Rattle.library.specs.items.Left.{fixups_left}
 use Rattle.library.specs.items.Yields.{fixups_after, next-fixup-yields}
 use Rattle.module_ids.specs.Noted.{Tells}
@@ -12,7 +9,6 @@ use Rattle.module_ids.specs.declared.fault.Verdict.{Verdict}
 use Rattle.module_ids.specs.fault.Faults.{verdict_of, fixup_fault}
 use Rattle.module_ids.specs.fault.Scan.{one_fault, fixups_fault}
 use Rattle.module_ids.proofs.fault.ScanLaws.{refused-first, passed_first, none_first, told}
-use borrow.Author.Rules.{rules}
 use Rattle.module_ids.proofs.scan.fixups_fault.Goals as goal
 
 pub loop-fixup-init : goal.loop-fixup-init

@@ -1,19 +1,13 @@
 -- `fixups_fault` goes from fixup to fixup. The invariant: those that are left decide as all did. Assumes nothing.
 use Prim.Native.Nat.{ℕ}
-use mathlib.Core.Path.{◌≡◌, refl, sym, ap, ◌∙◌}
-use mathlib.Core.List.{List, ◌∷◌}
-use native.Mathlib.Omega.{arith}
+use mathlib.Core.Path.{◌≡◌}
+use mathlib.Core.List.{List}
 use lib.ListN.{length}
 use Rattle.omf51.specs.declared.Definition.{Definition}
 use Rattle.library.specs.declared.items.Cursor.{Cursor}
 use Rattle.library.specs.items.Left.{fixups_left}
-use Rattle.library.specs.items.Yields.{fixups_after, next-fixup-yields}
 use Rattle.module_ids.specs.Noted.{Tells}
-use Rattle.module_ids.specs.declared.fault.Verdict.{Verdict}
-use Rattle.module_ids.specs.fault.Faults.{verdict_of, fixup_fault}
-use Rattle.module_ids.specs.fault.Scan.{one_fault, fixups_fault}
-use Rattle.module_ids.proofs.fault.ScanLaws.{refused-first, passed_first, none_first, told}
-use borrow.Author.Rules.{rules}
+use Rattle.module_ids.specs.fault.Scan.{fixups_fault}
 use Rattle.module_ids.proofs.scan.fixups_fault.Given as goal
 
 abbrev pub Inv : List ℕ → List ℕ → Cursor → Cursor → Type 0

@@ -1,23 +1,15 @@
-use Prim.Native.Nat.{ℕ, ◌-◌}
 use mathlib.Core.Path.{◌≡◌, refl, sym, ap, ◌∙◌}
-use mathlib.Core.List.{List, [], ◌∷◌}
-use mathlib.Core.Logic.{inl, inr}
 use native.Mathlib.Omega.{arith}
-use lib.ListN.{length}
-use denote.Enum.Declared.{tag_of}
-use types.Run.{OneOf}
 use Rattle.lent.specs.Choice.{or_else}
 use Rattle.omf51.specs.declared.Edition.TheVariants.{One}
 use Rattle.omf51.specs.Module.{module_at}
 use Rattle.segments.specs.Refuse.{collect_refusal}
-use Rattle.library.specs.contracts.ModuleAt.{the_type}
 use Rattle.library.specs.declared.Places.{Places}
 use Rattle.library.specs.declared.ModuleAt.{ModuleAt}
 use Rattle.library.specs.declared.ModuleAt.TheVariants.{Whole, Stop, Refused}
 use Rattle.library.specs.Gathered.{items_at}
 use Rattle.library.specs.Passes.{places_read, places_at}
 use Rattle.library.specs.WholeLaws.{module_of, modules-step, modules-end, module-moved, Ended}
-use Rattle.module_ids.specs.Noted.{Tells}
 use Rattle.module_ids.specs.fault.Faults.{verdict_of}
 use Rattle.module_ids.specs.fault.Scan.{sections_fault}
 use Rattle.module_ids.proofs.fault.ScanLaws.{module-fault, no-module, told}

@@ -6,7 +6,6 @@ use Rattle.library.specs.items.Left.{fixups_left}
 use Rattle.module_ids.specs.fault.Faults.{verdict_of, content_fault}
 use Rattle.module_ids.specs.fault.Scan.{fixups_fault}
 use Rattle.module_ids.proofs.fault.ScanLaws.{told}
-use borrow.Author.Rules.{rules}
 use Rattle.module_ids.proofs.scan.section_fault.Goals as goal
 
 pub returns-in-Refused : goal.returns-in-Refused

@@ -1,19 +1,13 @@
 -- `sections_fault` goes from content to content. The invariant: those that are left decide as all did. Assumes nothing.
 use Prim.Native.Nat.{ℕ}
-use mathlib.Core.Path.{◌≡◌, refl, sym, ap, ◌∙◌}
-use mathlib.Core.List.{List, ◌∷◌}
-use native.Mathlib.Omega.{arith}
+use mathlib.Core.Path.{◌≡◌}
+use mathlib.Core.List.{List}
 use lib.ListN.{length}
 use Rattle.omf51.specs.declared.Definition.{Definition}
 use Rattle.omf51.specs.Module.{Section, sections_at}
 use Rattle.library.specs.Gathered.{items_at}
-use Rattle.library.specs.items.Left.{fixups_left}
-use Rattle.library.specs.items.Yields.{sections_after, next-content-yields}
 use Rattle.module_ids.specs.Noted.{Tells}
-use Rattle.module_ids.specs.fault.Scan.{section_fault, sections_fault, section_with}
-use Rattle.module_ids.specs.fault.Faults.{verdict_of}
-use Rattle.module_ids.proofs.fault.ScanLaws.{refused-first, passed_first, none_first, told}
-use borrow.Author.Rules.{rules}
+use Rattle.module_ids.specs.fault.Scan.{sections_fault}
 use Rattle.module_ids.proofs.scan.sections_fault.Given as goal
 
 abbrev pub left : List ℕ → ℕ → List Section

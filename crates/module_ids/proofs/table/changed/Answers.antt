@@ -1,5 +1,4 @@
 -- `changed` by the sort of definition. Assumes nothing.
-use borrow.Author.Rules.{rules}
 use Rattle.module_ids.proofs.table.changed.Goals as goal
 
 pub returns-in-Segment : goal.returns-in-Segment

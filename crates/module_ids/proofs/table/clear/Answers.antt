@@ -1,15 +1,13 @@
-use Prim.Native.Nat.{ℕ, ◌<◌}
+use Prim.Native.Nat.{◌<◌}
 use mathlib.Core.Path.{◌≡◌, refl, sym, ap, subst, ◌∙◌}
-use mathlib.Core.List.{List, ◌∷◌}
+use mathlib.Core.List.{◌∷◌}
 use native.Mathlib.Omega.{arith}
 use lib.ListN.{length}
 use Rattle.lent.specs.RowLaws.{put-length}
 use Rattle.omf51.specs.declared.ModuleId.{ModuleId}
-use Rattle.library.specs.declared.items.Cursor.{Cursor}
 use Rattle.library.specs.items.Left.{definitions_left}
 use Rattle.library.specs.items.Yields.{definitions_after, next-definition-yields, definitions-start}
 use Rattle.module_ids.proofs.ClearLaws.{Clearing, clearing-starts, none-small, clearing-step, cleared}
-use borrow.Author.Rules.{rules}
 use Rattle.module_ids.proofs.table.clear.Goals as goal
 
 pub loop-definition-init : goal.loop-definition-init

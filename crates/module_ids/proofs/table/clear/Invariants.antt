@@ -1,16 +1,11 @@
 -- `clear` clears the row of one id after another. The invariant: rows of ids that are not left to clear are clear. Assumes nothing.
-use Prim.Native.Nat.{ℕ, ◌<◌}
-use mathlib.Core.Path.{◌≡◌, refl, sym, ap, subst, ◌∙◌}
-use mathlib.Core.List.{List, ◌∷◌}
-use native.Mathlib.Omega.{arith}
+use Prim.Native.Nat.{ℕ}
+use mathlib.Core.Path.{◌≡◌}
+use mathlib.Core.List.{List}
 use lib.ListN.{length}
-use Rattle.lent.specs.RowLaws.{put-length}
-use Rattle.omf51.specs.declared.ModuleId.{ModuleId}
 use Rattle.library.specs.declared.items.Cursor.{Cursor}
 use Rattle.library.specs.items.Left.{definitions_left}
-use Rattle.library.specs.items.Yields.{definitions_after, next-definition-yields, definitions-start}
-use Rattle.module_ids.proofs.ClearLaws.{Clearing, clearing-starts, none-small, clearing-step, cleared}
-use borrow.Author.Rules.{rules}
+use Rattle.module_ids.proofs.ClearLaws.{Clearing}
 use Rattle.module_ids.proofs.table.clear.Given as goal
 
 pub record Inv (library : List ℕ) (table₀ table : List ℕ) (c : Cursor) : Type 0 where

@@ -1,22 +1,14 @@
-use Prim.Native.Nat.{ℕ, ◌+◌, ◌≤◌}
 use mathlib.Core.Path.{◌≡◌, refl, sym, ap, ◌∙◌}
-use mathlib.Core.List.{List, [], ◌∷◌, ◌++◌, append_assoc}
+use mathlib.Core.List.{[], ◌∷◌, ◌++◌, append_assoc}
 use native.Mathlib.Omega.{arith}
 use lib.ListN.{length}
-use Rattle.lent.specs.Lists.{one, keep}
-use Rattle.omf51.specs.declared.Definition.{Definition}
-use Rattle.omf51.specs.Module.{definitions_at}
-use Rattle.library.specs.Gathered.{items_at}
-use Rattle.library.specs.declared.items.Cursor.{Cursor}
+use Rattle.lent.specs.Lists.{one}
 use Rattle.library.specs.items.Left.{definitions_left}
 use Rattle.library.specs.items.Yields.{definitions_after, next-definition-yields, definitions-start}
-use Rattle.library.specs.items.ForwardLaws.{Ordered, Forward, definition-goes}
+use Rattle.library.specs.items.ForwardLaws.{Forward, definition-goes}
 use Rattle.library.specs.items.EntrySizeLaws.{definition-says}
-use Rattle.segments.specs.Ids.{is_kept}
 use Rattle.module_ids.proofs.IdRowLaws.{changed-small}
-use Rattle.module_ids.specs.Noted.{Tells}
 use Rattle.module_ids.proofs.NotedLaws.{noted, kept_more, kept_step, none_kept, all_noted, note-length}
-use borrow.Author.Rules.{rules}
 use Rattle.module_ids.proofs.table.fill.Goals as goal
 
 pub loop-definition-init : goal.loop-definition-init

@@ -1,23 +1,17 @@
 -- `fill` notes one definition after another. The invariant: the table tells of those that are done, and the rest is left. Assumes nothing.
-use Prim.Native.Nat.{ℕ, ◌+◌, ◌≤◌}
-use mathlib.Core.Path.{◌≡◌, refl, sym, ap, ◌∙◌}
-use mathlib.Core.List.{List, [], ◌∷◌, ◌++◌, append_assoc}
-use native.Mathlib.Omega.{arith}
+use Prim.Native.Nat.{ℕ, ◌≤◌}
+use mathlib.Core.Path.{◌≡◌}
+use mathlib.Core.List.{List, ◌++◌}
 use lib.ListN.{length}
-use Rattle.lent.specs.Lists.{one, keep}
+use Rattle.lent.specs.Lists.{keep}
 use Rattle.omf51.specs.declared.Definition.{Definition}
 use Rattle.omf51.specs.Module.{definitions_at}
 use Rattle.library.specs.Gathered.{items_at}
 use Rattle.library.specs.declared.items.Cursor.{Cursor}
 use Rattle.library.specs.items.Left.{definitions_left}
-use Rattle.library.specs.items.Yields.{definitions_after, next-definition-yields, definitions-start}
-use Rattle.library.specs.items.ForwardLaws.{Ordered, Forward, definition-goes}
-use Rattle.library.specs.items.EntrySizeLaws.{definition-says}
+use Rattle.library.specs.items.ForwardLaws.{Ordered}
 use Rattle.segments.specs.Ids.{is_kept}
-use Rattle.module_ids.proofs.IdRowLaws.{changed-small}
 use Rattle.module_ids.specs.Noted.{Tells}
-use Rattle.module_ids.proofs.NotedLaws.{noted, kept_more, kept_step, none_kept, all_noted, note-length}
-use borrow.Author.Rules.{rules}
 use Rattle.module_ids.proofs.table.fill.Given as goal
 
 pub record Inv (library : List ℕ) (at : ℕ) (table₀ table : List ℕ) (c : Cursor) (n : ℕ) : Type 0 where

@@ -1,5 +1,4 @@
 -- `first_kept`: the first stays. Assumes nothing.
-use borrow.Author.Rules.{rules}
 use Rattle.module_ids.proofs.table.first_kept.Goals as goal
 
 pub returns-then-kept : goal.returns-then-kept

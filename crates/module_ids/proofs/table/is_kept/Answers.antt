@@ -1,7 +1,6 @@
 -- `is_kept` tests id, type and relocation in turn. Assumes nothing.
 use mathlib.Core.Path.{sym, ◌∙◌}
 use borrow.Author.Tests.{eq-eqb, ne_eqb}
-use borrow.Author.Rules.{rules}
 use Rattle.module_ids.proofs.table.is_kept.Goals as goal
 
 pub returns-then-id-eq0 : goal.returns-then-id-eq0

@@ -1,7 +1,6 @@
 -- `kept_after`: one more if it is kept. Assumes nothing.
 use mathlib.Core.Path.{sym, ◌∙◌}
 use native.Mathlib.Nat.{add-zero}
-use borrow.Author.Rules.{rules}
 use Rattle.module_ids.proofs.table.kept_after.Goals as goal
 
 pub returns-then-is_kept : goal.returns-then-is_kept

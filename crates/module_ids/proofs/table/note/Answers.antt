@@ -1,13 +1,9 @@
 -- `note`: the row of its id, changed and put back; it fits, as every row of a table of 32 bits does. A public definition changes nothing. Assumes nothing.
 use Prim.Native.Nat.{ℕ, ◌<◌}
 use mathlib.Core.Path.{◌≡◌, refl, sym, subst, ◌∙◌}
-use mathlib.Core.List.{List, [], ◌∷◌}
-use mathlib.Core.Logic.{inl, inr}
+use mathlib.Core.List.{List}
 use native.Mathlib.Omega.{arith}
-use denote.Enum.Declared.{tag_of}
-use types.Run.{OneOf}
 use Rattle.lent.specs.declared.part.Part.{Part}
-use Rattle.omf51.specs.contracts.Definition.{the_type}
 use Rattle.omf51.specs.declared.ModuleId.{ModuleId}
 use Rattle.omf51.specs.declared.Definition.{Definition}
 use Rattle.omf51.specs.declared.Definition.TheVariants.{Segment, Public, External}
@@ -16,7 +12,6 @@ use Rattle.module_ids.specs.IdRows.{id_row_at, Small}
 use Rattle.module_ids.proofs.IdRowLaws.{read_small}
 use Rattle.module_ids.specs.Noted.{changed, row_noted, note_in}
 use Rattle.module_ids.proofs.NotedLaws.{note-steps}
-use borrow.Author.Rules.{rules}
 use Rattle.module_ids.proofs.table.note.Goals as goal
 
 row-changes : (table : List ℕ) (n : ℕ) (d : Definition) → ((id : ModuleId) (offset : ℕ) (name : Part) → d ≡ Public id offset name → ⊥)

@@ -3,7 +3,6 @@ use mathlib.Core.Path.{sym, ap}
 use native.Mathlib.Omega.{arith}
 use Rattle.module_ids.specs.fault.Faults.{verdict_of}
 use Rattle.module_ids.proofs.fault.FaultLaws.{no-segment, fits, too_long}
-use borrow.Author.Rules.{rules}
 use Rattle.module_ids.proofs.fault.one.content_fault.Goals as goal
 
 pub returns-then-c-size-2 : goal.returns-then-c-size-2

@@ -1,9 +1,7 @@
 -- `fixup_fault` tests block 3, kind, block, and then what the id leads to. Assumes nothing.
 use mathlib.Core.Path.{sym, ap, ◌∙◌}
-use borrow.Author.Tests.{not-true, not-false}
 use Rattle.module_ids.specs.fault.Faults.{verdict_of}
 use Rattle.module_ids.proofs.fault.FaultLaws.{ignored, unknown-kind, unknown-block, not-segment, not_code, segment-fault}
-use borrow.Author.Rules.{rules}
 use Rattle.module_ids.proofs.fault.one.fixup_fault.Goals as goal
 
 pub returns-then-f-eq3 : goal.returns-then-f-eq3

@@ -1,0 +1,101 @@
+-- `find_from`: refused by the collection, or what is found then. Assumes nothing.
+use borrow.Author.Rules.{rules}
+use mathlib.Core.Path.{sym, ap, ◌∙◌}
+use Rattle.image.specs.declared.fixup.Rules.{Rules}
+use Rattle.omf51.specs.Module.{module_at}
+use Rattle.library.specs.Gathered.{items_at}
+use Rattle.collect.specs.stored.Stores.{CollectLists}
+use Rattle.collect.specs.stored.Segments.{lists}
+use Rattle.collect.specs.Outcome.{CollectOutcome, collection}
+use Rattle.run.specs.Run.{Lent, lent_lists}
+use Rattle.libfind.specs.Ends.{collectable}
+use Rattle.libfind.specs.SingleLaws.{image-short, refused-collecting, collected-then}
+use Rattle.libfind.proofs.entry.find_from.Goals as goal
+
+pub returns-in-Done : goal.returns-in-Done
+returns-in-Done c =
+    let lent : Lent = let a = c.args in lent_lists a.segments.now a.references.now a.symbols.now a.bytes.now a.masks.now a.placed.now a.noted.now a.lines.now in
+    let collected : Rules → CollectOutcome = λ rules. collection rules c.args.library.now (items_at c.args.library.now (module_at c.args.library.now) c.args.first) (collectable (lent)) in
+    λ b.
+    let a = c.args in
+    let q = c.collect in
+    let left : CollectLists = lists q.new.segments q.new.references q.new.symbols q.new.bytes q.new.masks in
+    c.find_collected.ensures (image-short a.image.now a.library.now a.settings (lent) b)
+    ∙ collected-then a.image.now a.library.now a.settings (lent) b
+    (ap (λ r. record { answer = r; left = left }) (sym c.in-Done.is) ∙ q.ensures ∙ ap (collected) c.rules_of-rules.ensures)
+
+pub returns-in-Refused : goal.returns-in-Refused
+returns-in-Refused c =
+    let lent : Lent = let a = c.args in lent_lists a.segments.now a.references.now a.symbols.now a.bytes.now a.masks.now a.placed.now a.noted.now a.lines.now in
+    let collected : Rules → CollectOutcome = λ rules. collection rules c.args.library.now (items_at c.args.library.now (module_at c.args.library.now) c.args.first) (collectable (lent)) in
+    λ b.
+    let a = c.args in
+    let q = c.collect in
+    let left : CollectLists = lists q.new.segments q.new.references q.new.symbols q.new.bytes q.new.masks in
+    refused-collecting a.image.now a.library.now a.settings (lent) b
+    (ap (λ r. record { answer = r; left = left }) (sym c.in-Refused.is) ∙ q.ensures ∙ ap (collected) c.rules_of-rules.ensures)
+    c.clear.ensures c.clear-in-Refused.ensures c.clear-in-Refused-2.ensures
+
+pub shape_of-segments-in-Done : goal.shape_of-segments-in-Done
+shape_of-segments-in-Done c =
+    c.segments-in-Done-1.given ∙ c.segments-1.given
+
+pub shape_of-references-in-Done : goal.shape_of-references-in-Done
+shape_of-references-in-Done c =
+    c.references-in-Done-1.given ∙ c.references-1.given
+
+pub shape_of-symbols-in-Done : goal.shape_of-symbols-in-Done
+shape_of-symbols-in-Done c =
+    c.symbols-in-Done-1.given ∙ c.symbols-1.given
+
+pub shape_of-bytes-in-Done : goal.shape_of-bytes-in-Done
+shape_of-bytes-in-Done c =
+    c.bytes-in-Done-1.given ∙ c.bytes-1.given
+
+pub shape_of-masks-in-Done : goal.shape_of-masks-in-Done
+shape_of-masks-in-Done c =
+    c.masks-in-Done-1.given ∙ c.masks-1.given
+
+pub shape_of-placed-in-Done : goal.shape_of-placed-in-Done
+shape_of-placed-in-Done c =
+    c.placed-1.given
+
+pub shape_of-noted-in-Done : goal.shape_of-noted-in-Done
+shape_of-noted-in-Done c =
+    c.noted-1.given
+
+pub shape_of-lines-in-Done : goal.shape_of-lines-in-Done
+shape_of-lines-in-Done c =
+    c.lines-1.given
+
+pub shape_of-segments-in-Refused : goal.shape_of-segments-in-Refused
+shape_of-segments-in-Refused c =
+    c.segments-1.given
+
+pub shape_of-references-in-Refused : goal.shape_of-references-in-Refused
+shape_of-references-in-Refused c =
+    c.references-1.given
+
+pub shape_of-symbols-in-Refused : goal.shape_of-symbols-in-Refused
+shape_of-symbols-in-Refused c =
+    c.symbols-1.given
+
+pub shape_of-bytes-in-Refused : goal.shape_of-bytes-in-Refused
+shape_of-bytes-in-Refused c =
+    c.bytes-1.given
+
+pub shape_of-masks-in-Refused : goal.shape_of-masks-in-Refused
+shape_of-masks-in-Refused c =
+    c.masks-1.given
+
+pub shape_of-placed-in-Refused : goal.shape_of-placed-in-Refused
+shape_of-placed-in-Refused c =
+    c.placed-in-Refused-1.given
+
+pub shape_of-noted-in-Refused : goal.shape_of-noted-in-Refused
+shape_of-noted-in-Refused c =
+    c.noted-in-Refused-1.given
+
+pub shape_of-lines-in-Refused : goal.shape_of-lines-in-Refused
+shape_of-lines-in-Refused c =
+    c.lines-in-Refused-1.given

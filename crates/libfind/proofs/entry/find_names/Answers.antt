@@ -1,0 +1,56 @@
+-- `find_names`: refused by what begins the run, or the rest of it. Assumes nothing.
+use borrow.Author.Rules.{rules}
+use mathlib.Core.Path.{◌≡◌, sym, ap, ◌∙◌}
+use lib.ListN.{length}
+use Rattle.run.specs.Run.{Lent, lent_lists, too_long}
+use Rattle.libfind.specs.Begin.{beginning}
+use Rattle.libfind.specs.BeginLaws.{own_is, begun, never-begun}
+use Rattle.libfind.specs.SingleLaws.{refused-early}
+use Rattle.libfind.proofs.entry.find_names.Goals as goal
+
+pub returns-in-At : goal.returns-in-At
+returns-in-At c =
+    let begins : let a = c.args in c.begin.result ≡ beginning (too_long (length a.image.now)) (length a.image.now) a.library.now a.settings = let a = c.args in
+    c.begin.ensures ∙ ap (λ o. beginning o (length a.image.now) a.library.now a.settings) (own_is (too_long (length a.image.now)) c.single.ensures) in
+    let a = c.args in c.find_from.ensures
+    (begun (too_long (length a.image.now)) (length a.image.now) a.library.now a.settings (sym c.in-At.is ∙ begins))
+
+pub returns-in-Refused : goal.returns-in-Refused
+returns-in-Refused c =
+    let lent : Lent = let a = c.args in lent_lists a.segments.now a.references.now a.symbols.now a.bytes.now a.masks.now a.placed.now a.noted.now a.lines.now in
+    let begins : let a = c.args in c.begin.result ≡ beginning (too_long (length a.image.now)) (length a.image.now) a.library.now a.settings = let a = c.args in
+    c.begin.ensures ∙ ap (λ o. beginning o (length a.image.now) a.library.now a.settings) (own_is (too_long (length a.image.now)) c.single.ensures) in
+    let a = c.args in refused-early a.image.now a.library.now a.settings (lent)
+    (never-begun (too_long (length a.image.now)) (length a.image.now) a.library.now a.settings (sym c.in-Refused.is ∙ begins))
+
+pub shape_of-segments : goal.shape_of-segments
+shape_of-segments c =
+    c.segments-1.given
+
+pub shape_of-references : goal.shape_of-references
+shape_of-references c =
+    c.references-1.given
+
+pub shape_of-symbols : goal.shape_of-symbols
+shape_of-symbols c =
+    c.symbols-1.given
+
+pub shape_of-bytes : goal.shape_of-bytes
+shape_of-bytes c =
+    c.bytes-1.given
+
+pub shape_of-masks : goal.shape_of-masks
+shape_of-masks c =
+    c.masks-1.given
+
+pub shape_of-placed : goal.shape_of-placed
+shape_of-placed c =
+    c.placed-1.given
+
+pub shape_of-noted : goal.shape_of-noted
+shape_of-noted c =
+    c.noted-1.given
+
+pub shape_of-lines : goal.shape_of-lines
+shape_of-lines c =
+    c.lines-1.given
