@@ -2,7 +2,6 @@
 use Rattle.module_index.specs.gather.Places.{PublicIs, no_definition}
 use Rattle.module_index.specs.gather.Publics.{key_by}
 use Rattle.module_index.specs.IndexedTableLaws.{indexed-ready, indexed-linked}
-use borrow.Author.Rules.{rules}
 use Rattle.module_index.proofs.index_publics.Goals as goal
 
 pub link-requires : goal.link-requires

@@ -1,7 +1,6 @@
 -- `index_sections` gathers, and links what was gathered. Assumes nothing.
 use Rattle.module_index.specs.gather.Places.{section_key, SectionIs, no_section}
 use Rattle.module_index.specs.IndexedTableLaws.{indexed-ready, indexed-linked}
-use borrow.Author.Rules.{rules}
 use Rattle.module_index.proofs.index_sections.Goals as goal
 
 pub link-requires : goal.link-requires

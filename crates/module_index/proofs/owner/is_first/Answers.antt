@@ -1,7 +1,6 @@
 -- `is_first` looks at the kept segment's place. Assumes nothing.
 use mathlib.Core.Path.{ap, sym}
 use Rattle.module_index.specs.owner.Owned.{is_first}
-use borrow.Author.Rules.{rules}
 use Rattle.module_index.proofs.owner.is_first.Goals as goal
 
 pub returns-in-Place : goal.returns-in-Place

@@ -1,38 +1,27 @@
 use Prim.Native.Nat.{ℕ, ◌+◌, ◌-◌, ◌*◌, ◌≤◌, ◌<◌}
 use mathlib.Core.Path.{◌≡◌, refl, sym, ap, subst, ◌∙◌}
-use mathlib.Core.Logic.{inl, inr}
 use mathlib.Core.Bool.{false}
-use mathlib.Core.List.{List, [], ◌∷◌, ◌++◌, append_assoc}
+use mathlib.Core.List.{List, [], ◌++◌, append_assoc}
 use native.Mathlib.Omega.{arith}
 use lib.ListN.{length, length-set}
-use denote.Enum.Declared.{tag_of}
-use types.Run.{OneOf}
 use Rattle.omf51.specs.declared.ModuleId.{ModuleId}
 use Rattle.lent.specs.declared.part.Part.{Part}
 use Rattle.lent.specs.Lists.{one}
-use Rattle.omf51.specs.contracts.Definition.{the_type}
 use Rattle.omf51.specs.declared.Definition.{Definition}
 use Rattle.omf51.specs.declared.Definition.TheVariants.{Segment, Public, External}
-use Rattle.omf51.specs.Module.{definitions_at}
-use Rattle.library.specs.Gathered.{items_at}
-use Rattle.library.specs.declared.items.Cursor.{Cursor}
 use Rattle.library.specs.declared.items.NextDefinition.TheVariants.{Item}
 use Rattle.library.specs.items.Items.{next_definition}
-use Rattle.library.specs.items.Left.{definitions_left}
 use Rattle.library.specs.items.Yields.{definitions_after, next-definition-yields, definitions-start}
 use Rattle.library.specs.items.Fewer.{fewer-definitions}
 use Rattle.library.specs.items.ContentSizeLaws.{word_small}
-use Rattle.library.specs.items.ForwardLaws.{Ordered, Sized, definition-sized}
+use Rattle.library.specs.items.ForwardLaws.{Sized, definition-sized}
 use Rattle.library.specs.items.EntrySizeLaws.{PublicAgain, public-again}
 use Rattle.library.specs.items.PublicSizeLaws.{public-sized}
 use Rattle.segments.specs.Ids.{id_of}
-use Rattle.module_index.specs.gather.Places.{public_at, PublicIs, no_definition, is_public_definition}
-use Rattle.module_index.specs.gather.Into.{Held}
+use Rattle.module_index.specs.gather.Places.{public_at, no_definition, is_public_definition}
 use Rattle.module_index.specs.gather.GatherLaws.{none-gathered, gather-turn, all_done}
 use Rattle.module_index.specs.gather.PublicLaws.{not-public-passed, keyed-gathered, apart-passed, none_kept, read_again}
-use Rattle.module_index.specs.declared.gather.publics.PublicsBy.{PublicsBy}
 use Rattle.module_index.specs.gather.Publics.{key_by, publics_by}
-use borrow.Author.Rules.{rules}
 use Rattle.module_index.proofs.gather.publics.gather_publics.Goals as goal
 use Rattle.module_index.proofs.gather.publics.gather_publics.Invariants.{Inv, Some-held}
 

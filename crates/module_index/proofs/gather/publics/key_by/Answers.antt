@@ -1,6 +1,5 @@
 -- `key_by` tells the two ways of gathering apart. Assumes nothing.
 use mathlib.Core.Path.{sym, ap, ◌∙◌}
-use borrow.Author.Rules.{rules}
 use borrow.Author.Tests.{eq-eqb, ne_eqb}
 use Rattle.module_index.specs.gather.Publics.{keyed_by}
 use Rattle.module_index.proofs.gather.publics.key_by.Goals as goal

@@ -3,10 +3,8 @@ use mathlib.Core.Path.{◌≡◌, refl, sym, ap, subst, ◌∙◌}
 use mathlib.Core.List.{List, [], ◌++◌, append_assoc}
 use native.Mathlib.Omega.{arith}
 use lib.ListN.{length, length-set}
-use borrow.Author.Rules.{rules}
 use Rattle.lent.specs.Lists.{one}
-use Rattle.omf51.specs.Module.{Section, sections_at}
-use Rattle.library.specs.Gathered.{items_at}
+use Rattle.omf51.specs.Module.{Section}
 use Rattle.library.specs.declared.items.NextContent.TheVariants.{Item}
 use Rattle.library.specs.items.Contents.{next_content}
 use Rattle.library.specs.items.Left.{fixups_left}

@@ -1,0 +1,7 @@
+-- `counts_of` gives zeros with every refusal. Assumes nothing.
+use borrow.Author.Rules.{rules}
+use Rattle.exported.proofs.numbers.counts_of.Goals as goal
+
+pub returns-in-Refused : goal.returns-in-Refused
+returns-in-Refused c =
+    rw c.in-Refused.is
