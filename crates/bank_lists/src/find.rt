@@ -12,9 +12,15 @@ use libfind::begin::Checked;
 use run::{Answer, Settings};
 use std::env::Env;
 use std::fs::Files;
+use std::io;
 use system::standard_error::StandardError;
 
-fn find(rt: &(impl Print + StandardError), board: &[u8], library: &[u8], settings: Settings) {
+fn find(
+    rt: &(impl Print + StandardError),
+    board: &[u8],
+    library: &[u8],
+    settings: Settings,
+) -> io::Result<()> {
     let mut segments = command::memory::segments();
     let mut references = command::memory::references();
     let mut symbols = command::memory::symbols();
@@ -39,7 +45,10 @@ fn find(rt: &(impl Print + StandardError), board: &[u8], library: &[u8], setting
     let answer = came.answer;
     match answer {
         Answer::Done(_) => print(rt, library, &lines, came),
-        Answer::Refused(r) => say_refused(rt, r, memory::lent()),
+        Answer::Refused(r) => {
+            say_refused(rt, r, memory::lent());
+            Ok(())
+        }
     }
 }
 
@@ -51,7 +60,12 @@ fn is_board(size: usize) -> bool {
     }
 }
 
-fn find_on(rt: &(impl Print + StandardError), board: &[u8], library: &[u8], settings: Settings) {
+fn find_on(
+    rt: &(impl Print + StandardError),
+    board: &[u8],
+    library: &[u8],
+    settings: Settings,
+) -> io::Result<()> {
     if is_refused(
         library,
         is_board(board.len()),
@@ -59,9 +73,9 @@ fn find_on(rt: &(impl Print + StandardError), board: &[u8], library: &[u8], sett
         settings.depth,
     ) {
         say_refused(rt, Refusal::LibraryTooLong, memory::lent());
-        return;
+        return Ok(());
     }
-    find(rt, board, taken(library), settings);
+    find(rt, board, taken(library), settings)
 }
 
 // Lists what stands of the library in each bank's view of the board; both files are told by the numbers of their words.
@@ -70,19 +84,19 @@ pub fn list_banks<R: Env + Files + Print + StandardError>(
     board: usize,
     library: usize,
     settings: Settings,
-) {
+) -> io::Result<()> {
     let mut first = memory::board_room();
     let Loaded::Size(in_board) = load(rt, board, &mut first) else {
-        return;
+        return Ok(());
     };
     let mut second = file::room();
     let Loaded::Size(in_library) = load(rt, library, &mut second) else {
-        return;
+        return Ok(());
     };
     find_on(
         rt,
         bytes_of(&first, in_board),
         bytes_of(&second, in_library),
         settings,
-    );
+    )
 }

@@ -1,9 +1,7 @@
 // The lists of all banks on standard output: for each bank a line with its number, from 0 on, and its list behind that; an empty line between two banks.
 use bank_rules::BankAnswer;
-use command::message::say_unwritten;
 use command::output::write_lines;
 use std::io;
-use system::standard_error::StandardError;
 
 // Puts what stands before a bank's list.
 fn put_title(rt: &impl Print, k: usize) -> io::Result<()> {
@@ -52,9 +50,7 @@ fn put_banks(
     Ok(())
 }
 
-pub fn print(rt: &(impl Print + StandardError), library: &[u8], lines: &[u64], came: BankAnswer) {
+pub fn print(rt: &impl Print, library: &[u8], lines: &[u64], came: BankAnswer) -> io::Result<()> {
     let each = came.lines;
-    if let Err(e) = put_banks(rt, library, lines, &each, came.banks) {
-        say_unwritten(rt, e);
-    }
+    put_banks(rt, library, lines, &each, came.banks)
 }

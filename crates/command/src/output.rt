@@ -1,12 +1,10 @@
 // The list on standard output, a line at a time, so that a list of any length is printed.
-use crate::message::say_unwritten;
 use lent::names::name;
 use lent::part::Part;
 use listing_rules::rows::line_at;
 use printing::{Printed, print_heading, print_line};
 use std::io;
 use std::io::ErrorKind;
-use system::standard_error::StandardError;
 
 // Writes out what was put into the room. No line is longer than the room: an address takes 18 columns at most, a name 257, a description 89.
 fn write(rt: &impl Print, printed: Printed, room: &[u8]) -> io::Result<()> {
@@ -44,8 +42,6 @@ pub fn write_lines(
 }
 
 // Prints the first n lines.
-pub fn print(rt: &(impl Print + StandardError), library: &[u8], lines: &[u64], n: usize) {
-    if let Err(e) = write_lines(rt, library, lines, 0, n) {
-        say_unwritten(rt, e);
-    }
+pub fn print(rt: &impl Print, library: &[u8], lines: &[u64], n: usize) -> io::Result<()> {
+    write_lines(rt, library, lines, 0, n)
 }

@@ -5,24 +5,24 @@
 mod convert;
 mod words;
 
-use command::message::say;
+use command::message::{ended, say};
 use lent::names::same;
+use std::process::ExitCode;
 use system::arguments;
 
-fn main(rt: HostRuntime) {
+fn main(rt: HostRuntime) -> ExitCode {
     if arguments::count(&rt) != 3 {
         say(&rt, b"usage: one file is to be named (--help tells all)\n");
-        return;
+        return ExitCode::SUCCESS;
     }
     let mut room = command::words::room();
     let n = command::words::read_word(&rt, 1, &mut room);
     if same(&room[..n], b"hex") {
-        convert::hex(&rt);
-        return;
+        return ended(&rt, convert::hex(&rt));
     }
     if same(&room[..n], b"unhex") {
-        convert::unhex(&rt);
-        return;
+        return ended(&rt, convert::unhex(&rt));
     }
     say(&rt, b"usage: the job is hex or unhex (--help tells all)\n");
+    ExitCode::SUCCESS
 }

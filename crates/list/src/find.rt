@@ -10,12 +10,18 @@ use libfind::entry::find_names;
 use run::{Answer, Settings};
 use std::env::Env;
 use std::fs::Files;
+use std::io;
 use system::standard_error::StandardError;
 
 // No image is longer.
 const LONGEST: usize = 65536;
 
-fn find(rt: &(impl Print + StandardError), image: &[u8], library: &[u8], settings: Settings) {
+fn find(
+    rt: &(impl Print + StandardError),
+    image: &[u8],
+    library: &[u8],
+    settings: Settings,
+) -> io::Result<()> {
     let mut segments = command::memory::segments();
     let mut references = command::memory::references();
     let mut symbols = command::memory::symbols();
@@ -38,11 +44,19 @@ fn find(rt: &(impl Print + StandardError), image: &[u8], library: &[u8], setting
         &mut lines,
     ) {
         Answer::Done(counts) => print(rt, library, &lines, counts.lines),
-        Answer::Refused(r) => say_refused(rt, r, memory::lent()),
+        Answer::Refused(r) => {
+            say_refused(rt, r, memory::lent());
+            Ok(())
+        }
     }
 }
 
-fn find_in(rt: &(impl Print + StandardError), image: &[u8], library: &[u8], settings: Settings) {
+fn find_in(
+    rt: &(impl Print + StandardError),
+    image: &[u8],
+    library: &[u8],
+    settings: Settings,
+) -> io::Result<()> {
     if is_refused(
         library,
         image.len() <= LONGEST,
@@ -50,9 +64,9 @@ fn find_in(rt: &(impl Print + StandardError), image: &[u8], library: &[u8], sett
         settings.depth,
     ) {
         say_refused(rt, Refusal::LibraryTooLong, memory::lent());
-        return;
+        return Ok(());
     }
-    find(rt, image, taken(library), settings);
+    find(rt, image, taken(library), settings)
 }
 
 // Lists what stands of the library in the image; both are told by the numbers of their words.
@@ -61,19 +75,19 @@ pub fn list<R: Env + Files + Print + StandardError>(
     image: usize,
     library: usize,
     settings: Settings,
-) {
+) -> io::Result<()> {
     let mut first = file::room();
     let Loaded::Size(in_image) = load(rt, image, &mut first) else {
-        return;
+        return Ok(());
     };
     let mut second = file::room();
     let Loaded::Size(in_library) = load(rt, library, &mut second) else {
-        return;
+        return Ok(());
     };
     find_in(
         rt,
         bytes_of(&first, in_image),
         bytes_of(&second, in_library),
         settings,
-    );
+    )
 }

@@ -12,21 +12,29 @@ use crate::address::{Address, read_address};
 use crate::show::walk;
 use crate::usage::{only_withholds, say_wrong};
 use command::arguments::{Requested, read_request};
+use command::message::ended;
 use command::mistake::say_usage;
+use std::process::ExitCode;
 
 // The command line is one of an image and a second word; that is the address here.
-fn main(rt: HostRuntime) {
+fn main(rt: HostRuntime) -> ExitCode {
     if !only_withholds(&rt) {
-        return;
+        return ExitCode::SUCCESS;
     }
     let asked = read_request(&rt);
     let requested = asked.requested;
     let withheld = asked.withheld;
     match requested {
         Requested::Whole(request) => match read_address(&rt, request.library) {
-            Address::At(start) => walk(&rt, request.image, start, withheld),
-            Address::Wrong(mistake) => say_usage(&rt, mistake),
+            Address::At(start) => ended(&rt, walk(&rt, request.image, start, withheld)),
+            Address::Wrong(mistake) => {
+                say_usage(&rt, mistake);
+                ExitCode::SUCCESS
+            }
         },
-        Requested::Wrong(mistake) => say_wrong(&rt, mistake),
+        Requested::Wrong(mistake) => {
+            say_wrong(&rt, mistake);
+            ExitCode::SUCCESS
+        }
     }
 }

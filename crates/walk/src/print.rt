@@ -2,13 +2,11 @@
 // leads; and last, why no more are shown.
 use crate::forms::{FORM, forms};
 use command::file::bytes_of;
-use command::message::say_unwritten;
 use lent::names::name;
 use lent::part::Part;
 use lent::rows::cell;
 use routine::{ROW_WIDTH, Why};
 use std::io;
-use system::standard_error::StandardError;
 
 fn digit(n: u64) -> u8 {
     let low = (n % 16) as u8;
@@ -125,14 +123,8 @@ fn put_why(rt: &impl Print, why: Why) -> io::Result<()> {
     }
 }
 
-fn put_all(rt: &impl Print, image: &[u8], rows: &[u64], n: usize, why: Why) -> io::Result<()> {
+pub fn print(rt: &impl Print, image: &[u8], rows: &[u64], n: usize, why: Why) -> io::Result<()> {
     rt.write_all(b"Address | Bytes     | Instruction       | Target\n")?;
     put_lines(rt, image, rows, n)?;
     put_why(rt, why)
-}
-
-pub fn print(rt: &(impl Print + StandardError), image: &[u8], rows: &[u64], n: usize, why: Why) {
-    if let Err(e) = put_all(rt, image, rows, n, why) {
-        say_unwritten(rt, e);
-    }
 }

@@ -8,6 +8,7 @@ use routine::walk::walk_routine;
 use routine::{WalkRefusal, Walked, number};
 use std::env::Env;
 use std::fs::Files;
+use std::io;
 use system::standard_error::StandardError;
 
 // Enough for every walk.
@@ -37,10 +38,13 @@ fn walk_in(
     withheld: Stretches,
     start: usize,
     rows: &mut [u64],
-) {
+) -> io::Result<()> {
     match walk_routine(image, withheld, start, rows) {
         Walked::Done { steps, why } => print(rt, image, rows, steps, why),
-        Walked::Refused(r) => say_refused(rt, r),
+        Walked::Refused(r) => {
+            say_refused(rt, r);
+            Ok(())
+        }
     }
 }
 
@@ -49,11 +53,11 @@ pub fn walk<R: Env + Files + Print + StandardError>(
     image: usize,
     start: usize,
     withheld: Stretches,
-) {
+) -> io::Result<()> {
     let mut room = file::room();
     let Loaded::Size(n) = load(rt, image, &mut room) else {
-        return;
+        return Ok(());
     };
     let mut rows = rows();
-    walk_in(rt, bytes_of(&room, n), withheld, start, &mut rows);
+    walk_in(rt, bytes_of(&room, n), withheld, start, &mut rows)
 }
