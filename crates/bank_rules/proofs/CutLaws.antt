@@ -1,7 +1,7 @@
 -- A BANK'S VIEW OF WHAT IS WITHHELD: the view of a board's cells is that of the bank's bytes under the stretches that are cut. Assumes nothing.
-use Rattle.std.specs.Prelude.{ℕ, zero, suc, ◌+◌, ◌-◌, ◌*◌, ◌≤◌, ◌<◌, min, ◌≡◌, Bool, true, false, ◌&&◌, ◌||◌, leb, ltb, drop, set, if◌then◌else◌}
+use Rattle.std.specs.Prelude.{ℕ, zero, suc, ◌+◌, ◌-◌, ◌*◌, ◌≤◌, ◌<◌, min, ◌≡◌, drop, set}
 use Rattle.std.proofs.Math.Path.{refl, sym, ap}
-use Rattle.std.proofs.Common.{◌∙◌, arith, ltb-true, ltb-false, lt-ltb, le-ltb, le-leb, length-set, take-append-drop, ext_get_or, take_at, drop_at, drop-cons, drop-drop, length-take-le}
+use Rattle.std.proofs.Common.{◌∙◌, arith, lt-ltb, le-ltb, le-leb, length-set, take-append-drop, ext_get_or, take_at, drop_at, drop-cons, drop-drop, length-take-le}
 use mathlib.Core.List.{List, [], ◌∷◌, ◌++◌, map, append_assoc}
 use Rattle.std.proofs.Math.Decide.{dec_lt}
 use Rattle.std.proofs.lemmas.Bool.{lt-leb}
@@ -10,7 +10,7 @@ use Rattle.std.proofs.lemmas.List.Edits.{sets-eq}
 use Rattle.std.proofs.Math.Seq.{get_or-take, get_or-drop, get_or-append-add}
 use Rattle.lent.specs.Lists.{any}
 use Rattle.image.specs.declared.Stretch.{Stretch}
-use Rattle.image.specs.View.{in_one, within, stretches_in, seen, view, cell_at}
+use Rattle.image.specs.View.{in_one, within, stretches_in, view, cell_at}
 use Rattle.image.proofs.ViewLaws.{view-length, view-cell}
 use Rattle.bank_rules.specs.Banks.{bank_start, bank_cells}
 use Rattle.image.specs.declared.cover.Stretches.{Stretches}

@@ -1,7 +1,7 @@
 -- What has to fit into lent memory grows from bank to bank. Assumes nothing.
 use Prim.Native.Nat.{ℕ, zero, suc, ◌+◌, ◌*◌, ◌≤◌, ◌<◌, max}
-use Rattle.std.specs.Prelude.{◌≡◌, refl, ◌⊎◌, List, ◌++◌}
-use Rattle.std.proofs.Common.{sym, ap, ◌∙◌, lt_of_lt_of_le, mul-le-mul_right}
+use Rattle.std.specs.Prelude.{◌≡◌, ◌⊎◌, List}
+use Rattle.std.proofs.Common.{lt_of_lt_of_le, mul-le-mul_right}
 use Rattle.std.proofs.Math.Logic.{inl, inr}
 use Rattle.std.proofs.Math.Decide.{dec_lt}
 use native.Mathlib.Omega.{arith}
@@ -9,8 +9,8 @@ use Rattle.std.proofs.Math.ListN.{length, length-append}
 use Rattle.search_rules.specs.SearchRows.{placed_width, noted_width}
 use Rattle.listing_rules.specs.Listing.{line_width}
 use Rattle.run.specs.declared.Settings.{Settings}
-use Rattle.run.specs.Run.{Lent, Yield, counted, stages}
-use Rattle.run.specs.Given.{Over, SearchOver, ListOver}
+use Rattle.run.specs.Run.{Lent, Yield, counted}
+use Rattle.run.specs.Given.{SearchOver, ListOver}
 use Rattle.bank_rules.specs.Banks.{shown, lines_to, last_to, most_to, given_to, needed_to}
 
 -- the greater of two counts does not fit exactly if one of them does not

@@ -17,7 +17,6 @@ use Rattle.segments.specs.SegmentRows.{pattern_bytes, pattern_masks}
 use Rattle.collect.specs.declared.stored.CollectCounts.{CollectCounts}
 use Rattle.collect.specs.stored.Stores.{CollectLists, Room, Stores}
 use Rattle.collect.specs.stored.StoreLaws.{stored-count}
-use Rattle.collect.specs.all_modules.All.{nothing}
 use Rattle.collect.specs.Outcome.{counted_in, too_few, refusal_of}
 
 -- the order of the refusals, once the library is short enough

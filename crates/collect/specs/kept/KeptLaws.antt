@@ -5,7 +5,7 @@ use Rattle.std.proofs.Common.{sym, subst, ◌∙◌, arith, ne_eqb}
 use Rattle.std.proofs.Math.Option.{Option, none, some}
 use Rattle.std.proofs.Math.ListN.{get_elem?}
 use Rattle.lent.specs.FirstOf.{none≢some}
-use Rattle.lent.specs.Lists.{one, keep, place_of, first, numbered}
+use Rattle.lent.specs.Lists.{one, keep, place_of, numbered}
 use Rattle.lent.specs.ListLaws.{numbered-length}
 use Rattle.omf51.specs.declared.Definition.{Definition}
 use Rattle.omf51.specs.Module.{Module}

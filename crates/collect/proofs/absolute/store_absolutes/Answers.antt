@@ -1,8 +1,7 @@
-use Prim.Native.Nat.{ℕ, ◌-◌, ◌<◌, ◌^◌}
+use Prim.Native.Nat.{◌-◌}
 use mathlib.Core.Path.{◌≡◌, refl, sym, ap, subst, ◌∙◌}
 use mathlib.Core.List.{List, ◌++◌}
 use native.Mathlib.Omega.{arith}
-use lib.ListN.{length}
 use Rattle.lent.specs.Lists.{one}
 use Rattle.image.specs.declared.fixup.Rules.{Rules}
 use Rattle.omf51.specs.Module.{Section, Module}
@@ -12,19 +11,15 @@ use Rattle.library.specs.items.Contents.{next_content}
 use Rattle.library.specs.items.ContentSizeLaws.{content-goes}
 use Rattle.tables.specs.links.FollowLaws.{follows-step}
 use Rattle.segment_parts.specs.SectionLaws.{section-met, none-met}
-use Rattle.collect.specs.declared.stored.CollectCounts.{CollectCounts}
-use Rattle.collect.specs.stored.Stores.{CollectLists, Stores, After, SameLengths}
+use Rattle.collect.specs.stored.Stores.{CollectLists, Stores, After}
 use Rattle.collect.specs.stored.ProgressLaws.{same-lengths, lengths-on}
 use Rattle.collect.specs.stored.Segments.{lists, absolute_of, publics_of, own_by}
 use Rattle.collect.specs.stored.SegmentLaws.{absolute-by}
-use Rattle.collect.specs.absolute.AbsoluteLaws.{Storing, flags-clear, flags-many, offered, absolutes-start, absolutes-on, absolutes-lack, absolutes-end}
+use Rattle.collect.specs.absolute.AbsoluteLaws.{flags-clear, flags-many, offered, absolutes-start, absolutes-on, absolutes-lack, absolutes-end}
 use Rattle.module_index.specs.gather.Places.{section_in, SectionIs}
 use Rattle.tables.specs.links.Things.{places_of, next_of}
 use Rattle.tables.specs.links.ThingLaws.{next_small}
-use Rattle.collect.specs.declared.absolute.Absolutes.{Absolutes}
-use Rattle.segment_parts.specs.symbols_by_offset.Flags.{Clear}
 use Rattle.collect.specs.absolute.Absolute.{ByOffset}
-use borrow.Author.Rules.{rules}
 use Rattle.collect.proofs.absolute.store_absolutes.Goals as goal
 
 pub loop-last-init : goal.loop-last-init

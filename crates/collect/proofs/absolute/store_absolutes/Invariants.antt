@@ -1,31 +1,20 @@
 -- `store_absolutes` goes from link to link. Assumes nothing.
 use Prim.Native.Nat.{ℕ, ◌-◌, ◌<◌, ◌^◌}
-use mathlib.Core.Path.{◌≡◌, refl, sym, ap, subst, ◌∙◌}
-use mathlib.Core.List.{List, ◌++◌}
-use native.Mathlib.Omega.{arith}
+use mathlib.Core.Path.{◌≡◌}
+use mathlib.Core.List.{List}
 use lib.ListN.{length}
-use Rattle.lent.specs.Lists.{one}
 use Rattle.image.specs.declared.fixup.Rules.{Rules}
-use Rattle.omf51.specs.Module.{Section, Module}
-use Rattle.segments.specs.Collect.{Collected, absolute_id, absolute_segment}
-use Rattle.library.specs.items.Left.{fixups_left}
-use Rattle.library.specs.items.Contents.{next_content}
-use Rattle.library.specs.items.ContentSizeLaws.{content-goes}
-use Rattle.tables.specs.links.FollowLaws.{follows-step}
-use Rattle.segment_parts.specs.SectionLaws.{section-met, none-met}
+use Rattle.omf51.specs.Module.{Module}
+use Rattle.segments.specs.Collect.{Collected}
 use Rattle.collect.specs.declared.stored.CollectCounts.{CollectCounts}
-use Rattle.collect.specs.stored.Stores.{CollectLists, Stores, After, SameLengths}
-use Rattle.collect.specs.stored.ProgressLaws.{same-lengths, lengths-on}
-use Rattle.collect.specs.stored.Segments.{lists, absolute_of, publics_of, own_by}
-use Rattle.collect.specs.stored.SegmentLaws.{absolute-by}
-use Rattle.collect.specs.absolute.AbsoluteLaws.{Storing, flags-clear, flags-many, offered, absolutes-start, absolutes-on, absolutes-lack, absolutes-end}
-use Rattle.module_index.specs.gather.Places.{section_in, SectionIs}
+use Rattle.collect.specs.stored.Stores.{CollectLists, Stores, SameLengths}
+use Rattle.collect.specs.stored.Segments.{lists, own_by}
+use Rattle.collect.specs.absolute.AbsoluteLaws.{Storing}
+use Rattle.module_index.specs.gather.Places.{SectionIs}
 use Rattle.tables.specs.links.Things.{places_of, next_of}
-use Rattle.tables.specs.links.ThingLaws.{next_small}
 use Rattle.collect.specs.declared.absolute.Absolutes.{Absolutes}
 use Rattle.segment_parts.specs.symbols_by_offset.Flags.{Clear}
 use Rattle.collect.specs.absolute.Absolute.{ByOffset}
-use borrow.Author.Rules.{rules}
 use Rattle.collect.proofs.absolute.store_absolutes.Given as goal
 
 pub record Inv (library : List ℕ) (a : Absolutes) (table contents definitions : List ℕ) (n : ℕ) (heads apart₀ apart flags : List ℕ) (c₀ : CollectCounts)

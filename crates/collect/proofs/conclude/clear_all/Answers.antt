@@ -1,7 +1,6 @@
 -- `clear_all` clears one list after another. Assumes nothing.
 use Rattle.collect.specs.stored.Segments.{lists}
 use Rattle.collect.specs.EndLaws.{zeroed-is}
-use borrow.Author.Rules.{rules}
 use Rattle.collect.proofs.conclude.clear_all.Goals as goal
 
 pub returns : goal.returns

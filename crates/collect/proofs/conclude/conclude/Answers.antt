@@ -8,7 +8,6 @@ use Rattle.module_ids.proofs.fault.ScanLaws.{told}
 use Rattle.collect.specs.stored.Stores.{After}
 use Rattle.collect.specs.stored.Segments.{lists}
 use Rattle.collect.specs.EndLaws.{done-is, lacks-is, refused-is}
-use borrow.Author.Rules.{rules}
 use Rattle.collect.proofs.conclude.conclude.Goals as goal
 
 pub returns-in_default : goal.returns-in_default

@@ -7,7 +7,6 @@ use Rattle.collect.specs.stored.ProgressLaws.{lengths-on}
 use Rattle.collect.specs.stored.Segments.{lists}
 use Rattle.collect.specs.EndLaws.{long-is, zeroed-stores, zeroed-lengths}
 use Rattle.collect.specs.ZeroLaws.{table-tells}
-use borrow.Author.Rules.{rules}
 use Rattle.collect.proofs.entry.collect.Goals as goal
 
 pub returns-then-library-gt-LONGEST_LIBRARY : goal.returns-then-library-gt-LONGEST_LIBRARY

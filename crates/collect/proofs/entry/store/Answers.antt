@@ -1,7 +1,6 @@
 -- `store` takes small tables or large ones. Assumes nothing.
 use native.Mathlib.Omega.{arith}
 use Rattle.collect.specs.ZeroLaws.{zeros-size}
-use borrow.Author.Rules.{rules}
 use Rattle.collect.proofs.entry.store.Goals as goal
 
 pub store_in-requires : goal.store_in-requires

@@ -1,6 +1,5 @@
 -- `store_in` lends heads of zeros, and room for masks. Assumes nothing.
 use Rattle.collect.specs.ZeroLaws.{tables-work}
-use borrow.Author.Rules.{rules}
 use Rattle.collect.proofs.entry.store_in.Goals as goal
 
 pub store_all-requires : goal.store_all-requires

@@ -2,7 +2,6 @@
 use Prim.Native.Nat.{◌<◌}
 use mathlib.Core.Path.{refl, subst}
 use Rattle.omf51.specs.declared.ModuleId.{ModuleId}
-use borrow.Author.Rules.{rules}
 use Rattle.collect.proofs.kept.kept_from.Goals as goal
 
 pub returns : goal.returns

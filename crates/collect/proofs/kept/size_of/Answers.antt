@@ -1,7 +1,6 @@
 -- `size_of` of a segment is its size. Assumes nothing.
 use mathlib.Core.Path.{ap, sym}
 use Rattle.segments.specs.Ids.{size_of}
-use borrow.Author.Rules.{rules}
 use Rattle.collect.proofs.kept.size_of.Goals as goal
 
 pub returns-in-Segment : goal.returns-in-Segment

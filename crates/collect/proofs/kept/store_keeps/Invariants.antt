@@ -1,29 +1,20 @@
 -- `store_keeps` goes from definition to definition. Assumes nothing.
-use Prim.Native.Nat.{ℕ, ◌-◌, ◌<◌}
-use mathlib.Core.Path.{◌≡◌, refl, sym, ap, subst, ◌∙◌}
-use mathlib.Core.Bool.{true}
-use mathlib.Core.List.{List, ◌∷◌}
-use native.Mathlib.Omega.{arith}
+use Prim.Native.Nat.{ℕ, ◌-◌}
+use mathlib.Core.Path.{◌≡◌}
+use mathlib.Core.List.{List}
 use lib.ListN.{length}
-use Rattle.lent.specs.declared.part.Part.{Part}
-use Rattle.lent.specs.Lists.{one}
 use Rattle.omf51.specs.Module.{Module, definitions_at}
 use Rattle.library.specs.Gathered.{items_at}
 use Rattle.library.specs.declared.items.Cursor.{Cursor}
 use Rattle.library.specs.items.Left.{definitions_left}
-use Rattle.library.specs.items.Yields.{definitions_after, next-definition-yields, definitions-start}
-use Rattle.segments.specs.Ids.{is_kept, kept}
-use Rattle.segments.specs.Collect.{Collected, kept_segment}
+use Rattle.segments.specs.Collect.{Collected}
 use Rattle.module_index.specs.Indexed.{Indexed}
 use Rattle.collect.specs.declared.stored.CollectCounts.{CollectCounts}
-use Rattle.collect.specs.stored.Stores.{CollectLists, Stores, Extends, SameLengths}
-use Rattle.collect.specs.stored.StoreLaws.{stored-count}
+use Rattle.collect.specs.stored.Stores.{CollectLists, Stores, SameLengths}
 use Rattle.collect.specs.stored.Progress.{Progress}
-use Rattle.collect.specs.stored.ProgressLaws.{progress-starts, progress-ends, same-lengths, lengths-on}
 use Rattle.collect.specs.stored.Segments.{lists}
-use Rattle.collect.specs.kept.Kept.{kept_from, kept_segments}
-use Rattle.collect.specs.kept.KeptLaws.{definition-stored, kept_rest, rest-passed, rest-none, keeps_on, keeps-lack, keeps-start}
-use borrow.Author.Rules.{rules}
+use Rattle.collect.specs.kept.Kept.{kept_segments}
+use Rattle.collect.specs.kept.KeptLaws.{kept_rest}
 use Rattle.collect.proofs.kept.store_keeps.Given as goal
 
 pub record Inv (library : List ℕ) (from : ℕ) (table first contents heads definitions apart₀ apart : List ℕ) (c₀ : CollectCounts)

@@ -1,4 +1,4 @@
-use Prim.Native.Nat.{ℕ, ◌-◌, ◌<◌, ◌^◌}
+use Prim.Native.Nat.{ℕ, ◌-◌}
 use mathlib.Core.Path.{◌≡◌, refl, sym, ap, ◌∙◌}
 use mathlib.Core.List.{List}
 use native.Mathlib.Omega.{arith}
@@ -9,7 +9,6 @@ use Rattle.library.specs.items.Contents.{next_content}
 use Rattle.library.specs.items.ContentSizeLaws.{content-goes}
 use Rattle.tables.specs.links.Things.{places_of, next_of}
 use Rattle.tables.specs.links.ThingLaws.{next_small}
-use Rattle.tables.specs.links.Follow.{Follows}
 use Rattle.tables.specs.links.FollowLaws.{follows-step}
 use Rattle.module_index.specs.gather.Places.{section_in, SectionIs}
 use Rattle.segment_parts.specs.merge.MergeLaws.{merged-at-length}
@@ -17,7 +16,6 @@ use Rattle.segment_parts.specs.SectionLaws.{section_with, section-met, none-met}
 use Rattle.segment_parts.specs.Along.{Merging}
 use Rattle.segment_parts.specs.AlongLaws.{merging-starts, merging-on, merging-ends}
 use Rattle.segment_parts.specs.Patterns.{merged_one}
-use borrow.Author.Rules.{rules}
 use Rattle.segment_parts.proofs.patterns.merge_along.Goals as goal
 use Rattle.segment_parts.proofs.patterns.merge_along.Goals.{In_default}
 use Rattle.segment_parts.proofs.patterns.merge_along.Invariants.{Goes}

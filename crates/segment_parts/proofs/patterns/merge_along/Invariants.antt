@@ -1,24 +1,15 @@
 -- `merge_along` goes from link to link. Assumes nothing.
 use Prim.Native.Nat.{ℕ, ◌-◌, ◌<◌, ◌^◌}
-use mathlib.Core.Path.{◌≡◌, refl, sym, ap, ◌∙◌}
+use mathlib.Core.Path.{◌≡◌}
 use mathlib.Core.List.{List}
-use native.Mathlib.Omega.{arith}
 use lib.ListN.{length}
 use Rattle.omf51.specs.Module.{Section}
 use Rattle.segments.specs.Collect.{data_of, data_masks}
-use Rattle.library.specs.items.Contents.{next_content}
-use Rattle.library.specs.items.ContentSizeLaws.{content-goes}
 use Rattle.tables.specs.links.Things.{places_of, next_of}
-use Rattle.tables.specs.links.ThingLaws.{next_small}
 use Rattle.tables.specs.links.Follow.{Follows}
-use Rattle.tables.specs.links.FollowLaws.{follows-step}
-use Rattle.module_index.specs.gather.Places.{section_in, SectionIs}
-use Rattle.segment_parts.specs.merge.MergeLaws.{merged-at-length}
-use Rattle.segment_parts.specs.SectionLaws.{section_with, section-met, none-met}
+use Rattle.module_index.specs.gather.Places.{SectionIs}
 use Rattle.segment_parts.specs.Along.{Merging}
-use Rattle.segment_parts.specs.AlongLaws.{merging-starts, merging-on, merging-ends}
 use Rattle.segment_parts.specs.Patterns.{merged_one}
-use borrow.Author.Rules.{rules}
 use Rattle.segment_parts.proofs.patterns.merge_along.Given as goal
 
 abbrev pub Goes : List ℕ → ℕ → List ℕ → List ℕ → (List ℕ → Section → List ℕ) → List ℕ → ℕ → ℕ → List ℕ → Type 0

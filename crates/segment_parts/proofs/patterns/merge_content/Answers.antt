@@ -6,7 +6,6 @@ use Rattle.segments.specs.Masks.{masks_of}
 use Rattle.library.specs.items.Left.{fixups_left}
 use Rattle.segment_parts.specs.Patterns.{merged_in}
 use Rattle.segment_parts.specs.PatternLaws.{part-short}
-use borrow.Author.Rules.{rules}
 use Rattle.segment_parts.proofs.patterns.merge_content.Goals as goal
 
 pub merge_masks-requires : goal.merge_masks-requires

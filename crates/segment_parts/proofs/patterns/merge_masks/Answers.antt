@@ -6,7 +6,6 @@ use Rattle.segments.proofs.MaskLaws.{masks-length}
 use Rattle.library.specs.items.Left.{fixups_left}
 use Rattle.segment_parts.specs.merge.MergedAt.{merged_at}
 use Rattle.segment_parts.specs.PatternLaws.{apart-read, apart-long, front_length}
-use borrow.Author.Rules.{rules}
 use Rattle.segment_parts.proofs.patterns.merge_masks.Goals as goal
 
 pub returns : goal.returns

@@ -5,7 +5,6 @@ use Rattle.segments.specs.SegmentLayouts.{reference_layout}
 use Rattle.segments.proofs.SegmentLayoutLaws.{reference-width}
 use Rattle.tables.specs.fill.FilledRowLaws.{put-more-length}
 use Rattle.tables.specs.fill.AddedRowLaws.{adds_none, adds_one}
-use borrow.Author.Rules.{rules}
 use Rattle.segment_parts.proofs.references.append_left.Goals as goal
 
 pub returns-in-One : goal.returns-in-One

@@ -1,23 +1,14 @@
-use Prim.Native.Nat.{ℕ}
 use mathlib.Core.Path.{◌≡◌, refl, sym, ap, ◌∙◌}
-use mathlib.Core.List.{List, ◌∷◌}
+use mathlib.Core.List.{◌∷◌}
 use native.Mathlib.Omega.{arith}
-use lib.ListN.{length}
-use Rattle.lent.specs.Lists.{joined}
 use Rattle.lent.specs.ListLaws.{joined_end}
-use Rattle.tables.specs.declared.fill.Fill.{Fill}
-use Rattle.tables.specs.fill.FilledRows.{Leads}
 use Rattle.tables.specs.fill.AddedRowLaws.{all-added}
-use Rattle.omf51.specs.declared.Definition.{Definition}
-use Rattle.library.specs.declared.items.Cursor.{Cursor}
 use Rattle.library.specs.items.Left.{fixups_left}
 use Rattle.library.specs.items.EntrySizeLaws.{fixup-small}
 use Rattle.library.specs.items.Yields.{fixups_after, next-fixup-yields}
 use Rattle.segments.specs.SegmentLayouts.{reference_layout}
-use Rattle.module_ids.specs.Noted.{Tells}
 use Rattle.segment_parts.specs.AddedReferences.{leaves_in}
 use Rattle.segment_parts.specs.AddedReferenceLaws.{refer-on}
-use borrow.Author.Rules.{rules}
 use Rattle.segment_parts.proofs.references.refer.Goals as goal
 
 pub loop-fixup-init : goal.loop-fixup-init

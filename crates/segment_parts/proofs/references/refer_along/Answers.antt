@@ -1,26 +1,17 @@
-use Prim.Native.Nat.{ℕ, ◌-◌, ◌<◌, ◌^◌}
-use mathlib.Core.Path.{◌≡◌, refl, sym, ap, subst, ◌∙◌}
-use mathlib.Core.List.{List}
+use Prim.Native.Nat.{◌-◌}
+use mathlib.Core.Path.{refl, sym, ap, subst, ◌∙◌}
 use native.Mathlib.Omega.{arith}
-use lib.ListN.{length}
-use Rattle.tables.specs.declared.fill.Fill.{Fill}
 use Rattle.tables.specs.fill.FilledRows.{Adds}
-use Rattle.omf51.specs.declared.Definition.{Definition}
-use Rattle.omf51.specs.Module.{Section}
 use Rattle.segments.specs.SegmentLayouts.{reference_layout}
 use Rattle.library.specs.items.Contents.{next_content}
 use Rattle.library.specs.items.ContentSizeLaws.{content-goes}
-use Rattle.module_ids.specs.Noted.{Tells}
 use Rattle.tables.specs.links.Things.{places_of, next_of}
 use Rattle.tables.specs.links.ThingLaws.{next_small}
-use Rattle.tables.specs.links.Follow.{Follows}
 use Rattle.tables.specs.links.FollowLaws.{follows-step}
 use Rattle.module_index.specs.gather.Places.{section_in, SectionIs}
 use Rattle.segment_parts.specs.SectionLaws.{section-met, none-met}
-use Rattle.segment_parts.specs.Along.{Adding}
 use Rattle.segment_parts.specs.AlongLaws.{adding-starts, adding-on, adding-ends}
 use Rattle.segment_parts.specs.AddedReferences.{section_leaves}
-use borrow.Author.Rules.{rules}
 use Rattle.segment_parts.proofs.references.refer_along.Goals as goal
 
 pub loop-last-init : goal.loop-last-init

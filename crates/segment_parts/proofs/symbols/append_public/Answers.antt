@@ -8,7 +8,6 @@ use Rattle.tables.specs.fill.FilledRowLaws.{put-more-length}
 use Rattle.tables.specs.fill.AddedRowLaws.{adds_none, adds_one}
 use Rattle.segment_parts.specs.AddedSymbols.{carries_at}
 use Rattle.segment_parts.specs.AddedSymbolLaws.{symbol-carried, symbol-left-out}
-use borrow.Author.Rules.{rules}
 use Rattle.segment_parts.proofs.symbols.append_public.Goals as goal
 
 pub returns-then-carries : goal.returns-then-carries

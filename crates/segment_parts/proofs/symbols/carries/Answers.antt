@@ -1,7 +1,6 @@
 -- `carries` tests the start, and then the length. Assumes nothing.
 use native.Mathlib.Omega.{arith}
 use Rattle.segment_parts.specs.AddedSymbolLaws.{not_carried, carried-inside}
-use borrow.Author.Rules.{rules}
 use Rattle.segment_parts.proofs.symbols.carries.Goals as goal
 
 pub returns-then-offset-at : goal.returns-then-offset-at

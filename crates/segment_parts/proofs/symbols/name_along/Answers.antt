@@ -1,22 +1,14 @@
-use Prim.Native.Nat.{ℕ, ◌-◌, ◌<◌, ◌^◌}
-use mathlib.Core.Path.{◌≡◌, refl, ap, subst, ◌∙◌}
-use mathlib.Core.List.{List}
+use Prim.Native.Nat.{◌-◌}
+use mathlib.Core.Path.{refl, ap, subst, ◌∙◌}
 use native.Mathlib.Omega.{arith}
-use lib.ListN.{length}
-use Rattle.tables.specs.declared.fill.Fill.{Fill}
 use Rattle.tables.specs.fill.FilledRows.{Adds}
-use Rattle.omf51.specs.declared.Definition.{Definition}
 use Rattle.segments.specs.Ids.{id_of}
 use Rattle.segments.specs.SegmentLayouts.{symbol_layout}
 use Rattle.tables.specs.links.Things.{places_of, next_of}
 use Rattle.tables.specs.links.ThingLaws.{place-small, next_small}
-use Rattle.tables.specs.links.Follow.{Follows}
 use Rattle.module_index.specs.gather.Places.{public_at, PublicIs}
-use Rattle.segment_parts.specs.declared.carried.Carried.{Carried}
-use Rattle.segment_parts.specs.Along.{Adding}
 use Rattle.segment_parts.specs.AlongLaws.{adding-starts, adding-on, adding-ends}
 use Rattle.segment_parts.specs.AddedSymbols.{symbol_by}
-use borrow.Author.Rules.{rules}
 use Rattle.segment_parts.proofs.symbols.name_along.Goals as goal
 
 pub loop-last-init : goal.loop-last-init

@@ -3,7 +3,6 @@ use mathlib.Core.Path.{◌≡◌, ◌∙◌}
 use Prim.Native.Nat.{◌-◌}
 use native.Mathlib.Omega.{arith}
 use Rattle.segment_parts.specs.AddedSymbolLaws.{own-offset, plain-offset, all-carried}
-use borrow.Author.Rules.{rules}
 use Rattle.segment_parts.proofs.symbols.offset_in.Goals as goal
 
 pub returns-then-offset-at : goal.returns-then-offset-at

@@ -2,7 +2,7 @@
 use Prim.Native.Nat.{◌+◌}
 use mathlib.Core.Path.{refl, sym, ap, subst, ◌∙◌}
 use native.Mathlib.Omega.{arith}
-use borrow.Author.Tests.{not-true, not-false, leb-true, leb-false}
+use borrow.Author.Tests.{leb-true, leb-false}
 use lib.ListN.{length}
 use Rattle.lent.specs.Lists.{joined}
 use Rattle.lent.specs.Parts.{bytes_of}
@@ -22,7 +22,6 @@ use Rattle.collect.specs.stored.StoreLaws.{no-bytes-room, no-masks-room, stored_
 use Rattle.collect.specs.stored.RegionLaws.{copied-region}
 use Rattle.collect.specs.stored.Segments.{lists, absolute_of}
 use Rattle.collect.specs.stored.SegmentLaws.{whole_length}
-use borrow.Author.Rules.{rules}
 use Rattle.collect.proofs.absolute.one.store_absolute.Goals as goal
 
 pub returns-then-not-fits : goal.returns-then-not-fits

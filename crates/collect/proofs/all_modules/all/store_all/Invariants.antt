@@ -1,30 +1,18 @@
 -- `store_all` goes from module to module, the tables being blank between them. Assumes nothing.
 use Prim.Native.Nat.{ℕ, ◌-◌, ◌*◌, ◌≤◌}
-use mathlib.Core.Path.{◌≡◌, refl, sym, ap, subst, ◌∙◌}
+use mathlib.Core.Path.{◌≡◌}
 use mathlib.Core.Bool.{Bool}
-use mathlib.Core.List.{List, [], ◌∷◌}
-use mathlib.Core.Logic.{inl, inr}
-use native.Mathlib.Omega.{arith}
+use mathlib.Core.List.{List, []}
 use lib.ListN.{length}
-use denote.Enum.Declared.{tag_of}
-use types.Run.{OneOf}
 use Rattle.image.specs.declared.fixup.Rules.{Rules}
-use Rattle.omf51.specs.declared.Edition.TheVariants.{One}
 use Rattle.omf51.specs.Module.{module_at}
-use Rattle.library.specs.contracts.ModuleAt.{the_type}
-use Rattle.library.specs.declared.ModuleAt.{ModuleAt}
-use Rattle.library.specs.declared.ModuleAt.TheVariants.{Whole, Stop, Refused}
 use Rattle.library.specs.Gathered.{items_at}
-use Rattle.library.specs.Passes.{places_read, places_at}
-use Rattle.library.specs.WholeLaws.{module_of, modules-step, modules-end, module-moved, Ended}
 use Rattle.module_ids.specs.Noted.{Tells}
 use Rattle.module_index.specs.Indexed.{Blank}
 use Rattle.collect.specs.declared.stored.CollectCounts.{CollectCounts}
-use Rattle.collect.specs.stored.Stores.{CollectLists, Stores, SameLengths}
-use Rattle.collect.specs.stored.ProgressLaws.{same-lengths, lengths-on}
+use Rattle.collect.specs.stored.Stores.{CollectLists, SameLengths}
 use Rattle.collect.specs.stored.Segments.{lists, own_by}
-use Rattle.collect.specs.all_modules.AllLaws.{Collecting, collecting-starts, collecting-on, collecting-lacks, collecting-ends, stored-few}
-use borrow.Author.Rules.{rules}
+use Rattle.collect.specs.all_modules.AllLaws.{Collecting}
 use Rattle.collect.proofs.all_modules.all.store_all.Given as goal
 
 pub record Long (table₀ contents₀ first₀ publics₀ heads₀ table contents first publics heads : List ℕ) : Type 0 where

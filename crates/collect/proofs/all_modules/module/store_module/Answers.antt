@@ -5,7 +5,6 @@ use Rattle.omf51.specs.declared.Edition.TheVariants.{One}
 use Rattle.library.specs.WholeLaws.{module_of}
 use Rattle.module_index.specs.IndexedTableLaws.{forgotten}
 use Rattle.collect.specs.all_modules.FewLaws.{numbers_fit}
-use borrow.Author.Rules.{rules}
 use Rattle.collect.proofs.all_modules.module.store_module.Goals as goal
 
 pub fill-requires : goal.fill-requires

@@ -2,7 +2,7 @@
 use Prim.Native.Nat.{◌+◌}
 use mathlib.Core.Path.{refl, sym, ap, subst, ◌∙◌}
 use native.Mathlib.Omega.{arith}
-use borrow.Author.Tests.{not-true, not-false, leb-true, leb-false}
+use borrow.Author.Tests.{leb-true, leb-false}
 use lib.ListN.{length}
 use Rattle.tables.specs.fill.FilledRows.{Adds}
 use Rattle.image.specs.declared.Seat.TheVariants.{Anywhere}
@@ -18,7 +18,6 @@ use Rattle.collect.specs.stored.RowLaws.{finished-length}
 use Rattle.collect.specs.stored.StoreLaws.{no-bytes-room, no-masks-room, stored_more}
 use Rattle.collect.specs.stored.RegionLaws.{filled-region}
 use Rattle.collect.specs.stored.Segments.{lists, kept_of}
-use borrow.Author.Rules.{rules}
 use Rattle.collect.proofs.kept.one.store_kept.Goals as goal
 
 pub returns-then-not-fits : goal.returns-then-not-fits

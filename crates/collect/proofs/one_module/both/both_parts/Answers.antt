@@ -4,7 +4,6 @@ use native.Mathlib.Omega.{arith}
 use Rattle.collect.specs.stored.ProgressLaws.{lengths-on}
 use Rattle.collect.specs.stored.Segments.{lists}
 use Rattle.collect.specs.one_module.PartLaws.{both_stored, first-lacks}
-use borrow.Author.Rules.{rules}
 use Rattle.collect.proofs.one_module.both.both_parts.Goals as goal
 
 pub returns-in_default : goal.returns-in_default

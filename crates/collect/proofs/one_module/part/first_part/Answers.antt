@@ -6,7 +6,6 @@ use Rattle.module_index.specs.gather.Places.{PublicIs, public_key, is_public_def
 use Rattle.tables.specs.links.Things.{places_of, next_of}
 use Rattle.module_index.specs.Indexed.{Meets}
 use Rattle.module_index.specs.IndexedTableLaws.{forgotten}
-use borrow.Author.Rules.{rules}
 use Rattle.collect.proofs.one_module.part.first_part.Goals as goal
 
 pub store_keeps-stored-requires : goal.store_keeps-stored-requires

@@ -5,7 +5,6 @@ use Rattle.module_index.specs.IndexedTableLaws.{forgotten}
 use Rattle.collect.specs.stored.ProgressLaws.{same-lengths}
 use Rattle.collect.specs.stored.Segments.{lists}
 use Rattle.collect.specs.one_module.PartLaws.{by-offset, none-absolute}
-use borrow.Author.Rules.{rules}
 use Rattle.collect.proofs.one_module.part.second_part.Goals as goal
 
 pub returns-then-absolutes-eq0 : goal.returns-then-absolutes-eq0

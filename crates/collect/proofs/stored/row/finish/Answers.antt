@@ -1,10 +1,9 @@
 -- `finish` appends the row, unless something had no room. Assumes nothing.
-use mathlib.Core.Path.{refl, ap, ◌∙◌}
+use mathlib.Core.Path.{ap, ◌∙◌}
 use lib.ListN.{length}
 use Rattle.tables.specs.fill.FilledRowLaws.{put-more-length}
 use Rattle.segments.specs.SegmentLayouts.{segment_layout}
 use Rattle.collect.specs.stored.RowLaws.{without-references, without-symbols, with_row, row-lacks, row_fits}
-use borrow.Author.Rules.{rules}
 use Rattle.collect.proofs.stored.row.finish.Goals as goal
 
 pub returns-then-references : goal.returns-then-references

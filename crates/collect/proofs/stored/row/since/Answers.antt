@@ -1,7 +1,6 @@
 -- `since` never goes below 0. Assumes nothing.
 use native.Mathlib.Omega.{arith}
 use Rattle.collect.specs.stored.RowLaws.{since-back}
-use borrow.Author.Rules.{rules}
 use Rattle.collect.proofs.stored.row.since.Goals as goal
 
 pub returns-then-end-start : goal.returns-then-end-start

@@ -1,14 +1,9 @@
-use borrow.Author.Rules.{rules}
 use native.Mathlib.Omega.{arith}
-use Prim.Native.Nat.{ℕ}
 use mathlib.Core.Path.{◌≡◌, refl, sym, ap, ◌∙◌}
-use mathlib.Core.List.{List, ◌∷◌}
+use mathlib.Core.List.{◌∷◌}
 use lib.ListN.{length, length-replicate}
-use Rattle.lent.specs.Lists.{fold}
-use Rattle.library.specs.declared.items.Cursor.{Cursor}
 use Rattle.library.specs.items.Left.{fixups_left}
 use Rattle.library.specs.items.Yields.{fixups_after, next-fixup-yields}
-use Rattle.segments.specs.Masks.{masked}
 use Rattle.segments.proofs.MaskLaws.{mask-length}
 use Rattle.segment_parts.specs.merge.MaskTurns.{masks-turn, masks-done}
 use Rattle.segment_parts.proofs.merge.masks.content_masks.Goals as goal

@@ -1,17 +1,12 @@
 -- `content_masks` takes one fixup after another. The invariant: those left make of the masks what all make of FFh. Assumes nothing.
-use borrow.Author.Rules.{rules}
-use native.Mathlib.Omega.{arith}
 use Prim.Native.Nat.{ℕ}
-use mathlib.Core.Path.{◌≡◌, refl, sym, ap, ◌∙◌}
-use mathlib.Core.List.{List, ◌∷◌}
-use lib.ListN.{length, length-replicate}
+use mathlib.Core.Path.{◌≡◌}
+use mathlib.Core.List.{List}
+use lib.ListN.{length}
 use Rattle.lent.specs.Lists.{fold}
 use Rattle.library.specs.declared.items.Cursor.{Cursor}
 use Rattle.library.specs.items.Left.{fixups_left}
-use Rattle.library.specs.items.Yields.{fixups_after, next-fixup-yields}
 use Rattle.segments.specs.Masks.{masked}
-use Rattle.segments.proofs.MaskLaws.{mask-length}
-use Rattle.segment_parts.specs.merge.MaskTurns.{masks-turn, masks-done}
 use Rattle.segment_parts.proofs.merge.masks.content_masks.Given as goal
 
 pub record Inv (library masks₀ : List ℕ) (c₀ : Cursor) (masks : List ℕ) (c : Cursor) : Type 0 where

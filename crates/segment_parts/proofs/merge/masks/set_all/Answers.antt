@@ -1,9 +1,7 @@
-use borrow.Author.Rules.{rules}
 use native.Mathlib.Omega.{arith}
-use Prim.Native.Nat.{◌≤◌, ◌-◌}
 use mathlib.Core.Path.{◌≡◌}
-use mathlib.Core.List.{◌++◌, append-nil}
-use lib.ListN.{length, length-set, drop, drop_of_length-le, replicate}
+use mathlib.Core.List.{append-nil}
+use lib.ListN.{length, length-set, drop_of_length-le}
 use borrow.Author.Fill.{fill_more}
 use Rattle.segment_parts.proofs.merge.masks.set_all.Goals as goal
 

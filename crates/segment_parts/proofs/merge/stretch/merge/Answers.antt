@@ -1,5 +1,4 @@
 -- `merge` lends on the part from the offset to the end. Assumes nothing.
-use borrow.Author.Rules.{rules}
 use native.Mathlib.Omega.{arith}
 use Rattle.segment_parts.specs.merge.MergeLaws.{merged-through, merged-past}
 use Rattle.segment_parts.proofs.merge.stretch.merge.Goals as goal

@@ -1,5 +1,4 @@
 -- `merge_at` lends on the part that is one segment's. Assumes nothing.
-use borrow.Author.Rules.{rules}
 use native.Mathlib.Omega.{arith}
 use Rattle.segment_parts.specs.merge.MergeLaws.{merged-within, merged-without}
 use Rattle.segment_parts.proofs.merge.stretch.merge_at.Goals as goal

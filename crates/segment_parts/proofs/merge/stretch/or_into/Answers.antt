@@ -1,8 +1,6 @@
 use native.Mathlib.Omega.{arith}
-use Prim.Native.Nat.{ℕ, ◌≤◌, ◌-◌}
-use mathlib.Core.Path.{◌≡◌, refl, sym, ap, ◌∙◌}
-use mathlib.Core.List.{List}
-use lib.ListN.{length, length-set, take}
+use mathlib.Core.Path.{refl, sym, ap, ◌∙◌}
+use lib.ListN.{length-set}
 use lib.Seq.{take_all}
 use Rattle.segments.specs.Masks.{ored}
 use Rattle.segment_parts.specs.merge.OrLaws.{or-none, or_turn, or-over}

@@ -1,12 +1,9 @@
 -- `or_into` ORs one byte after another. The invariant: the first i of the new bytes are in. Assumes nothing.
-use native.Mathlib.Omega.{arith}
 use Prim.Native.Nat.{ℕ, ◌≤◌, ◌-◌}
-use mathlib.Core.Path.{◌≡◌, refl, sym, ap, ◌∙◌}
+use mathlib.Core.Path.{◌≡◌}
 use mathlib.Core.List.{List}
-use lib.ListN.{length, length-set, take}
-use lib.Seq.{take_all}
+use lib.ListN.{length, take}
 use Rattle.segments.specs.Masks.{ored}
-use Rattle.segment_parts.specs.merge.OrLaws.{or-none, or_turn, or-over}
 use Rattle.segment_parts.proofs.merge.stretch.or_into.Given as goal
 
 pub record Inv (old₀ new old : List ℕ) (i : ℕ) : Type 0 where

@@ -1,12 +1,7 @@
-use Prim.Native.Nat.{ℕ, ◌-◌}
-use mathlib.Core.Path.{◌≡◌, refl, ap, ◌∙◌}
-use mathlib.Core.List.{List}
+use mathlib.Core.Path.{refl, ap, ◌∙◌}
 use native.Mathlib.Omega.{arith}
 use lib.ListN.{length, length-set}
-use Rattle.segment_parts.specs.declared.symbols_by_offset.flags.Blocks.{Blocks}
-use Rattle.segment_parts.specs.symbols_by_offset.Flags.{Bounds}
-use Rattle.segment_parts.specs.symbols_by_offset.FlagLaws.{ClearTo, clear-on, clear-all}
-use borrow.Author.Rules.{rules}
+use Rattle.segment_parts.specs.symbols_by_offset.FlagLaws.{clear-on, clear-all}
 use Rattle.segment_parts.proofs.symbols_by_offset.flags.clear_blocks.Goals as goal
 
 pub loop-b-init : goal.loop-b-init

@@ -1,13 +1,11 @@
 -- `clear_blocks` goes over the blocks. Assumes nothing.
 use Prim.Native.Nat.{ℕ, ◌-◌}
-use mathlib.Core.Path.{◌≡◌, refl, ap, ◌∙◌}
+use mathlib.Core.Path.{◌≡◌}
 use mathlib.Core.List.{List}
-use native.Mathlib.Omega.{arith}
-use lib.ListN.{length, length-set}
+use lib.ListN.{length}
 use Rattle.segment_parts.specs.declared.symbols_by_offset.flags.Blocks.{Blocks}
 use Rattle.segment_parts.specs.symbols_by_offset.Flags.{Bounds}
-use Rattle.segment_parts.specs.symbols_by_offset.FlagLaws.{ClearTo, clear-on, clear-all}
-use borrow.Author.Rules.{rules}
+use Rattle.segment_parts.specs.symbols_by_offset.FlagLaws.{ClearTo}
 use Rattle.segment_parts.proofs.symbols_by_offset.flags.clear_blocks.Given as goal
 
 pub record Inv (flags₀ : List ℕ) (s : Blocks) (flags : List ℕ) (b : ℕ) : Type 0 where

@@ -2,14 +2,11 @@
 use Prim.Native.Nat.{ℕ, ◌-◌, ◌<◌, ◌^◌}
 use mathlib.Core.Path.{◌≡◌}
 use mathlib.Core.List.{List}
-use native.Mathlib.Omega.{arith}
 use Rattle.tables.specs.links.Things.{next_of}
-use Rattle.tables.specs.links.ThingLaws.{next_small}
 use Rattle.tables.specs.links.Index.{link_from, Linked}
 use Rattle.segment_parts.specs.declared.symbols_by_offset.flags.Blocks.{Blocks}
 use Rattle.segment_parts.specs.symbols_by_offset.Flags.{Grows, Wide}
-use Rattle.segment_parts.specs.symbols_by_offset.FlagLaws.{Way, way-starts, way_on, way-ends, grows_none, grows-on}
-use borrow.Author.Rules.{rules}
+use Rattle.segment_parts.specs.symbols_by_offset.FlagLaws.{Way}
 use Rattle.segment_parts.proofs.symbols_by_offset.flags.flag_along.Given as goal
 
 pub record Inv (link : ℕ) (next flags₀ : List ℕ) (s₀ : Blocks) (flags : List ℕ) (last here : ℕ) (s : Blocks) : Type 0 where

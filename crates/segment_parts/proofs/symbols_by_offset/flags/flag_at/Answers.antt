@@ -1,7 +1,6 @@
 -- `flag_at` within the flags and past their end. Assumes nothing.
 use mathlib.Core.Path.{sym}
 use lib.ListN.{get_or-eq_default}
-use borrow.Author.Rules.{rules}
 use Rattle.segment_parts.proofs.symbols_by_offset.flags.flag_at.Goals as goal
 
 pub returns : goal.returns

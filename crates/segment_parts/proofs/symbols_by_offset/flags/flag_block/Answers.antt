@@ -1,6 +1,5 @@
 -- `flag_block` sets the flag, and the bounds are wide enough for it. Assumes nothing.
 use Rattle.segment_parts.specs.symbols_by_offset.FlagLaws.{block-flagged}
-use borrow.Author.Rules.{rules}
 use Rattle.segment_parts.proofs.symbols_by_offset.flags.flag_block.Goals as goal
 
 pub returns : goal.returns

@@ -1,14 +1,10 @@
 -- `flag_inside` goes over the offsets. Assumes nothing.
 use Prim.Native.Nat.{ℕ, ◌+◌, ◌-◌, ◌≤◌}
-use mathlib.Core.Path.{subst}
 use mathlib.Core.List.{List}
-use native.Mathlib.Omega.{arith}
 use Rattle.tables.specs.links.Things.{next_of}
 use Rattle.tables.specs.links.Index.{Linked}
 use Rattle.segment_parts.specs.declared.symbols_by_offset.flags.Blocks.{Blocks}
-use Rattle.segment_parts.specs.symbols_by_offset.Flags.{no_blocks, Grows, Wide, Words, Covers, FlagsAlong}
-use Rattle.segment_parts.specs.symbols_by_offset.FlagLaws.{grows_none, grows-on, covers-on}
-use borrow.Author.Rules.{rules}
+use Rattle.segment_parts.specs.symbols_by_offset.Flags.{no_blocks, Grows, Wide, Words, Covers}
 use Rattle.segment_parts.proofs.symbols_by_offset.flags.flag_inside.Given as goal
 
 pub record Inv (at len : ℕ) (first next flags₀ flags : List ℕ) (s : Blocks) (i : ℕ) : Type 0 where

@@ -1,7 +1,6 @@
 -- `put_flag` sets nothing past the end. Assumes nothing.
 use mathlib.Core.Path.{sym}
 use lib.Seq.{set_out}
-use borrow.Author.Rules.{rules}
 use Rattle.segment_parts.proofs.symbols_by_offset.flags.put_flag.Goals as goal
 
 pub returns-else-b-flags : goal.returns-else-b-flags

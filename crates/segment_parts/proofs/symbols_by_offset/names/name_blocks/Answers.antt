@@ -1,17 +1,12 @@
-use Prim.Native.Nat.{ℕ, ◌+◌, ◌-◌, ◌*◌, ◌/◌, ◌≤◌, ◌<◌}
+use Prim.Native.Nat.{ℕ, ◌+◌, ◌*◌, ◌/◌, ◌≤◌, ◌<◌}
 use mathlib.Core.Path.{◌≡◌, refl, sym, ap, ◌∙◌}
-use mathlib.Core.Bool.{Bool}
 use mathlib.Core.List.{List}
 use native.Mathlib.Omega.{arith}
-use lib.ListN.{length, take, get_or}
-use Rattle.tables.specs.declared.fill.Fill.{Fill}
+use lib.ListN.{get_or}
 use Rattle.tables.specs.links.Things.{keys_of, places_of}
-use Rattle.omf51.specs.declared.Definition.{Definition}
 use Rattle.segment_parts.specs.declared.symbols_by_offset.flags.Blocks.{Blocks}
-use Rattle.segment_parts.specs.symbols_by_offset.Flags.{Flagged, Covers}
-use Rattle.segment_parts.specs.symbols_by_offset.Inside.{Standing}
-use Rattle.segment_parts.specs.symbols_by_offset.InsideLaws.{Left, left-all, left-past, left_one, left-none}
-use borrow.Author.Rules.{rules}
+use Rattle.segment_parts.specs.symbols_by_offset.Flags.{Flagged}
+use Rattle.segment_parts.specs.symbols_by_offset.InsideLaws.{left-all, left-past, left_one, left-none}
 use Rattle.segment_parts.proofs.symbols_by_offset.names.name_blocks.Goals as goal
 
 -- all places up to the next block share the flag

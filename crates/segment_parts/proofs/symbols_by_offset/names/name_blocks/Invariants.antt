@@ -1,18 +1,16 @@
 -- `name_blocks` goes from place to place, and past a block without a flag. Assumes nothing.
-use Prim.Native.Nat.{ℕ, ◌+◌, ◌-◌, ◌*◌, ◌/◌, ◌≤◌, ◌<◌}
-use mathlib.Core.Path.{◌≡◌, refl, sym, ap, ◌∙◌}
+use Prim.Native.Nat.{ℕ, ◌+◌, ◌-◌}
+use mathlib.Core.Path.{◌≡◌}
 use mathlib.Core.Bool.{Bool}
 use mathlib.Core.List.{List}
-use native.Mathlib.Omega.{arith}
-use lib.ListN.{length, take, get_or}
+use lib.ListN.{length, take}
 use Rattle.tables.specs.declared.fill.Fill.{Fill}
 use Rattle.tables.specs.links.Things.{keys_of, places_of}
 use Rattle.omf51.specs.declared.Definition.{Definition}
 use Rattle.segment_parts.specs.declared.symbols_by_offset.flags.Blocks.{Blocks}
-use Rattle.segment_parts.specs.symbols_by_offset.Flags.{Flagged, Covers}
+use Rattle.segment_parts.specs.symbols_by_offset.Flags.{Covers}
 use Rattle.segment_parts.specs.symbols_by_offset.Inside.{Standing}
-use Rattle.segment_parts.specs.symbols_by_offset.InsideLaws.{Left, left-all, left-past, left_one, left-none}
-use borrow.Author.Rules.{rules}
+use Rattle.segment_parts.specs.symbols_by_offset.InsideLaws.{Left}
 use Rattle.segment_parts.proofs.symbols_by_offset.names.name_blocks.Given as goal
 
 pub record Inv (library : List ℕ) (at len : ℕ) (own : Bool) (keys : List ℕ) (n : ℕ) (places : List ℕ) (s : Blocks) (flags m₀ : List ℕ) (f₀ : Fill) (m : List ℕ) (j : ℕ) (f : Fill) : Type 0 where

@@ -4,7 +4,6 @@ use lib.ListN.{take}
 use Rattle.tables.specs.links.Things.{keys_of}
 use Rattle.tables.specs.links.ThingLaws.{key-small}
 use Rattle.segment_parts.specs.symbols_by_offset.FlagLaws.{none-flagged, words-taken}
-use borrow.Author.Rules.{rules}
 use Rattle.segment_parts.proofs.symbols_by_offset.names.name_inside.Goals as goal
 
 pub flag_inside-s-requires : goal.flag_inside-s-requires

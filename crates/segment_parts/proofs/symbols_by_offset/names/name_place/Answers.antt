@@ -13,7 +13,6 @@ use Rattle.module_index.specs.gather.Places.{public_at}
 use Rattle.segment_parts.specs.declared.carried.Carried.TheVariants.{Inside}
 use Rattle.segment_parts.specs.AddedSymbols.{symbol_by}
 use Rattle.segment_parts.specs.symbols_by_offset.InsideLaws.{not-inside}
-use borrow.Author.Rules.{rules}
 use Rattle.segment_parts.proofs.symbols_by_offset.names.name_place.Goals as goal
 
 pub append_public-requires : goal.append_public-requires

@@ -1,0 +1,303 @@
+-- `find_from`: refused by the collection, or the banks then. Assumes nothing.
+use mathlib.Core.Path.{refl, sym, ap, ◌∙◌}
+use native.Mathlib.Omega.{arith}
+use lib.ListN.{length}
+use Rattle.image.specs.View.{view}
+use Rattle.image.specs.declared.fixup.Rules.{Rules}
+use Rattle.omf51.specs.Module.{module_at}
+use Rattle.library.specs.Gathered.{items_at}
+use Rattle.collect.specs.stored.Stores.{CollectLists}
+use Rattle.collect.specs.stored.Segments.{lists}
+use Rattle.collect.specs.Outcome.{CollectOutcome, collection}
+use Rattle.run.specs.Run.{Lent, lent_lists, cover}
+use Rattle.run.proofs.Answers.{SameLengths}
+use Rattle.libfind.specs.Ends.{collectable, Filled}
+use Rattle.bank_rules.specs.Banks.{banks_in}
+use Rattle.banks.specs.Turns.{board_by}
+use Rattle.banks.specs.EntryLaws.{begun-banks, refilled, same-board, refused-collecting, collected-filled, banks-then}
+use borrow.Author.Rules.{rules}
+use Rattle.banks.proofs.entry.find_from.Goals as goal
+
+pub find_views-requires : goal.find_views-requires
+find_views-requires c =
+    let lent : Lent = let a = c.args in lent_lists a.segments.now a.references.now a.symbols.now a.bytes.now a.masks.now a.placed.now a.noted.now a.lines.now in
+    let collected : Rules → CollectOutcome = λ rules. collection rules c.args.library.now (items_at c.args.library.now (module_at c.args.library.now) c.args.first) (collectable (lent)) in
+    let left : CollectLists = let q = c.collect.new.1.1.1 in lists q.0 q.1.0 q.1.1.0 q.1.1.1.0 q.1.1.1.1.0 in
+    let between : Lent = let l = left in
+    let a = c.args in
+    lent_lists l.segments l.references l.symbols l.bytes l.masks a.placed.now a.noted.now a.lines.now in
+    let kept : SameLengths (between) (lent) = record {
+      segments = c.segments-1.given;
+      references = c.references-1.given;
+      symbols = c.symbols-1.given;
+      bytes = c.bytes-1.given;
+      masks = c.masks-1.given;
+      placed = refl;
+      noted = refl;
+      lines = refl;
+    } in
+    let filled : Filled c.args.library.now c.args.settings (lent) c.in-Done.collected (left) = let a = c.args in
+    collected-filled a.file.now a.library.now a.settings (lent) c.requires
+    (ap (λ r. record { answer = r; left = left }) (sym c.in-Done.is) ∙ c.collect.ensures ∙ ap (collected) c.rules_of-rules.ensures) in
+    let a = c.args in
+    let n = c.banks_in.ensures in
+    let b = begun-banks a.file.now a.library.now a.settings a.first c.requires in (
+      omega (arith, n, b.whole),
+      omega (arith, n, b.some-bank),
+      omega (arith, n, b.few),
+      refilled a.library.now a.settings (lent) c.in-Done.collected (left) (kept) (filled),
+    )
+
+pub returns-in-Done : goal.returns-in-Done
+returns-in-Done c =
+    let lent : Lent = let a = c.args in lent_lists a.segments.now a.references.now a.symbols.now a.bytes.now a.masks.now a.placed.now a.noted.now a.lines.now in
+    let collected : Rules → CollectOutcome = λ rules. collection rules c.args.library.now (items_at c.args.library.now (module_at c.args.library.now) c.args.first) (collectable (lent)) in
+    let left : CollectLists = let q = c.collect.new.1.1.1 in lists q.0 q.1.0 q.1.1.0 q.1.1.1.0 q.1.1.1.1.0 in
+    let between : Lent = let l = left in
+    let a = c.args in
+    lent_lists l.segments l.references l.symbols l.bytes l.masks a.placed.now a.noted.now a.lines.now in
+    let kept : SameLengths (between) (lent) = record {
+      segments = c.segments-1.given;
+      references = c.references-1.given;
+      symbols = c.symbols-1.given;
+      bytes = c.bytes-1.given;
+      masks = c.masks-1.given;
+      placed = refl;
+      noted = refl;
+      lines = refl;
+    } in
+    let filled : Filled c.args.library.now c.args.settings (lent) c.in-Done.collected (left) = let a = c.args in
+    collected-filled a.file.now a.library.now a.settings (lent) c.requires
+    (ap (λ r. record { answer = r; left = left }) (sym c.in-Done.is) ∙ c.collect.ensures ∙ ap (collected) c.rules_of-rules.ensures) in
+    let a = c.args in
+    let cells = view a.file.now (cover a.settings) in
+    c.find_views.ensures
+    ∙ ap (λ n. board_by cells a.library.now a.settings n (between)) c.banks_in.ensures
+    ∙ same-board a.library.now a.settings (lent) c.in-Done.collected (left) cells (banks_in (length a.file.now)) (kept)
+    ∙ banks-then a.file.now a.library.now a.settings (lent) c.requires (filled)
+
+pub returns-in-Refused : goal.returns-in-Refused
+returns-in-Refused c =
+    let lent : Lent = let a = c.args in lent_lists a.segments.now a.references.now a.symbols.now a.bytes.now a.masks.now a.placed.now a.noted.now a.lines.now in
+    let collected : Rules → CollectOutcome = λ rules. collection rules c.args.library.now (items_at c.args.library.now (module_at c.args.library.now) c.args.first) (collectable (lent)) in
+    let left : CollectLists = let q = c.collect.new.1.1.1 in lists q.0 q.1.0 q.1.1.0 q.1.1.1.0 q.1.1.1.1.0 in
+    let a = c.args in
+    let after : Lent = lent_lists (left).segments (left).references (left).symbols (left).bytes (left).masks c.clear.new.rows c.clear-in-Refused.new.rows c.clear-in-Refused-2.new.rows in
+    ap (λ x. record { answer = x; left = after }) c.no_banks.ensures
+    ∙ refused-collecting a.file.now a.library.now a.settings (lent) c.requires
+    (ap (λ r. record { answer = r; left = left }) (sym c.in-Refused.is) ∙ c.collect.ensures ∙ ap (collected) c.rules_of-rules.ensures)
+    c.clear.ensures c.clear-in-Refused.ensures c.clear-in-Refused-2.ensures
+
+pub shape_of-segments-in-Done : goal.shape_of-segments-in-Done
+shape_of-segments-in-Done c =
+    let lent : Lent = let a = c.args in lent_lists a.segments.now a.references.now a.symbols.now a.bytes.now a.masks.now a.placed.now a.noted.now a.lines.now in
+    let left : CollectLists = let q = c.collect.new.1.1.1 in lists q.0 q.1.0 q.1.1.0 q.1.1.1.0 q.1.1.1.1.0 in
+    let between : Lent = let l = left in
+    let a = c.args in
+    lent_lists l.segments l.references l.symbols l.bytes l.masks a.placed.now a.noted.now a.lines.now in
+    let kept : SameLengths (between) (lent) = record {
+      segments = c.segments-1.given;
+      references = c.references-1.given;
+      symbols = c.symbols-1.given;
+      bytes = c.bytes-1.given;
+      masks = c.masks-1.given;
+      placed = refl;
+      noted = refl;
+      lines = refl;
+    } in
+    c.segments-in-Done-1.given ∙ (kept).segments
+
+pub shape_of-references-in-Done : goal.shape_of-references-in-Done
+shape_of-references-in-Done c =
+    let lent : Lent = let a = c.args in lent_lists a.segments.now a.references.now a.symbols.now a.bytes.now a.masks.now a.placed.now a.noted.now a.lines.now in
+    let left : CollectLists = let q = c.collect.new.1.1.1 in lists q.0 q.1.0 q.1.1.0 q.1.1.1.0 q.1.1.1.1.0 in
+    let between : Lent = let l = left in
+    let a = c.args in
+    lent_lists l.segments l.references l.symbols l.bytes l.masks a.placed.now a.noted.now a.lines.now in
+    let kept : SameLengths (between) (lent) = record {
+      segments = c.segments-1.given;
+      references = c.references-1.given;
+      symbols = c.symbols-1.given;
+      bytes = c.bytes-1.given;
+      masks = c.masks-1.given;
+      placed = refl;
+      noted = refl;
+      lines = refl;
+    } in
+    c.references-in-Done-1.given ∙ (kept).references
+
+pub shape_of-symbols-in-Done : goal.shape_of-symbols-in-Done
+shape_of-symbols-in-Done c =
+    let lent : Lent = let a = c.args in lent_lists a.segments.now a.references.now a.symbols.now a.bytes.now a.masks.now a.placed.now a.noted.now a.lines.now in
+    let left : CollectLists = let q = c.collect.new.1.1.1 in lists q.0 q.1.0 q.1.1.0 q.1.1.1.0 q.1.1.1.1.0 in
+    let between : Lent = let l = left in
+    let a = c.args in
+    lent_lists l.segments l.references l.symbols l.bytes l.masks a.placed.now a.noted.now a.lines.now in
+    let kept : SameLengths (between) (lent) = record {
+      segments = c.segments-1.given;
+      references = c.references-1.given;
+      symbols = c.symbols-1.given;
+      bytes = c.bytes-1.given;
+      masks = c.masks-1.given;
+      placed = refl;
+      noted = refl;
+      lines = refl;
+    } in
+    c.symbols-in-Done-1.given ∙ (kept).symbols
+
+pub shape_of-bytes-in-Done : goal.shape_of-bytes-in-Done
+shape_of-bytes-in-Done c =
+    let lent : Lent = let a = c.args in lent_lists a.segments.now a.references.now a.symbols.now a.bytes.now a.masks.now a.placed.now a.noted.now a.lines.now in
+    let left : CollectLists = let q = c.collect.new.1.1.1 in lists q.0 q.1.0 q.1.1.0 q.1.1.1.0 q.1.1.1.1.0 in
+    let between : Lent = let l = left in
+    let a = c.args in
+    lent_lists l.segments l.references l.symbols l.bytes l.masks a.placed.now a.noted.now a.lines.now in
+    let kept : SameLengths (between) (lent) = record {
+      segments = c.segments-1.given;
+      references = c.references-1.given;
+      symbols = c.symbols-1.given;
+      bytes = c.bytes-1.given;
+      masks = c.masks-1.given;
+      placed = refl;
+      noted = refl;
+      lines = refl;
+    } in
+    c.bytes-in-Done-1.given ∙ (kept).bytes
+
+pub shape_of-masks-in-Done : goal.shape_of-masks-in-Done
+shape_of-masks-in-Done c =
+    let lent : Lent = let a = c.args in lent_lists a.segments.now a.references.now a.symbols.now a.bytes.now a.masks.now a.placed.now a.noted.now a.lines.now in
+    let left : CollectLists = let q = c.collect.new.1.1.1 in lists q.0 q.1.0 q.1.1.0 q.1.1.1.0 q.1.1.1.1.0 in
+    let between : Lent = let l = left in
+    let a = c.args in
+    lent_lists l.segments l.references l.symbols l.bytes l.masks a.placed.now a.noted.now a.lines.now in
+    let kept : SameLengths (between) (lent) = record {
+      segments = c.segments-1.given;
+      references = c.references-1.given;
+      symbols = c.symbols-1.given;
+      bytes = c.bytes-1.given;
+      masks = c.masks-1.given;
+      placed = refl;
+      noted = refl;
+      lines = refl;
+    } in
+    c.masks-in-Done-1.given ∙ (kept).masks
+
+pub shape_of-placed-in-Done : goal.shape_of-placed-in-Done
+shape_of-placed-in-Done c =
+    c.placed-1.given
+
+pub shape_of-noted-in-Done : goal.shape_of-noted-in-Done
+shape_of-noted-in-Done c =
+    c.noted-1.given
+
+pub shape_of-lines-in-Done : goal.shape_of-lines-in-Done
+shape_of-lines-in-Done c =
+    c.lines-1.given
+
+pub shape_of-segments-in-Refused : goal.shape_of-segments-in-Refused
+shape_of-segments-in-Refused c =
+    let lent : Lent = let a = c.args in lent_lists a.segments.now a.references.now a.symbols.now a.bytes.now a.masks.now a.placed.now a.noted.now a.lines.now in
+    let left : CollectLists = let q = c.collect.new.1.1.1 in lists q.0 q.1.0 q.1.1.0 q.1.1.1.0 q.1.1.1.1.0 in
+    let between : Lent = let l = left in
+    let a = c.args in
+    lent_lists l.segments l.references l.symbols l.bytes l.masks a.placed.now a.noted.now a.lines.now in
+    let kept : SameLengths (between) (lent) = record {
+      segments = c.segments-1.given;
+      references = c.references-1.given;
+      symbols = c.symbols-1.given;
+      bytes = c.bytes-1.given;
+      masks = c.masks-1.given;
+      placed = refl;
+      noted = refl;
+      lines = refl;
+    } in
+    (kept).segments
+
+pub shape_of-references-in-Refused : goal.shape_of-references-in-Refused
+shape_of-references-in-Refused c =
+    let lent : Lent = let a = c.args in lent_lists a.segments.now a.references.now a.symbols.now a.bytes.now a.masks.now a.placed.now a.noted.now a.lines.now in
+    let left : CollectLists = let q = c.collect.new.1.1.1 in lists q.0 q.1.0 q.1.1.0 q.1.1.1.0 q.1.1.1.1.0 in
+    let between : Lent = let l = left in
+    let a = c.args in
+    lent_lists l.segments l.references l.symbols l.bytes l.masks a.placed.now a.noted.now a.lines.now in
+    let kept : SameLengths (between) (lent) = record {
+      segments = c.segments-1.given;
+      references = c.references-1.given;
+      symbols = c.symbols-1.given;
+      bytes = c.bytes-1.given;
+      masks = c.masks-1.given;
+      placed = refl;
+      noted = refl;
+      lines = refl;
+    } in
+    (kept).references
+
+pub shape_of-symbols-in-Refused : goal.shape_of-symbols-in-Refused
+shape_of-symbols-in-Refused c =
+    let lent : Lent = let a = c.args in lent_lists a.segments.now a.references.now a.symbols.now a.bytes.now a.masks.now a.placed.now a.noted.now a.lines.now in
+    let left : CollectLists = let q = c.collect.new.1.1.1 in lists q.0 q.1.0 q.1.1.0 q.1.1.1.0 q.1.1.1.1.0 in
+    let between : Lent = let l = left in
+    let a = c.args in
+    lent_lists l.segments l.references l.symbols l.bytes l.masks a.placed.now a.noted.now a.lines.now in
+    let kept : SameLengths (between) (lent) = record {
+      segments = c.segments-1.given;
+      references = c.references-1.given;
+      symbols = c.symbols-1.given;
+      bytes = c.bytes-1.given;
+      masks = c.masks-1.given;
+      placed = refl;
+      noted = refl;
+      lines = refl;
+    } in
+    (kept).symbols
+
+pub shape_of-bytes-in-Refused : goal.shape_of-bytes-in-Refused
+shape_of-bytes-in-Refused c =
+    let lent : Lent = let a = c.args in lent_lists a.segments.now a.references.now a.symbols.now a.bytes.now a.masks.now a.placed.now a.noted.now a.lines.now in
+    let left : CollectLists = let q = c.collect.new.1.1.1 in lists q.0 q.1.0 q.1.1.0 q.1.1.1.0 q.1.1.1.1.0 in
+    let between : Lent = let l = left in
+    let a = c.args in
+    lent_lists l.segments l.references l.symbols l.bytes l.masks a.placed.now a.noted.now a.lines.now in
+    let kept : SameLengths (between) (lent) = record {
+      segments = c.segments-1.given;
+      references = c.references-1.given;
+      symbols = c.symbols-1.given;
+      bytes = c.bytes-1.given;
+      masks = c.masks-1.given;
+      placed = refl;
+      noted = refl;
+      lines = refl;
+    } in
+    (kept).bytes
+
+pub shape_of-masks-in-Refused : goal.shape_of-masks-in-Refused
+shape_of-masks-in-Refused c =
+    let lent : Lent = let a = c.args in lent_lists a.segments.now a.references.now a.symbols.now a.bytes.now a.masks.now a.placed.now a.noted.now a.lines.now in
+    let left : CollectLists = let q = c.collect.new.1.1.1 in lists q.0 q.1.0 q.1.1.0 q.1.1.1.0 q.1.1.1.1.0 in
+    let between : Lent = let l = left in
+    let a = c.args in
+    lent_lists l.segments l.references l.symbols l.bytes l.masks a.placed.now a.noted.now a.lines.now in
+    let kept : SameLengths (between) (lent) = record {
+      segments = c.segments-1.given;
+      references = c.references-1.given;
+      symbols = c.symbols-1.given;
+      bytes = c.bytes-1.given;
+      masks = c.masks-1.given;
+      placed = refl;
+      noted = refl;
+      lines = refl;
+    } in
+    (kept).masks
+
+pub shape_of-placed-in-Refused : goal.shape_of-placed-in-Refused
+shape_of-placed-in-Refused c =
+    c.placed-in-Refused-1.given
+
+pub shape_of-noted-in-Refused : goal.shape_of-noted-in-Refused
+shape_of-noted-in-Refused c =
+    c.noted-in-Refused-1.given
+
+pub shape_of-lines-in-Refused : goal.shape_of-lines-in-Refused
+shape_of-lines-in-Refused c =
+    c.lines-in-Refused-1.given

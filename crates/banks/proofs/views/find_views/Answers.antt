@@ -1,0 +1,439 @@
+use Prim.Native.Nat.{ℕ, ◌+◌, ◌-◌, ◌*◌, ◌≤◌, ◌<◌}
+use mathlib.Core.Path.{◌≡◌, sym, ap, subst, ◌∙◌}
+use mathlib.Core.List.{List}
+use native.Mathlib.Omega.{arith}
+use lib.ListN.{length, set}
+use Rattle.image.specs.View.{view}
+use Rattle.image.proofs.ViewLaws.{view-length}
+use Rattle.run.specs.declared.Answer.{Answer}
+use Rattle.run.specs.Run.{Lent, lent_lists, cover}
+use Rattle.run.proofs.Answers.{SameLengths}
+use Rattle.bank_rules.proofs.CutLaws.{Has}
+use Rattle.banks.specs.Turns.{with_lines, FindsView, joined_counts, no_banks}
+use Rattle.banks.specs.BoardLaws.{Shown, shown-starts, shown-room, shown-on, shown-stops, shown-ends}
+use borrow.Author.Rules.{rules}
+use Rattle.banks.proofs.views.find_views.Goals as goal
+
+pub loop-k-init : goal.loop-k-init
+loop-k-init c =
+    let lent : Lent = let a = c.args in lent_lists a.segments.now a.references.now a.symbols.now a.bytes.now a.masks.now a.placed.now a.noted.now a.lines.now in
+    let seen : List ℕ = view c.args.file.now (cover c.args.settings) in
+    let a = c.args in
+    shown-starts (seen) a.library.now a.settings a.banks (lent) a.collected c.requires.3 c.without_rows-counts.ensures
+
+pub overflow_mul-before : goal.overflow_mul-before
+overflow_mul-before c =
+    let lent : Lent = let a = c.args in lent_lists a.segments.now a.references.now a.symbols.now a.bytes.now a.masks.now a.placed.now a.noted.now a.lines.now in
+    let seen : List ℕ = view c.args.file.now (cover c.args.settings) in
+    let room : c.loop-k.counts.lines * 4 ≤ length c.loop-k.lines = let a = c.args in
+    shown-room (seen) a.library.now a.settings a.banks (lent) a.collected c.loop-k.invariant in
+    omega (arith, room, c.well_formed, c.loop-k.invariant.listed.long.lines)
+
+pub find_view-came-requires : goal.find_view-came-requires
+find_view-came-requires c =
+    let lent : Lent = let a = c.args in lent_lists a.segments.now a.references.now a.symbols.now a.bytes.now a.masks.now a.placed.now a.noted.now a.lines.now in
+    let seen : List ℕ = view c.args.file.now (cover c.args.settings) in
+    let has-bank : let a = c.args in Has c.loop-k.k a.file.now = omega (arith, c.loop-k-test.true, c.requires.0) in
+    let few : c.loop-k.k < 16 = omega (arith, c.loop-k-test.true, c.requires.2) in
+    let room : c.loop-k.counts.lines * 4 ≤ length c.loop-k.lines = let a = c.args in
+    shown-room (seen) a.library.now a.settings a.banks (lent) a.collected c.loop-k.invariant in
+    (has-bank, few, room)
+
+pub returns-in_default : goal.returns-in_default
+returns-in_default c =
+    let lent : Lent = let a = c.args in lent_lists a.segments.now a.references.now a.symbols.now a.bytes.now a.masks.now a.placed.now a.noted.now a.lines.now in
+    let seen : List ℕ = view c.args.file.now (cover c.args.settings) in
+    let turn : Lent = let l = c.loop-k in lent_lists l.segments l.references l.symbols l.bytes l.masks l.placed l.noted l.lines in
+    let after : Lent = let q = c.find_view-came.new.1.1.1.1.1 in
+    lent_lists q.0 q.1.0 q.1.1.0 q.1.1.1.0 q.1.1.1.1.0 q.1.1.1.1.1.0 q.1.1.1.1.1.1.0 q.1.1.1.1.1.1.1.0 in
+    let kept : SameLengths (after) (turn) = record {
+      segments = c.segments-1.given;
+      references = c.references-1.given;
+      symbols = c.symbols-1.given;
+      bytes = c.bytes-1.given;
+      masks = c.masks-1.given;
+      placed = c.placed-1.given;
+      noted = c.noted-1.given;
+      lines = c.lines-1.given;
+    } in
+    let has-bank : let a = c.args in Has c.loop-k.k a.file.now = omega (arith, c.loop-k-test.true, c.requires.0) in
+    let has-view : Has c.loop-k.k (seen) = let a = c.args in omega (arith, has-bank, view-length a.file.now (cover a.settings)) in
+    let finds : (r : Answer) → c.find_view-came.result ≡ r → let a = c.args in let l = c.loop-k in FindsView (seen) a.library.now a.settings a.collected l.k (l.counts.lines * 4) (turn) r (after) = λ _ e. let a = c.args in
+    let l = c.loop-k in
+    subst (λ x. FindsView (seen) a.library.now a.settings a.collected l.k (l.counts.lines * 4) (turn) x (after)) e c.find_view-came.ensures in
+    let a = c.args in
+    let told = c.in_default.is in
+    ap (λ x. record { answer = x; left = with_lines (after) c.clear.new.rows }) (c.no_banks.ensures ∙ ap no_banks told)
+    ∙ shown-stops (seen) a.library.now a.settings a.banks (lent) a.collected c.loop-k.invariant (omega (arith, c.loop-k-test.true)) (has-view)
+    (kept) (finds _ told) c.clear.ensures
+
+pub overflow_add-before : goal.overflow_add-before
+overflow_add-before c =
+    let lent : Lent = let a = c.args in lent_lists a.segments.now a.references.now a.symbols.now a.bytes.now a.masks.now a.placed.now a.noted.now a.lines.now in
+    let seen : List ℕ = view c.args.file.now (cover c.args.settings) in
+    let turn : Lent = let l = c.loop-k in lent_lists l.segments l.references l.symbols l.bytes l.masks l.placed l.noted l.lines in
+    let after : Lent = let q = c.find_view-came.new.1.1.1.1.1 in
+    lent_lists q.0 q.1.0 q.1.1.0 q.1.1.1.0 q.1.1.1.1.0 q.1.1.1.1.1.0 q.1.1.1.1.1.1.0 q.1.1.1.1.1.1.1.0 in
+    let kept : SameLengths (after) (turn) = record {
+      segments = c.segments-1.given;
+      references = c.references-1.given;
+      symbols = c.symbols-1.given;
+      bytes = c.bytes-1.given;
+      masks = c.masks-1.given;
+      placed = c.placed-1.given;
+      noted = c.noted-1.given;
+      lines = c.lines-1.given;
+    } in
+    let has-bank : let a = c.args in Has c.loop-k.k a.file.now = omega (arith, c.loop-k-test.true, c.requires.0) in
+    let has-view : Has c.loop-k.k (seen) = let a = c.args in omega (arith, has-bank, view-length a.file.now (cover a.settings)) in
+    let few : c.loop-k.k < 16 = omega (arith, c.loop-k-test.true, c.requires.2) in
+    let finds : (r : Answer) → c.find_view-came.result ≡ r → let a = c.args in let l = c.loop-k in FindsView (seen) a.library.now a.settings a.collected l.k (l.counts.lines * 4) (turn) r (after) = λ _ e. let a = c.args in
+    let l = c.loop-k in
+    subst (λ x. FindsView (seen) a.library.now a.settings a.collected l.k (l.counts.lines * 4) (turn) x (after)) e c.find_view-came.ensures in
+    let kept-all : SameLengths (after) (lent) = let k = kept in
+    let l = c.loop-k.invariant.listed.long in
+    record {
+      segments = k.segments ∙ l.segments;
+      references = k.references ∙ l.references;
+      symbols = k.symbols ∙ l.symbols;
+      bytes = k.bytes ∙ l.bytes;
+      masks = k.masks ∙ l.masks;
+      placed = k.placed ∙ l.placed;
+      noted = k.noted ∙ l.noted;
+      lines = k.lines ∙ l.lines;
+    } in
+    let on : let a = c.args in let l = c.loop-k in let next = c.in-Done.next in Shown (seen) a.library.now a.settings a.banks (lent) a.collected (l.k + 1) (after) (joined_counts l.counts next (l.counts.lines + next.lines)) (set l.each l.k next.lines) = let a = c.args in
+    shown-on (seen) a.library.now a.settings a.banks (lent) a.collected c.loop-k.invariant (omega (arith, c.loop-k-test.true)) (has-view)
+    (kept) (finds _ c.in-Done.is) (few) in
+    let a = c.args in
+    omega (arith, shown-room (seen) a.library.now a.settings a.banks (lent) a.collected (on), (kept-all).lines, c.well_formed)
+
+pub loop-k-preserved : goal.loop-k-preserved
+loop-k-preserved c =
+    let lent : Lent = let a = c.args in lent_lists a.segments.now a.references.now a.symbols.now a.bytes.now a.masks.now a.placed.now a.noted.now a.lines.now in
+    let seen : List ℕ = view c.args.file.now (cover c.args.settings) in
+    let turn : Lent = let l = c.loop-k in lent_lists l.segments l.references l.symbols l.bytes l.masks l.placed l.noted l.lines in
+    let after : Lent = let q = c.find_view-came.new.1.1.1.1.1 in
+    lent_lists q.0 q.1.0 q.1.1.0 q.1.1.1.0 q.1.1.1.1.0 q.1.1.1.1.1.0 q.1.1.1.1.1.1.0 q.1.1.1.1.1.1.1.0 in
+    let kept : SameLengths (after) (turn) = record {
+      segments = c.segments-1.given;
+      references = c.references-1.given;
+      symbols = c.symbols-1.given;
+      bytes = c.bytes-1.given;
+      masks = c.masks-1.given;
+      placed = c.placed-1.given;
+      noted = c.noted-1.given;
+      lines = c.lines-1.given;
+    } in
+    let has-bank : let a = c.args in Has c.loop-k.k a.file.now = omega (arith, c.loop-k-test.true, c.requires.0) in
+    let has-view : Has c.loop-k.k (seen) = let a = c.args in omega (arith, has-bank, view-length a.file.now (cover a.settings)) in
+    let few : c.loop-k.k < 16 = omega (arith, c.loop-k-test.true, c.requires.2) in
+    let finds : (r : Answer) → c.find_view-came.result ≡ r → let a = c.args in let l = c.loop-k in FindsView (seen) a.library.now a.settings a.collected l.k (l.counts.lines * 4) (turn) r (after) = λ _ e. let a = c.args in
+    let l = c.loop-k in
+    subst (λ x. FindsView (seen) a.library.now a.settings a.collected l.k (l.counts.lines * 4) (turn) x (after)) e c.find_view-came.ensures in
+    let on : let a = c.args in let l = c.loop-k in let next = c.in-Done.next in Shown (seen) a.library.now a.settings a.banks (lent) a.collected (l.k + 1) (after) (joined_counts l.counts next (l.counts.lines + next.lines)) (set l.each l.k next.lines) = let a = c.args in
+    shown-on (seen) a.library.now a.settings a.banks (lent) a.collected c.loop-k.invariant (omega (arith, c.loop-k-test.true)) (has-view)
+    (kept) (finds _ c.in-Done.is) (few) in
+    let a = c.args in
+    let l = c.loop-k in
+    subst (λ x. Shown (seen) a.library.now a.settings a.banks (lent) a.collected (l.k + 1) (after)
+    x (set l.each l.k c.in-Done.next.lines))
+    (sym c.joined-counts.ensures) (on)
+
+pub returns : goal.returns
+returns c =
+    let lent : Lent = let a = c.args in lent_lists a.segments.now a.references.now a.symbols.now a.bytes.now a.masks.now a.placed.now a.noted.now a.lines.now in
+    let seen : List ℕ = view c.args.file.now (cover c.args.settings) in
+    let a = c.args in
+    shown-ends (seen) a.library.now a.settings a.banks (lent) a.collected c.loop-k.invariant (omega (arith, c.loop-k-test.false)) c.requires.1
+
+pub shape_of-segments-in_default : goal.shape_of-segments-in_default
+shape_of-segments-in_default c =
+    let lent : Lent = let a = c.args in lent_lists a.segments.now a.references.now a.symbols.now a.bytes.now a.masks.now a.placed.now a.noted.now a.lines.now in
+    let turn : Lent = let l = c.loop-k in lent_lists l.segments l.references l.symbols l.bytes l.masks l.placed l.noted l.lines in
+    let after : Lent = let q = c.find_view-came.new.1.1.1.1.1 in
+    lent_lists q.0 q.1.0 q.1.1.0 q.1.1.1.0 q.1.1.1.1.0 q.1.1.1.1.1.0 q.1.1.1.1.1.1.0 q.1.1.1.1.1.1.1.0 in
+    let kept : SameLengths (after) (turn) = record {
+      segments = c.segments-1.given;
+      references = c.references-1.given;
+      symbols = c.symbols-1.given;
+      bytes = c.bytes-1.given;
+      masks = c.masks-1.given;
+      placed = c.placed-1.given;
+      noted = c.noted-1.given;
+      lines = c.lines-1.given;
+    } in
+    let kept-all : SameLengths (after) (lent) = let k = kept in
+    let l = c.loop-k.invariant.listed.long in
+    record {
+      segments = k.segments ∙ l.segments;
+      references = k.references ∙ l.references;
+      symbols = k.symbols ∙ l.symbols;
+      bytes = k.bytes ∙ l.bytes;
+      masks = k.masks ∙ l.masks;
+      placed = k.placed ∙ l.placed;
+      noted = k.noted ∙ l.noted;
+      lines = k.lines ∙ l.lines;
+    } in
+    (kept-all).segments
+
+pub shape_of-references-in_default : goal.shape_of-references-in_default
+shape_of-references-in_default c =
+    let lent : Lent = let a = c.args in lent_lists a.segments.now a.references.now a.symbols.now a.bytes.now a.masks.now a.placed.now a.noted.now a.lines.now in
+    let turn : Lent = let l = c.loop-k in lent_lists l.segments l.references l.symbols l.bytes l.masks l.placed l.noted l.lines in
+    let after : Lent = let q = c.find_view-came.new.1.1.1.1.1 in
+    lent_lists q.0 q.1.0 q.1.1.0 q.1.1.1.0 q.1.1.1.1.0 q.1.1.1.1.1.0 q.1.1.1.1.1.1.0 q.1.1.1.1.1.1.1.0 in
+    let kept : SameLengths (after) (turn) = record {
+      segments = c.segments-1.given;
+      references = c.references-1.given;
+      symbols = c.symbols-1.given;
+      bytes = c.bytes-1.given;
+      masks = c.masks-1.given;
+      placed = c.placed-1.given;
+      noted = c.noted-1.given;
+      lines = c.lines-1.given;
+    } in
+    let kept-all : SameLengths (after) (lent) = let k = kept in
+    let l = c.loop-k.invariant.listed.long in
+    record {
+      segments = k.segments ∙ l.segments;
+      references = k.references ∙ l.references;
+      symbols = k.symbols ∙ l.symbols;
+      bytes = k.bytes ∙ l.bytes;
+      masks = k.masks ∙ l.masks;
+      placed = k.placed ∙ l.placed;
+      noted = k.noted ∙ l.noted;
+      lines = k.lines ∙ l.lines;
+    } in
+    (kept-all).references
+
+pub shape_of-symbols-in_default : goal.shape_of-symbols-in_default
+shape_of-symbols-in_default c =
+    let lent : Lent = let a = c.args in lent_lists a.segments.now a.references.now a.symbols.now a.bytes.now a.masks.now a.placed.now a.noted.now a.lines.now in
+    let turn : Lent = let l = c.loop-k in lent_lists l.segments l.references l.symbols l.bytes l.masks l.placed l.noted l.lines in
+    let after : Lent = let q = c.find_view-came.new.1.1.1.1.1 in
+    lent_lists q.0 q.1.0 q.1.1.0 q.1.1.1.0 q.1.1.1.1.0 q.1.1.1.1.1.0 q.1.1.1.1.1.1.0 q.1.1.1.1.1.1.1.0 in
+    let kept : SameLengths (after) (turn) = record {
+      segments = c.segments-1.given;
+      references = c.references-1.given;
+      symbols = c.symbols-1.given;
+      bytes = c.bytes-1.given;
+      masks = c.masks-1.given;
+      placed = c.placed-1.given;
+      noted = c.noted-1.given;
+      lines = c.lines-1.given;
+    } in
+    let kept-all : SameLengths (after) (lent) = let k = kept in
+    let l = c.loop-k.invariant.listed.long in
+    record {
+      segments = k.segments ∙ l.segments;
+      references = k.references ∙ l.references;
+      symbols = k.symbols ∙ l.symbols;
+      bytes = k.bytes ∙ l.bytes;
+      masks = k.masks ∙ l.masks;
+      placed = k.placed ∙ l.placed;
+      noted = k.noted ∙ l.noted;
+      lines = k.lines ∙ l.lines;
+    } in
+    (kept-all).symbols
+
+pub shape_of-bytes-in_default : goal.shape_of-bytes-in_default
+shape_of-bytes-in_default c =
+    let lent : Lent = let a = c.args in lent_lists a.segments.now a.references.now a.symbols.now a.bytes.now a.masks.now a.placed.now a.noted.now a.lines.now in
+    let turn : Lent = let l = c.loop-k in lent_lists l.segments l.references l.symbols l.bytes l.masks l.placed l.noted l.lines in
+    let after : Lent = let q = c.find_view-came.new.1.1.1.1.1 in
+    lent_lists q.0 q.1.0 q.1.1.0 q.1.1.1.0 q.1.1.1.1.0 q.1.1.1.1.1.0 q.1.1.1.1.1.1.0 q.1.1.1.1.1.1.1.0 in
+    let kept : SameLengths (after) (turn) = record {
+      segments = c.segments-1.given;
+      references = c.references-1.given;
+      symbols = c.symbols-1.given;
+      bytes = c.bytes-1.given;
+      masks = c.masks-1.given;
+      placed = c.placed-1.given;
+      noted = c.noted-1.given;
+      lines = c.lines-1.given;
+    } in
+    let kept-all : SameLengths (after) (lent) = let k = kept in
+    let l = c.loop-k.invariant.listed.long in
+    record {
+      segments = k.segments ∙ l.segments;
+      references = k.references ∙ l.references;
+      symbols = k.symbols ∙ l.symbols;
+      bytes = k.bytes ∙ l.bytes;
+      masks = k.masks ∙ l.masks;
+      placed = k.placed ∙ l.placed;
+      noted = k.noted ∙ l.noted;
+      lines = k.lines ∙ l.lines;
+    } in
+    (kept-all).bytes
+
+pub shape_of-masks-in_default : goal.shape_of-masks-in_default
+shape_of-masks-in_default c =
+    let lent : Lent = let a = c.args in lent_lists a.segments.now a.references.now a.symbols.now a.bytes.now a.masks.now a.placed.now a.noted.now a.lines.now in
+    let turn : Lent = let l = c.loop-k in lent_lists l.segments l.references l.symbols l.bytes l.masks l.placed l.noted l.lines in
+    let after : Lent = let q = c.find_view-came.new.1.1.1.1.1 in
+    lent_lists q.0 q.1.0 q.1.1.0 q.1.1.1.0 q.1.1.1.1.0 q.1.1.1.1.1.0 q.1.1.1.1.1.1.0 q.1.1.1.1.1.1.1.0 in
+    let kept : SameLengths (after) (turn) = record {
+      segments = c.segments-1.given;
+      references = c.references-1.given;
+      symbols = c.symbols-1.given;
+      bytes = c.bytes-1.given;
+      masks = c.masks-1.given;
+      placed = c.placed-1.given;
+      noted = c.noted-1.given;
+      lines = c.lines-1.given;
+    } in
+    let kept-all : SameLengths (after) (lent) = let k = kept in
+    let l = c.loop-k.invariant.listed.long in
+    record {
+      segments = k.segments ∙ l.segments;
+      references = k.references ∙ l.references;
+      symbols = k.symbols ∙ l.symbols;
+      bytes = k.bytes ∙ l.bytes;
+      masks = k.masks ∙ l.masks;
+      placed = k.placed ∙ l.placed;
+      noted = k.noted ∙ l.noted;
+      lines = k.lines ∙ l.lines;
+    } in
+    (kept-all).masks
+
+pub shape_of-placed-in_default : goal.shape_of-placed-in_default
+shape_of-placed-in_default c =
+    let lent : Lent = let a = c.args in lent_lists a.segments.now a.references.now a.symbols.now a.bytes.now a.masks.now a.placed.now a.noted.now a.lines.now in
+    let turn : Lent = let l = c.loop-k in lent_lists l.segments l.references l.symbols l.bytes l.masks l.placed l.noted l.lines in
+    let after : Lent = let q = c.find_view-came.new.1.1.1.1.1 in
+    lent_lists q.0 q.1.0 q.1.1.0 q.1.1.1.0 q.1.1.1.1.0 q.1.1.1.1.1.0 q.1.1.1.1.1.1.0 q.1.1.1.1.1.1.1.0 in
+    let kept : SameLengths (after) (turn) = record {
+      segments = c.segments-1.given;
+      references = c.references-1.given;
+      symbols = c.symbols-1.given;
+      bytes = c.bytes-1.given;
+      masks = c.masks-1.given;
+      placed = c.placed-1.given;
+      noted = c.noted-1.given;
+      lines = c.lines-1.given;
+    } in
+    let kept-all : SameLengths (after) (lent) = let k = kept in
+    let l = c.loop-k.invariant.listed.long in
+    record {
+      segments = k.segments ∙ l.segments;
+      references = k.references ∙ l.references;
+      symbols = k.symbols ∙ l.symbols;
+      bytes = k.bytes ∙ l.bytes;
+      masks = k.masks ∙ l.masks;
+      placed = k.placed ∙ l.placed;
+      noted = k.noted ∙ l.noted;
+      lines = k.lines ∙ l.lines;
+    } in
+    (kept-all).placed
+
+pub shape_of-noted-in_default : goal.shape_of-noted-in_default
+shape_of-noted-in_default c =
+    let lent : Lent = let a = c.args in lent_lists a.segments.now a.references.now a.symbols.now a.bytes.now a.masks.now a.placed.now a.noted.now a.lines.now in
+    let turn : Lent = let l = c.loop-k in lent_lists l.segments l.references l.symbols l.bytes l.masks l.placed l.noted l.lines in
+    let after : Lent = let q = c.find_view-came.new.1.1.1.1.1 in
+    lent_lists q.0 q.1.0 q.1.1.0 q.1.1.1.0 q.1.1.1.1.0 q.1.1.1.1.1.0 q.1.1.1.1.1.1.0 q.1.1.1.1.1.1.1.0 in
+    let kept : SameLengths (after) (turn) = record {
+      segments = c.segments-1.given;
+      references = c.references-1.given;
+      symbols = c.symbols-1.given;
+      bytes = c.bytes-1.given;
+      masks = c.masks-1.given;
+      placed = c.placed-1.given;
+      noted = c.noted-1.given;
+      lines = c.lines-1.given;
+    } in
+    let kept-all : SameLengths (after) (lent) = let k = kept in
+    let l = c.loop-k.invariant.listed.long in
+    record {
+      segments = k.segments ∙ l.segments;
+      references = k.references ∙ l.references;
+      symbols = k.symbols ∙ l.symbols;
+      bytes = k.bytes ∙ l.bytes;
+      masks = k.masks ∙ l.masks;
+      placed = k.placed ∙ l.placed;
+      noted = k.noted ∙ l.noted;
+      lines = k.lines ∙ l.lines;
+    } in
+    (kept-all).noted
+
+pub shape_of-lines-in_default : goal.shape_of-lines-in_default
+shape_of-lines-in_default c =
+    let lent : Lent = let a = c.args in lent_lists a.segments.now a.references.now a.symbols.now a.bytes.now a.masks.now a.placed.now a.noted.now a.lines.now in
+    let turn : Lent = let l = c.loop-k in lent_lists l.segments l.references l.symbols l.bytes l.masks l.placed l.noted l.lines in
+    let after : Lent = let q = c.find_view-came.new.1.1.1.1.1 in
+    lent_lists q.0 q.1.0 q.1.1.0 q.1.1.1.0 q.1.1.1.1.0 q.1.1.1.1.1.0 q.1.1.1.1.1.1.0 q.1.1.1.1.1.1.1.0 in
+    let kept : SameLengths (after) (turn) = record {
+      segments = c.segments-1.given;
+      references = c.references-1.given;
+      symbols = c.symbols-1.given;
+      bytes = c.bytes-1.given;
+      masks = c.masks-1.given;
+      placed = c.placed-1.given;
+      noted = c.noted-1.given;
+      lines = c.lines-1.given;
+    } in
+    let kept-all : SameLengths (after) (lent) = let k = kept in
+    let l = c.loop-k.invariant.listed.long in
+    record {
+      segments = k.segments ∙ l.segments;
+      references = k.references ∙ l.references;
+      symbols = k.symbols ∙ l.symbols;
+      bytes = k.bytes ∙ l.bytes;
+      masks = k.masks ∙ l.masks;
+      placed = k.placed ∙ l.placed;
+      noted = k.noted ∙ l.noted;
+      lines = k.lines ∙ l.lines;
+    } in
+    c.lines-in_default-1.given ∙ (kept-all).lines
+
+pub offset_bounds-each-k : goal.offset_bounds-each-k
+offset_bounds-each-k c =
+    let few : c.loop-k.k < 16 = omega (arith, c.loop-k-test.true, c.requires.2) in
+    omega (arith, few)
+
+pub bounds-each-k : goal.bounds-each-k
+bounds-each-k c =
+    let few : c.loop-k.k < 16 = omega (arith, c.loop-k-test.true, c.requires.2) in
+    omega (arith, few)
+
+pub overflow_add-k : goal.overflow_add-k
+overflow_add-k c =
+    let few : c.loop-k.k < 16 = omega (arith, c.loop-k-test.true, c.requires.2) in
+    omega (arith, few)
+
+pub loop-k-smaller : goal.loop-k-smaller
+loop-k-smaller c =
+    omega (arith, c.loop-k-test.true)
+
+pub shape_of-segments : goal.shape_of-segments
+shape_of-segments c =
+    c.loop-k.invariant.listed.long.segments
+
+pub shape_of-references : goal.shape_of-references
+shape_of-references c =
+    c.loop-k.invariant.listed.long.references
+
+pub shape_of-symbols : goal.shape_of-symbols
+shape_of-symbols c =
+    c.loop-k.invariant.listed.long.symbols
+
+pub shape_of-bytes : goal.shape_of-bytes
+shape_of-bytes c =
+    c.loop-k.invariant.listed.long.bytes
+
+pub shape_of-masks : goal.shape_of-masks
+shape_of-masks c =
+    c.loop-k.invariant.listed.long.masks
+
+pub shape_of-placed : goal.shape_of-placed
+shape_of-placed c =
+    c.loop-k.invariant.listed.long.placed
+
+pub shape_of-noted : goal.shape_of-noted
+shape_of-noted c =
+    c.loop-k.invariant.listed.long.noted
+
+pub shape_of-lines : goal.shape_of-lines
+shape_of-lines c =
+    c.loop-k.invariant.listed.long.lines
