@@ -8,7 +8,6 @@ use Rattle.image.specs.declared.fixup.Kind.{Kind}
 use Rattle.image.specs.declared.fixup.Kind.TheVariants.{Relative, Word, Inblock}
 use Rattle.image.specs.fixup.Target.{kind_number}
 use Rattle.segments.specs.declared.Goal.{Goal}
-use Rattle.segments.specs.declared.Goal.TheVariants as Goal
 use Rattle.segments.specs.declared.Reference.{Reference}
 use Rattle.segments.specs.declared.Symbol.{Symbol}
 use Rattle.segments.specs.declared.SegmentRow.{SegmentRow}

@@ -1,5 +1,5 @@
 -- Where the parts of one segment stand in the lists of all segments together.
-use Rattle.std.specs.Prelude.{ℕ, ◌+◌, ◌≤◌, ◌≡◌, List, length, take, drop}
+use Rattle.std.specs.Prelude.{◌+◌, ◌≤◌, ◌≡◌, List, length, take, drop}
 use Rattle.lent.specs.declared.part.Part.{Part}
 use Rattle.lent.specs.Lists.{joined}
 use Rattle.segments.specs.declared.Reference.{Reference}

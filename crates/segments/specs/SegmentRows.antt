@@ -6,7 +6,6 @@ use Rattle.image.specs.declared.Seat.{Seat}
 use Rattle.image.specs.declared.Seat.TheVariants.{Anywhere, Only}
 use Rattle.image.specs.fixup.Target.{kind_number}
 use Rattle.segments.specs.declared.Goal.{Goal}
-use Rattle.segments.specs.declared.Goal.TheVariants as Goal
 use Rattle.segments.specs.declared.Reference.{Reference}
 use Rattle.segments.specs.declared.Symbol.{Symbol}
 use Rattle.segments.specs.declared.SegmentRow.{SegmentRow}

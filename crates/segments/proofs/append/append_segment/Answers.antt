@@ -3,7 +3,6 @@ use mathlib.Core.Path.{sym, ap, ◌∙◌}
 use Rattle.tables.specs.declared.fill.Fill.{Fill}
 use Rattle.tables.specs.fill.FilledRowLaws.{put-none, put-behind}
 use Rattle.segments.specs.SegmentLayouts.{segment_layout}
-use borrow.Author.Rules.{rules}
 use Rattle.segments.proofs.append.append_segment.Goals as goal
 
 pub returns-then-next : goal.returns-then-next

@@ -3,7 +3,6 @@ use Prim.Native.Nat.{◌+◌}
 use mathlib.Core.Path.{sym}
 use native.Mathlib.Omega.{arith}
 use lib.Seq.{set_out}
-use borrow.Author.Rules.{rules}
 use Rattle.segments.proofs.masks.clear_after.Goals as goal
 
 pub returns-else-at-masks : goal.returns-else-at-masks

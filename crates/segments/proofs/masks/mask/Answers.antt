@@ -3,7 +3,6 @@ use Prim.Native.Nat.{◌+◌}
 use mathlib.Core.Path.{ap, ◌∙◌}
 use lib.ListN.{set}
 use Rattle.segments.proofs.MaskLaws.{mask-ignored, mask_word, mask-inblock, mask-other}
-use borrow.Author.Rules.{rules}
 use Rattle.segments.proofs.masks.mask.Goals as goal
 
 pub returns-then-f-eq3 : goal.returns-then-f-eq3

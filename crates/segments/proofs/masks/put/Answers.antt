@@ -1,7 +1,6 @@
 -- `put` passes over places past the end. Assumes nothing.
 use mathlib.Core.Path.{sym}
 use lib.Seq.{set_out}
-use borrow.Author.Rules.{rules}
 use Rattle.segments.proofs.masks.put.Goals as goal
 
 pub returns-else-at-masks : goal.returns-else-at-masks

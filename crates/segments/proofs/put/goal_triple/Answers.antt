@@ -1,5 +1,4 @@
 -- `goal_triple` meets its contract: by cases. Assumes nothing.
-use borrow.Author.Rules.{rules}
 use Rattle.segments.proofs.put.goal_triple.Goals as goal
 
 pub returns-in-Segment : goal.returns-in-Segment

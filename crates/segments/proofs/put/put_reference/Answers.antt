@@ -1,6 +1,5 @@
 -- `put_reference` meets its contract: the numbers put are the row's, those of its goal by `goal-cells`. Assumes nothing.
 use Rattle.segments.proofs.SegmentLayoutLaws.{goal-cells}
-use borrow.Author.Rules.{rules}
 use Rattle.segments.proofs.put.put_reference.Goals as goal
 
 pub returns : goal.returns

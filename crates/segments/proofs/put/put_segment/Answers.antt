@@ -1,7 +1,6 @@
 -- `put_segment` meets its contract: the numbers put are the row's, those of its seat by `seat-cells`. Assumes nothing.
 use Rattle.segments.specs.SegmentRows.{part_cells}
 use Rattle.segments.proofs.SegmentLayoutLaws.{seat-cells}
-use borrow.Author.Rules.{rules}
 use Rattle.segments.proofs.put.put_segment.Goals as goal
 
 pub returns : goal.returns

@@ -1,5 +1,4 @@
 -- `seat_pair` meets its contract: by cases. Assumes nothing.
-use borrow.Author.Rules.{rules}
 use Rattle.segments.proofs.put.seat_pair.Goals as goal
 
 pub returns-in-Anywhere : goal.returns-in-Anywhere

@@ -1,5 +1,4 @@
 -- `segment_at` meets its contract: each field is what the definition makes of the row's numbers. Assumes nothing.
-use borrow.Author.Rules.{rules}
 use Rattle.segments.proofs.rows.segment_at.Goals as goal
 
 pub returns : goal.returns
