@@ -54,3 +54,20 @@ module _ (k : ℕ) (file seen one two : List ℕ) (h : Has k file) (room : lengt
           f ∙ ap (λ p. take (length p) p ++ drop (length p) (take (length one - 32768) (drop 32768 one))) part-is
           ∙ all-over bank (take (length one - 32768) (drop 32768 one))
           (omega (arith, bank-length k file h, one-long, length-drop 32768 one, length-take (length one - 32768) (drop 32768 one)))
+
+-- the same from the copies as the code makes them: each part of the view becomes the part of the file that is copied to it
+pub shows-both : (k : ℕ) (file seen : List ℕ) → Has k file → length seen ≡ 65536 → (front back : List ℕ) → front ≡ take 32768 file
+    → back ≡ take (bank_start k + 32768 - bank_start k) (drop (bank_start k) file)
+    → put_mid 32768 (length (front ++ drop 32768 seen) - 32768) (front ++ drop 32768 seen) back ≡ bank_cells k file
+shows-both k file seen h room front back e f =
+    let one : List ℕ = front ++ drop 32768 seen in
+    let common : List ℕ = take 32768 file in
+    let long : length common ≡ 32768 = common-length k file h in
+    let part : List ℕ = take (bank_start k + 32768 - bank_start k) (drop (bank_start k) file) in
+    let size : bank_start k + 32768 - bank_start k ≡ 32768 = omega arith in
+    let part-long : length part ≡ 32768 = ap (λ n. length (take n (drop (bank_start k) file))) size ∙ bank-length k file h in
+    let left : List ℕ = take (length one - 32768) (drop 32768 one) in
+    let one-long : length one ≡ 65536 = length-append front (drop 32768 seen) ∙ omega (arith, ap length e, long, length-drop 32768 seen, room) in
+    show-both k file seen one back h room
+    (ap (λ l. l ++ drop 32768 seen) (e ∙ sym (take-length common)) ∙ ap (λ n. take (length common) common ++ drop n seen) (sym long))
+    (f ∙ sym (all-over part left (omega (arith, part-long, one-long, length-drop 32768 one, length-take (length one - 32768) (drop 32768 one)))))

@@ -12,7 +12,6 @@ use Rattle.image.specs.declared.fixup.Rules.{Rules}
 use Rattle.image.specs.declared.fixup.Target.{Target}
 use Rattle.image.specs.declared.fixup.Target.TheVariants.{At, PastEnd, Withheld}
 use Rattle.segments.specs.declared.Goal.{Goal}
-use Rattle.segments.specs.declared.Goal.TheVariants as Goal
 use Rattle.segments.specs.declared.Reference.{Reference}
 use Rattle.segments.specs.Collect.{Collected}
 use Rattle.search_rules.specs.declared.Asked.{Asked}

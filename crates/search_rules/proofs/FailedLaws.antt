@@ -1,7 +1,7 @@
 -- The first reference of a match that fails: a match holds exactly if none does, and the one that is told fails, for the
 -- reason that is told, while those before it do not. Assumes nothing.
-use Prim.Native.Nat.{ℕ, zero, suc, ◌+◌, ◌-◌, ◌≤◌, ◌<◌}
-use Rattle.std.specs.Prelude.{◌≡◌, Bool, true, false, ◌&&◌, length, if◌then◌else◌}
+use Prim.Native.Nat.{ℕ, zero, suc, ◌+◌, ◌<◌}
+use Rattle.std.specs.Prelude.{◌≡◌, Bool, true, false, ◌&&◌, if◌then◌else◌}
 use Rattle.std.proofs.Math.Path.{refl, ap}
 use Rattle.std.proofs.Common.{sym, ◌∙◌, arith}
 use mathlib.Core.List.{List, [], ◌∷◌}
@@ -13,13 +13,10 @@ use Rattle.image.specs.declared.fixup.Rules.{Rules}
 use Rattle.image.specs.declared.fixup.Target.{Target}
 use Rattle.image.specs.declared.fixup.Target.TheVariants.{At, PastEnd, Withheld}
 use Rattle.segments.specs.declared.Goal.{Goal}
-use Rattle.segments.specs.declared.Goal.TheVariants as Goal
 use Rattle.segments.specs.declared.Reference.{Reference}
 use Rattle.segments.specs.Collect.{Collected}
 use Rattle.search_rules.specs.declared.Why.{Why}
-use Rattle.search_rules.specs.declared.Why.TheVariants as Why
 use Rattle.search_rules.specs.declared.Failed.{Failed}
-use Rattle.search_rules.specs.declared.Failed.TheVariants as Failed
 use Rattle.search_rules.specs.Search.{positions_of, leads, segment_of, holds_at, holds_to, failure, failed, failed_from, failed_to}
 
 -- no reason is told

@@ -12,15 +12,12 @@ use Rattle.image.specs.declared.fixup.Target.TheVariants.{At, PastEnd, Withheld}
 use Rattle.image.specs.fixup.Target.{target}
 use Rattle.segments.specs.declared.SegmentNumber.{SegmentNumber}
 use Rattle.segments.specs.declared.Goal.{Goal}
-use Rattle.segments.specs.declared.Goal.TheVariants as Goal
 use Rattle.segments.specs.declared.Reference.{Reference}
 use Rattle.segments.specs.declared.Symbol.{Symbol}
 use Rattle.segments.specs.Collect.{Collected}
 use Rattle.search_rules.specs.declared.Asked.{Asked}
 use Rattle.search_rules.specs.declared.Why.{Why}
-use Rattle.search_rules.specs.declared.Why.TheVariants as Why
 use Rattle.search_rules.specs.declared.Failed.{Failed}
-use Rattle.search_rules.specs.declared.Failed.TheVariants as Failed
 
 -- a match: a segment with its number, and the position at which it matches
 pub record Match : Type 0 where

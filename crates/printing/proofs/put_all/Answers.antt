@@ -27,7 +27,7 @@ put_line-at-requires c =
       arith,
       l.invariant.wrote.ends,
       l.invariant.long,
-      c.out-1.given,
+      c.put_heading-at.auto.out,
       c.put_heading-at.ensures.ends,
       c.requires,
       printed-length a.library.now a.lines.now a.n,

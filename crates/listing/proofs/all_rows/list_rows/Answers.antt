@@ -8,7 +8,7 @@ use Rattle.listing.proofs.all_rows.list_rows.Goals as goal
 
 pub shape_of-lines : goal.shape_of-lines
 shape_of-lines c =
-    c.lines-3-1.given ∙ c.lines-2-1.given ∙ c.lines-1.given
+    c.leave.auto.m ∙ c.list_beyond-all.auto.lines ∙ c.list_inside-inside.auto.m
 
 pub returns : goal.returns
 returns c =
@@ -19,5 +19,5 @@ returns c =
     λ k number small.
     all_listed cells a.skip k (length a.image.now) (view-length a.image.now (stretches_in a.s.now))
     a.lines.now inside.new.m past.new.lines
-    c.leave.new.m inside.result past.result (c.lines-2-1.given ∙ c.lines-1.given)
+    c.leave.new.m inside.result past.result (c.list_beyond-all.auto.lines ∙ c.list_inside-inside.auto.m)
     (inside.ensures k small) (past.ensures a.library.now k.ns number (names-tabled cells a.skip k a.names number)) c.leave.ensures

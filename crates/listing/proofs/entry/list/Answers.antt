@@ -22,7 +22,7 @@ returns-then-f c =
     λ l short p q done sought.
     ap (λ x. record { answer = Refused TooFewRows; left = record { searched = x; lines = c.clear.new.rows } })
     (c.clear_all.ensures ∙ emptied cells a.asked a.library.now a.n l short a.rows (lent) done (sym p) (sym q))
-    ∙ ap (λ x. record { answer = Refused TooFewRows; left = record { searched = zeroed_search l; lines = x } }) (c.clear.ensures ∙ ap zeros c.lines-1.given)
+    ∙ ap (λ x. record { answer = Refused TooFewRows; left = record { searched = zeroed_search l; lines = x } }) (c.clear.ensures ∙ ap zeros c.list_rows-f.auto.lines)
     ∙ lacks-is cells a.asked a.skip a.library.now a.n (record { searched = l; lines = a.lines.now }) short a.rows (lent) done
     f.new.lines f.result
     (lines-found cells a.asked a.library.now a.n l short a.skip a.rows (lent) done a.positions.now a.goals.now sought a.lines.now
@@ -46,32 +46,32 @@ returns c =
 
 pub shape_of-segments-then-f : goal.shape_of-segments-then-f
 shape_of-segments-then-f c =
-    c.segments-1.given
+    c.clear_all.auto.segments
 
 pub shape_of-references-then-f : goal.shape_of-references-then-f
 shape_of-references-then-f c =
-    c.references-1.given
+    c.clear_all.auto.references
 
 pub shape_of-symbols-then-f : goal.shape_of-symbols-then-f
 shape_of-symbols-then-f c =
-    c.symbols-1.given
+    c.clear_all.auto.symbols
 
 pub shape_of-bytes-then-f : goal.shape_of-bytes-then-f
 shape_of-bytes-then-f c =
-    c.bytes-1.given
+    c.clear_all.auto.bytes
 
 pub shape_of-masks-then-f : goal.shape_of-masks-then-f
 shape_of-masks-then-f c =
-    c.masks-1.given
+    c.clear_all.auto.masks
 
 pub shape_of-placed-then-f : goal.shape_of-placed-then-f
 shape_of-placed-then-f c =
-    c.placed-1.given
+    c.clear_all.auto.placed
 
 pub shape_of-noted-then-f : goal.shape_of-noted-then-f
 shape_of-noted-then-f c =
-    c.noted-1.given
+    c.clear_all.auto.noted
 
 pub shape_of-lines-then-f : goal.shape_of-lines-then-f
 shape_of-lines-then-f c =
-    c.lines-then-f-1.given ∙ c.lines-1.given
+    c.clear.auto.rows ∙ c.list_rows-f.auto.lines

@@ -35,7 +35,7 @@ loop-at-preserved c =
     let p = c.list_position-f in
     let skips = c.skip_bare-at-in-loop-at in
     record {
-      long = c.m-1.given ∙ l.invariant.long;
+      long = c.list_position-f.auto.m ∙ l.invariant.long;
       leads = λ k small.
           let lower : l.at < length cells = omega (arith, c.loop-at-test.true, view-length a.image.now (stretches_in a.s.now)) in
           inside-skip cells k a.skip (length cells) a.m.now a.before (l.at + 1) skips.result p.new.m p.result

@@ -23,7 +23,7 @@ pub loop-gap-preserved : goal.loop-gap-preserved
 loop-gap-preserved c =
     let l = c.loop-gap in
     record {
-      long = c.m-1.given ∙ l.invariant.long;
+      long = c.pass.auto.m ∙ l.invariant.long;
       some = λ g. absurd (omega (arith, g, c.next_gap-gap.ensures.0));
       passed = λ r h. c.pass.ensures r (l.invariant.passed r h).now;
     }

@@ -10,7 +10,7 @@ pub loop-i-preserved : goal.loop-i-preserved
 loop-i-preserved c =
     let l = c.loop-i in
     record {
-      long = c.m-1.given ∙ l.invariant.long;
+      long = c.sink.auto.m ∙ l.invariant.long;
       passed = λ r s.
           let t = c.sink.ensures c.args.n r
           (l.invariant.passed r s) c.loop-i-test.true in

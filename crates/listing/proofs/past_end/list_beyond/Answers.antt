@@ -35,7 +35,7 @@ loop-bound-preserved c =
     let l = c.loop-bound in
     let s = c.list_span-f in
     record {
-      long = c.lines-1.given ∙ l.invariant.long;
+      long = c.list_span-f.auto.lines ∙ l.invariant.long;
       leaves =
           leaves-on a.noted.now a.n a.goals.now a.end a.skip a.lines.now a.before l.lines l.f l.bound l.invariant.leaves
           c.highest-top.result c.lowest-first.result c.span_end-last.result (omega (arith, c.loop-bound-test.true))
@@ -55,7 +55,7 @@ shape_of-lines-then-f c =
 
 pub shape_of-lines-then-top-last : goal.shape_of-lines-then-top-last
 shape_of-lines-then-top-last c =
-    c.lines-1.given ∙ c.loop-bound.invariant.long
+    c.list_span-f.auto.lines ∙ c.loop-bound.invariant.long
 
 pub shape_of-lines : goal.shape_of-lines
 shape_of-lines c =

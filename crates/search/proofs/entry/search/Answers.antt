@@ -32,7 +32,7 @@ returns-then-lacks_room c blank blank₂ =
     f.new.noted f.new.goals f.result v
     c.lacks_room.result c.lacks_room.ensures c.if-lacks_room.true
     (c.clear_all.ensures ∙ zeroed-same (rows) a.placed.now a.noted.now f.new.placed
-    f.new.noted c.placed-1.given c.noted-1.given)
+    f.new.noted f.auto.placed f.auto.noted)
 
 pub returns : goal.returns
 returns c blank blank₂ =

@@ -15,7 +15,7 @@ search_all-requires c =
 
 pub shape_of-noted : goal.shape_of-noted
 shape_of-noted c =
-    c.noted-2-1.given ∙ c.noted-1.given
+    c.search_all.auto.noted ∙ c.clear-2.auto.rows
 
 pub returns : goal.returns
 returns c =
@@ -26,8 +26,8 @@ returns c =
     a.placed.now a.positions.now a.noted.now a.goals.now c.clear.new.rows c.clear-2.new.rows
     v.new.placed v.new.positions
     v.new.noted v.new.goals v.result
-    c.clear.ensures c.clear-2.ensures c.placed-2-1.given c.noted-2-1.given v.ensures
+    c.clear.ensures c.clear-2.ensures c.search_all.auto.placed c.search_all.auto.noted v.ensures
 
 pub shape_of-placed : goal.shape_of-placed
 shape_of-placed c =
-    c.placed-2-1.given ∙ c.placed-1.given
+    c.search_all.auto.placed ∙ c.clear.auto.rows

@@ -33,4 +33,4 @@ returns c =
     bucket-written a.noted.now a.head a.t a.skip c.count.result c.count.ensures a.lines.now a.f
     (sym c.is_crowded.ensures ∙ c.if-is_crowded.false)
     c.count-valid.result c.count-valid.ensures c.write_names.new.lines
-    (omega (arith, c.if-room-f.false, c.if-room-f-2.false)) c.lines-1.given c.write_names.ensures
+    (omega (arith, c.if-room-f.false, c.if-room-f-2.false)) c.write_names.auto.lines c.write_names.ensures

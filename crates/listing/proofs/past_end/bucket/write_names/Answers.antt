@@ -20,7 +20,7 @@ loop-here-preserved c =
     let l = c.loop-here in
     writing-on a.noted.now a.head a.t a.end a.lines.now l.lines l.k l.here l.invariant c.loop-here-test.true
     c.noted_at-row.result c.noted_at-row.ensures c.onward-here.result c.onward-here.ensures
-    c.write_name-k.new.lines c.write_name-k.result c.write_name-k.ensures c.lines-1.given
+    c.write_name-k.new.lines c.write_name-k.result c.write_name-k.ensures c.write_name-k.auto.lines
 
 pub returns : goal.returns
 returns c =

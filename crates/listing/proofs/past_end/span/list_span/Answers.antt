@@ -22,7 +22,7 @@ loop-t-preserved c =
     let a = c.args in
     let l = c.loop-t in
     record {
-      long = c.lines-1.given ∙ l.invariant.long;
+      long = c.list_target-f.auto.lines ∙ l.invariant.long;
       spans =
           spans_on a.noted.now a.goals.now a.first a.last a.skip a.lines.now a.before l.lines l.f l.t l.invariant.spans
           c.list_target-f.new.lines c.list_target-f.result c.list_target-f.ensures c.loop-t-test.true;
@@ -37,4 +37,4 @@ returns c =
 
 pub shape_of-lines : goal.shape_of-lines
 shape_of-lines c =
-    c.lines-2-1.given ∙ c.loop-t.invariant.long
+    c.list_target.auto.lines ∙ c.loop-t.invariant.long

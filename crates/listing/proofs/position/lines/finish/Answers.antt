@@ -27,4 +27,4 @@ returns c =
     let a = c.args in
     λ lines all long h apart small. finish-ordered a.library.now a.skip a.m.now a.from a.b lines all long h
     c.is_crowded.result c.is_crowded.ensures c.if-is_crowded.false
-    (omega (arith, c.if-m-from.false, c.requires)) apart small c.order.new.m c.m-1.given c.order.ensures
+    (omega (arith, c.if-m-from.false, c.requires)) apart small c.order.new.m c.order.auto.m c.order.ensures

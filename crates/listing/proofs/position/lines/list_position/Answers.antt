@@ -36,11 +36,11 @@ walk_noted-heard-requires c =
 
 pub walk_placed-best-requires : goal.walk_placed-best-requires
 walk_placed-best-requires c =
-    (omega (arith, c.if-m-from.false, c.m-1.given), c.walk_noted-heard.ensures.few)
+    (omega (arith, c.if-m-from.false, c.walk_noted-heard.auto.m), c.walk_noted-heard.ensures.few)
 
 pub finish-requires : goal.finish-requires
 finish-requires c =
-    omega (arith, c.if-m-from.false, c.m-2-1.given, c.m-1.given)
+    omega (arith, c.if-m-from.false, c.walk_placed-best.auto.m, c.walk_noted-heard.auto.m)
 
 pub returns : goal.returns
 returns c =
@@ -57,4 +57,4 @@ returns c =
 
 pub shape_of-m : goal.shape_of-m
 shape_of-m c =
-    c.m-3-1.given ∙ c.m-2-1.given ∙ c.m-1.given
+    c.finish.auto.m ∙ c.walk_placed-best.auto.m ∙ c.walk_noted-heard.auto.m

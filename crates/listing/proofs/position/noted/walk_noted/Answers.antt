@@ -85,7 +85,7 @@ loop-here-preserved c =
     let l = c.loop-here in
     record {
       few = omega (arith, l.invariant.few, c.take_noted-b.ensures.few, c.if-here-next.false);
-      long = c.m-1.given ∙ l.invariant.long;
+      long = c.take_noted-b.auto.m ∙ l.invariant.long;
       walked = λ library ns lines tabled small long front.
           walked-turn noted_sheet library noted-reads none ns tabled refl a.at (noted_at_it a.at) (noted-within a.at small) noted_line lines []
           l.here l.m l.b (l.invariant.walked library ns lines tabled small long front) c.loop-here-test.true
@@ -107,7 +107,7 @@ returns c =
 
 pub shape_of-m-then-here-next : goal.shape_of-m-then-here-next
 shape_of-m-then-here-next c =
-    c.m-1.given ∙ c.loop-here.invariant.long
+    c.take_noted-b.auto.m ∙ c.loop-here.invariant.long
 
 pub shape_of-m : goal.shape_of-m
 shape_of-m c =

@@ -122,7 +122,7 @@ loop-here-preserved c =
     let l = c.loop-here in
     record {
       few = omega (arith, l.invariant.few, c.take_placed-b.ensures.few, c.if-here-next.false);
-      long = c.m-1.given ∙ l.invariant.long;
+      long = c.take_placed-b.auto.m ∙ l.invariant.long;
       walked = λ k lines before small long h.
           walked-turn placed_sheet a.library.now placed-reads none k.ps k.sought.placings refl a.at
           (stays_at (view a.image.now (stretches_in a.s.now)) k a.at) (within k small) (line_of (view a.image.now (stretches_in a.s.now)) k) lines before
@@ -149,7 +149,7 @@ returns c =
 
 pub shape_of-m-then-here-next : goal.shape_of-m-then-here-next
 shape_of-m-then-here-next c =
-    c.m-1.given ∙ c.loop-here.invariant.long
+    c.take_placed-b.auto.m ∙ c.loop-here.invariant.long
 
 pub shape_of-m : goal.shape_of-m
 shape_of-m c =

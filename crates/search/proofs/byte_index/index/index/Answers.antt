@@ -1,13 +1,7 @@
-use Rattle.std.proofs.Common.{◌-◌, ◌<◌, refl, arith, length-set}
-use Rattle.tables.specs.links.Index.{key_at}
+use Rattle.std.proofs.Common.{◌-◌, refl, arith, length-set}
 use Rattle.tables.specs.links.IndexLaws.{none-linked, link-turn, linked-at}
 use Rattle.search.specs.byte_index.IndexLaws.{past-heads, all-indexed}
 use Rattle.search.proofs.byte_index.index.index.Goals as goal
-use Rattle.search.proofs.byte_index.index.index.Goals.{After-shared_slice_known-in-loop-i-1}
-
-small : (c : After-shared_slice_known-in-loop-i-1) → key_at c.args.image.now (c.loop-i.i - 1) < 256
-small c =
-    omega (arith, c.shared_slice_known-in-loop-i-1.given (c.loop-i.i - 1))
 
 pub loop-i-init : goal.loop-i-init
 loop-i-init c =
@@ -21,15 +15,15 @@ bounds-image-i c =
 
 pub overflow_cast-byte : goal.overflow_cast-byte
 overflow_cast-byte c =
-    omega (arith, small (goal.at.overflow_cast-byte c).After-shared_slice_known-in-loop-i-1)
+    omega (arith, c.type_inv.image (c.loop-i.i - 1))
 
 pub offset_bounds-first-byte : goal.offset_bounds-first-byte
 offset_bounds-first-byte c =
-    omega (arith, small (goal.at.offset_bounds-first-byte c).After-shared_slice_known-in-loop-i-1)
+    omega (arith, c.type_inv.image (c.loop-i.i - 1))
 
 pub bounds-first-byte : goal.bounds-first-byte
 bounds-first-byte c =
-    omega (arith, small (goal.at.bounds-first-byte c).After-shared_slice_known-in-loop-i-1, c.loop-i.invariant.linked.heads)
+    omega (arith, c.type_inv.image (c.loop-i.i - 1), c.loop-i.invariant.linked.heads)
 
 pub offset_bounds-next-i : goal.offset_bounds-next-i
 offset_bounds-next-i c =
@@ -49,35 +43,35 @@ overflow_cast-first c =
 
 pub offset_bounds-first-byte-in-loop-i : goal.offset_bounds-first-byte-in-loop-i
 offset_bounds-first-byte-in-loop-i c =
-    omega (arith, small (goal.at.offset_bounds-first-byte-in-loop-i c).After-shared_slice_known-in-loop-i-1)
+    omega (arith, c.type_inv.image (c.loop-i.i - 1))
 
 pub bounds-first-byte-in-loop-i : goal.bounds-first-byte-in-loop-i
 bounds-first-byte-in-loop-i c =
-    omega (arith, small (goal.at.bounds-first-byte-in-loop-i c).After-shared_slice_known-in-loop-i-1, c.loop-i.invariant.linked.heads)
+    omega (arith, c.type_inv.image (c.loop-i.i - 1), c.loop-i.invariant.linked.heads)
 
 pub overflow_add-byte : goal.overflow_add-byte
 overflow_add-byte c =
-    omega (arith, small (goal.at.overflow_add-byte c).After-shared_slice_known-in-loop-i-1)
+    omega (arith, c.type_inv.image (c.loop-i.i - 1))
 
 pub offset_bounds-first-byte-in-loop-i-2 : goal.offset_bounds-first-byte-in-loop-i-2
 offset_bounds-first-byte-in-loop-i-2 c =
-    omega (arith, small (goal.at.offset_bounds-first-byte-in-loop-i-2 c).After-shared_slice_known-in-loop-i-1)
+    omega (arith, c.type_inv.image (c.loop-i.i - 1))
 
 pub bounds-first-byte-in-loop-i-2 : goal.bounds-first-byte-in-loop-i-2
 bounds-first-byte-in-loop-i-2 c =
-    rw length-set (omega (arith, small (goal.at.bounds-first-byte-in-loop-i-2 c).After-shared_slice_known-in-loop-i-1, c.loop-i.invariant.heads-long, c.requires.heads))
+    rw length-set (omega (arith, c.type_inv.image (c.loop-i.i - 1), c.loop-i.invariant.heads-long, c.requires.heads))
 
 pub overflow_add-first-in-loop-i : goal.overflow_add-first-in-loop-i
 overflow_add-first-in-loop-i c =
-    omega (arith, small (goal.at.overflow_add-first-in-loop-i c).After-shared_slice_known-in-loop-i-1)
+    omega (arith, c.type_inv.image (c.loop-i.i - 1))
 
 pub offset_bounds-first-byte-in-loop-i-3 : goal.offset_bounds-first-byte-in-loop-i-3
 offset_bounds-first-byte-in-loop-i-3 c =
-    omega (arith, small (goal.at.offset_bounds-first-byte-in-loop-i-3 c).After-shared_slice_known-in-loop-i-1)
+    omega (arith, c.type_inv.image (c.loop-i.i - 1))
 
 pub bounds-first-byte-in-loop-i-3 : goal.bounds-first-byte-in-loop-i-3
 bounds-first-byte-in-loop-i-3 c =
-    rw length-set (omega (arith, small (goal.at.bounds-first-byte-in-loop-i-3 c).After-shared_slice_known-in-loop-i-1, c.loop-i.invariant.heads-long, c.requires.heads))
+    rw length-set (omega (arith, c.type_inv.image (c.loop-i.i - 1), c.loop-i.invariant.heads-long, c.requires.heads))
 
 pub loop-i-preserved : goal.loop-i-preserved
 loop-i-preserved c =
@@ -88,7 +82,7 @@ loop-i-preserved c =
       heads-long = rw (length-set, length-set) l.invariant.heads-long;
       next-long = rw length-set l.invariant.next-long;
       linked = past-heads _ _ (omega arith) (link-turn a.image.now l.first l.next (l.i - 1) (omega (arith, l.invariant.within))
-          (small (goal.at.loop-i-preserved c).After-shared_slice_known-in-loop-i-1) (linked-at l.invariant.linked (omega arith)));
+          (omega (arith, c.type_inv.image (l.i - 1))) (linked-at l.invariant.linked (omega arith)));
     }
 
 pub returns : goal.returns

@@ -45,12 +45,12 @@ loop-i-preserved c =
     let more = joined (matches_by (seen) (rows)) in
     record {
       within = omega (arith, c.loop-i-test.true);
-      told-long = c.told-1.given ∙ l.invariant.told-long;
+      told-long = c.search_segment-f.auto.told ∙ l.invariant.told-long;
       truth = v.ensures.1;
-      placed-long = c.placed-1.given ∙ l.invariant.placed-long;
-      positions-long = c.positions-1.given ∙ l.invariant.positions-long;
-      noted-long = c.noted-1.given ∙ l.invariant.noted-long;
-      goals-long = c.goals-1.given ∙ l.invariant.goals-long;
+      placed-long = c.search_segment-f.auto.placed ∙ l.invariant.placed-long;
+      positions-long = c.search_segment-f.auto.positions ∙ l.invariant.positions-long;
+      noted-long = c.search_segment-f.auto.noted ∙ l.invariant.noted-long;
+      goals-long = c.search_segment-f.auto.goals ∙ l.invariant.goals-long;
       leads =
           leading-on (seen) a.asked a.library.now (segments_in (rows) a.n) (more (from 0 (a.n - 0))) a.placed.now
           a.positions.now a.noted.now a.goals.now a.before {left = more (from l.i (a.n - l.i))} l.placed l.positions l.noted l.goals l.f l.invariant.leads
