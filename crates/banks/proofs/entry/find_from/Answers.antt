@@ -22,7 +22,7 @@ pub find_views-requires : goal.find_views-requires
 find_views-requires c =
     let lent : Lent = let a = c.args in lent_lists a.segments.now a.references.now a.symbols.now a.bytes.now a.masks.now a.placed.now a.noted.now a.lines.now in
     let collected : Rules → CollectOutcome = λ rules. collection rules c.args.library.now (items_at c.args.library.now (module_at c.args.library.now) c.args.first) (collectable (lent)) in
-    let left : CollectLists = let q = c.collect.new.1.1.1 in lists q.0 q.1.0 q.1.1.0 q.1.1.1.0 q.1.1.1.1.0 in
+    let left : CollectLists = let q = c.collect.new in lists q.segments q.references q.symbols q.bytes q.masks in
     let between : Lent = let l = left in
     let a = c.args in
     lent_lists l.segments l.references l.symbols l.bytes l.masks a.placed.now a.noted.now a.lines.now in
@@ -52,7 +52,7 @@ pub returns-in-Done : goal.returns-in-Done
 returns-in-Done c =
     let lent : Lent = let a = c.args in lent_lists a.segments.now a.references.now a.symbols.now a.bytes.now a.masks.now a.placed.now a.noted.now a.lines.now in
     let collected : Rules → CollectOutcome = λ rules. collection rules c.args.library.now (items_at c.args.library.now (module_at c.args.library.now) c.args.first) (collectable (lent)) in
-    let left : CollectLists = let q = c.collect.new.1.1.1 in lists q.0 q.1.0 q.1.1.0 q.1.1.1.0 q.1.1.1.1.0 in
+    let left : CollectLists = let q = c.collect.new in lists q.segments q.references q.symbols q.bytes q.masks in
     let between : Lent = let l = left in
     let a = c.args in
     lent_lists l.segments l.references l.symbols l.bytes l.masks a.placed.now a.noted.now a.lines.now in
@@ -80,7 +80,7 @@ pub returns-in-Refused : goal.returns-in-Refused
 returns-in-Refused c =
     let lent : Lent = let a = c.args in lent_lists a.segments.now a.references.now a.symbols.now a.bytes.now a.masks.now a.placed.now a.noted.now a.lines.now in
     let collected : Rules → CollectOutcome = λ rules. collection rules c.args.library.now (items_at c.args.library.now (module_at c.args.library.now) c.args.first) (collectable (lent)) in
-    let left : CollectLists = let q = c.collect.new.1.1.1 in lists q.0 q.1.0 q.1.1.0 q.1.1.1.0 q.1.1.1.1.0 in
+    let left : CollectLists = let q = c.collect.new in lists q.segments q.references q.symbols q.bytes q.masks in
     let a = c.args in
     let after : Lent = lent_lists (left).segments (left).references (left).symbols (left).bytes (left).masks c.clear.new.rows c.clear-in-Refused.new.rows c.clear-in-Refused-2.new.rows in
     ap (λ x. record { answer = x; left = after }) c.no_banks.ensures
@@ -88,216 +88,3 @@ returns-in-Refused c =
     (ap (λ r. record { answer = r; left = left }) (sym c.in-Refused.is) ∙ c.collect.ensures ∙ ap (collected) c.rules_of-rules.ensures)
     c.clear.ensures c.clear-in-Refused.ensures c.clear-in-Refused-2.ensures
 
-pub shape_of-segments-in-Done : goal.shape_of-segments-in-Done
-shape_of-segments-in-Done c =
-    let lent : Lent = let a = c.args in lent_lists a.segments.now a.references.now a.symbols.now a.bytes.now a.masks.now a.placed.now a.noted.now a.lines.now in
-    let left : CollectLists = let q = c.collect.new.1.1.1 in lists q.0 q.1.0 q.1.1.0 q.1.1.1.0 q.1.1.1.1.0 in
-    let between : Lent = let l = left in
-    let a = c.args in
-    lent_lists l.segments l.references l.symbols l.bytes l.masks a.placed.now a.noted.now a.lines.now in
-    let kept : SameLengths (between) (lent) = record {
-      segments = c.segments-1.given;
-      references = c.references-1.given;
-      symbols = c.symbols-1.given;
-      bytes = c.bytes-1.given;
-      masks = c.masks-1.given;
-      placed = refl;
-      noted = refl;
-      lines = refl;
-    } in
-    c.segments-in-Done-1.given ∙ (kept).segments
-
-pub shape_of-references-in-Done : goal.shape_of-references-in-Done
-shape_of-references-in-Done c =
-    let lent : Lent = let a = c.args in lent_lists a.segments.now a.references.now a.symbols.now a.bytes.now a.masks.now a.placed.now a.noted.now a.lines.now in
-    let left : CollectLists = let q = c.collect.new.1.1.1 in lists q.0 q.1.0 q.1.1.0 q.1.1.1.0 q.1.1.1.1.0 in
-    let between : Lent = let l = left in
-    let a = c.args in
-    lent_lists l.segments l.references l.symbols l.bytes l.masks a.placed.now a.noted.now a.lines.now in
-    let kept : SameLengths (between) (lent) = record {
-      segments = c.segments-1.given;
-      references = c.references-1.given;
-      symbols = c.symbols-1.given;
-      bytes = c.bytes-1.given;
-      masks = c.masks-1.given;
-      placed = refl;
-      noted = refl;
-      lines = refl;
-    } in
-    c.references-in-Done-1.given ∙ (kept).references
-
-pub shape_of-symbols-in-Done : goal.shape_of-symbols-in-Done
-shape_of-symbols-in-Done c =
-    let lent : Lent = let a = c.args in lent_lists a.segments.now a.references.now a.symbols.now a.bytes.now a.masks.now a.placed.now a.noted.now a.lines.now in
-    let left : CollectLists = let q = c.collect.new.1.1.1 in lists q.0 q.1.0 q.1.1.0 q.1.1.1.0 q.1.1.1.1.0 in
-    let between : Lent = let l = left in
-    let a = c.args in
-    lent_lists l.segments l.references l.symbols l.bytes l.masks a.placed.now a.noted.now a.lines.now in
-    let kept : SameLengths (between) (lent) = record {
-      segments = c.segments-1.given;
-      references = c.references-1.given;
-      symbols = c.symbols-1.given;
-      bytes = c.bytes-1.given;
-      masks = c.masks-1.given;
-      placed = refl;
-      noted = refl;
-      lines = refl;
-    } in
-    c.symbols-in-Done-1.given ∙ (kept).symbols
-
-pub shape_of-bytes-in-Done : goal.shape_of-bytes-in-Done
-shape_of-bytes-in-Done c =
-    let lent : Lent = let a = c.args in lent_lists a.segments.now a.references.now a.symbols.now a.bytes.now a.masks.now a.placed.now a.noted.now a.lines.now in
-    let left : CollectLists = let q = c.collect.new.1.1.1 in lists q.0 q.1.0 q.1.1.0 q.1.1.1.0 q.1.1.1.1.0 in
-    let between : Lent = let l = left in
-    let a = c.args in
-    lent_lists l.segments l.references l.symbols l.bytes l.masks a.placed.now a.noted.now a.lines.now in
-    let kept : SameLengths (between) (lent) = record {
-      segments = c.segments-1.given;
-      references = c.references-1.given;
-      symbols = c.symbols-1.given;
-      bytes = c.bytes-1.given;
-      masks = c.masks-1.given;
-      placed = refl;
-      noted = refl;
-      lines = refl;
-    } in
-    c.bytes-in-Done-1.given ∙ (kept).bytes
-
-pub shape_of-masks-in-Done : goal.shape_of-masks-in-Done
-shape_of-masks-in-Done c =
-    let lent : Lent = let a = c.args in lent_lists a.segments.now a.references.now a.symbols.now a.bytes.now a.masks.now a.placed.now a.noted.now a.lines.now in
-    let left : CollectLists = let q = c.collect.new.1.1.1 in lists q.0 q.1.0 q.1.1.0 q.1.1.1.0 q.1.1.1.1.0 in
-    let between : Lent = let l = left in
-    let a = c.args in
-    lent_lists l.segments l.references l.symbols l.bytes l.masks a.placed.now a.noted.now a.lines.now in
-    let kept : SameLengths (between) (lent) = record {
-      segments = c.segments-1.given;
-      references = c.references-1.given;
-      symbols = c.symbols-1.given;
-      bytes = c.bytes-1.given;
-      masks = c.masks-1.given;
-      placed = refl;
-      noted = refl;
-      lines = refl;
-    } in
-    c.masks-in-Done-1.given ∙ (kept).masks
-
-pub shape_of-placed-in-Done : goal.shape_of-placed-in-Done
-shape_of-placed-in-Done c =
-    c.placed-1.given
-
-pub shape_of-noted-in-Done : goal.shape_of-noted-in-Done
-shape_of-noted-in-Done c =
-    c.noted-1.given
-
-pub shape_of-lines-in-Done : goal.shape_of-lines-in-Done
-shape_of-lines-in-Done c =
-    c.lines-1.given
-
-pub shape_of-segments-in-Refused : goal.shape_of-segments-in-Refused
-shape_of-segments-in-Refused c =
-    let lent : Lent = let a = c.args in lent_lists a.segments.now a.references.now a.symbols.now a.bytes.now a.masks.now a.placed.now a.noted.now a.lines.now in
-    let left : CollectLists = let q = c.collect.new.1.1.1 in lists q.0 q.1.0 q.1.1.0 q.1.1.1.0 q.1.1.1.1.0 in
-    let between : Lent = let l = left in
-    let a = c.args in
-    lent_lists l.segments l.references l.symbols l.bytes l.masks a.placed.now a.noted.now a.lines.now in
-    let kept : SameLengths (between) (lent) = record {
-      segments = c.segments-1.given;
-      references = c.references-1.given;
-      symbols = c.symbols-1.given;
-      bytes = c.bytes-1.given;
-      masks = c.masks-1.given;
-      placed = refl;
-      noted = refl;
-      lines = refl;
-    } in
-    (kept).segments
-
-pub shape_of-references-in-Refused : goal.shape_of-references-in-Refused
-shape_of-references-in-Refused c =
-    let lent : Lent = let a = c.args in lent_lists a.segments.now a.references.now a.symbols.now a.bytes.now a.masks.now a.placed.now a.noted.now a.lines.now in
-    let left : CollectLists = let q = c.collect.new.1.1.1 in lists q.0 q.1.0 q.1.1.0 q.1.1.1.0 q.1.1.1.1.0 in
-    let between : Lent = let l = left in
-    let a = c.args in
-    lent_lists l.segments l.references l.symbols l.bytes l.masks a.placed.now a.noted.now a.lines.now in
-    let kept : SameLengths (between) (lent) = record {
-      segments = c.segments-1.given;
-      references = c.references-1.given;
-      symbols = c.symbols-1.given;
-      bytes = c.bytes-1.given;
-      masks = c.masks-1.given;
-      placed = refl;
-      noted = refl;
-      lines = refl;
-    } in
-    (kept).references
-
-pub shape_of-symbols-in-Refused : goal.shape_of-symbols-in-Refused
-shape_of-symbols-in-Refused c =
-    let lent : Lent = let a = c.args in lent_lists a.segments.now a.references.now a.symbols.now a.bytes.now a.masks.now a.placed.now a.noted.now a.lines.now in
-    let left : CollectLists = let q = c.collect.new.1.1.1 in lists q.0 q.1.0 q.1.1.0 q.1.1.1.0 q.1.1.1.1.0 in
-    let between : Lent = let l = left in
-    let a = c.args in
-    lent_lists l.segments l.references l.symbols l.bytes l.masks a.placed.now a.noted.now a.lines.now in
-    let kept : SameLengths (between) (lent) = record {
-      segments = c.segments-1.given;
-      references = c.references-1.given;
-      symbols = c.symbols-1.given;
-      bytes = c.bytes-1.given;
-      masks = c.masks-1.given;
-      placed = refl;
-      noted = refl;
-      lines = refl;
-    } in
-    (kept).symbols
-
-pub shape_of-bytes-in-Refused : goal.shape_of-bytes-in-Refused
-shape_of-bytes-in-Refused c =
-    let lent : Lent = let a = c.args in lent_lists a.segments.now a.references.now a.symbols.now a.bytes.now a.masks.now a.placed.now a.noted.now a.lines.now in
-    let left : CollectLists = let q = c.collect.new.1.1.1 in lists q.0 q.1.0 q.1.1.0 q.1.1.1.0 q.1.1.1.1.0 in
-    let between : Lent = let l = left in
-    let a = c.args in
-    lent_lists l.segments l.references l.symbols l.bytes l.masks a.placed.now a.noted.now a.lines.now in
-    let kept : SameLengths (between) (lent) = record {
-      segments = c.segments-1.given;
-      references = c.references-1.given;
-      symbols = c.symbols-1.given;
-      bytes = c.bytes-1.given;
-      masks = c.masks-1.given;
-      placed = refl;
-      noted = refl;
-      lines = refl;
-    } in
-    (kept).bytes
-
-pub shape_of-masks-in-Refused : goal.shape_of-masks-in-Refused
-shape_of-masks-in-Refused c =
-    let lent : Lent = let a = c.args in lent_lists a.segments.now a.references.now a.symbols.now a.bytes.now a.masks.now a.placed.now a.noted.now a.lines.now in
-    let left : CollectLists = let q = c.collect.new.1.1.1 in lists q.0 q.1.0 q.1.1.0 q.1.1.1.0 q.1.1.1.1.0 in
-    let between : Lent = let l = left in
-    let a = c.args in
-    lent_lists l.segments l.references l.symbols l.bytes l.masks a.placed.now a.noted.now a.lines.now in
-    let kept : SameLengths (between) (lent) = record {
-      segments = c.segments-1.given;
-      references = c.references-1.given;
-      symbols = c.symbols-1.given;
-      bytes = c.bytes-1.given;
-      masks = c.masks-1.given;
-      placed = refl;
-      noted = refl;
-      lines = refl;
-    } in
-    (kept).masks
-
-pub shape_of-placed-in-Refused : goal.shape_of-placed-in-Refused
-shape_of-placed-in-Refused c =
-    c.placed-in-Refused-1.given
-
-pub shape_of-noted-in-Refused : goal.shape_of-noted-in-Refused
-shape_of-noted-in-Refused c =
-    c.noted-in-Refused-1.given
-
-pub shape_of-lines-in-Refused : goal.shape_of-lines-in-Refused
-shape_of-lines-in-Refused c =
-    c.lines-in-Refused-1.given

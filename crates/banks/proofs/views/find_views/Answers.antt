@@ -44,8 +44,8 @@ returns-in_default c =
     let lent : Lent = let a = c.args in lent_lists a.segments.now a.references.now a.symbols.now a.bytes.now a.masks.now a.placed.now a.noted.now a.lines.now in
     let seen : List ℕ = view c.args.file.now (cover c.args.settings) in
     let turn : Lent = let l = c.loop-k in lent_lists l.segments l.references l.symbols l.bytes l.masks l.placed l.noted l.lines in
-    let after : Lent = let q = c.find_view-came.new.1.1.1.1.1 in
-    lent_lists q.0 q.1.0 q.1.1.0 q.1.1.1.0 q.1.1.1.1.0 q.1.1.1.1.1.0 q.1.1.1.1.1.1.0 q.1.1.1.1.1.1.1.0 in
+    let after : Lent = let q = c.find_view-came.new in
+    lent_lists q.segments q.references q.symbols q.bytes q.masks q.placed q.noted q.lines in
     let kept : SameLengths (after) (turn) = record {
       segments = c.segments-1.given;
       references = c.references-1.given;
@@ -72,8 +72,8 @@ overflow_add-before c =
     let lent : Lent = let a = c.args in lent_lists a.segments.now a.references.now a.symbols.now a.bytes.now a.masks.now a.placed.now a.noted.now a.lines.now in
     let seen : List ℕ = view c.args.file.now (cover c.args.settings) in
     let turn : Lent = let l = c.loop-k in lent_lists l.segments l.references l.symbols l.bytes l.masks l.placed l.noted l.lines in
-    let after : Lent = let q = c.find_view-came.new.1.1.1.1.1 in
-    lent_lists q.0 q.1.0 q.1.1.0 q.1.1.1.0 q.1.1.1.1.0 q.1.1.1.1.1.0 q.1.1.1.1.1.1.0 q.1.1.1.1.1.1.1.0 in
+    let after : Lent = let q = c.find_view-came.new in
+    lent_lists q.segments q.references q.symbols q.bytes q.masks q.placed q.noted q.lines in
     let kept : SameLengths (after) (turn) = record {
       segments = c.segments-1.given;
       references = c.references-1.given;
@@ -113,8 +113,8 @@ loop-k-preserved c =
     let lent : Lent = let a = c.args in lent_lists a.segments.now a.references.now a.symbols.now a.bytes.now a.masks.now a.placed.now a.noted.now a.lines.now in
     let seen : List ℕ = view c.args.file.now (cover c.args.settings) in
     let turn : Lent = let l = c.loop-k in lent_lists l.segments l.references l.symbols l.bytes l.masks l.placed l.noted l.lines in
-    let after : Lent = let q = c.find_view-came.new.1.1.1.1.1 in
-    lent_lists q.0 q.1.0 q.1.1.0 q.1.1.1.0 q.1.1.1.1.0 q.1.1.1.1.1.0 q.1.1.1.1.1.1.0 q.1.1.1.1.1.1.1.0 in
+    let after : Lent = let q = c.find_view-came.new in
+    lent_lists q.segments q.references q.symbols q.bytes q.masks q.placed q.noted q.lines in
     let kept : SameLengths (after) (turn) = record {
       segments = c.segments-1.given;
       references = c.references-1.given;
@@ -147,246 +147,6 @@ returns c =
     let a = c.args in
     shown-ends (seen) a.library.now a.settings a.banks (lent) a.collected c.loop-k.invariant (omega (arith, c.loop-k-test.false)) c.requires.1
 
-pub shape_of-segments-in_default : goal.shape_of-segments-in_default
-shape_of-segments-in_default c =
-    let lent : Lent = let a = c.args in lent_lists a.segments.now a.references.now a.symbols.now a.bytes.now a.masks.now a.placed.now a.noted.now a.lines.now in
-    let turn : Lent = let l = c.loop-k in lent_lists l.segments l.references l.symbols l.bytes l.masks l.placed l.noted l.lines in
-    let after : Lent = let q = c.find_view-came.new.1.1.1.1.1 in
-    lent_lists q.0 q.1.0 q.1.1.0 q.1.1.1.0 q.1.1.1.1.0 q.1.1.1.1.1.0 q.1.1.1.1.1.1.0 q.1.1.1.1.1.1.1.0 in
-    let kept : SameLengths (after) (turn) = record {
-      segments = c.segments-1.given;
-      references = c.references-1.given;
-      symbols = c.symbols-1.given;
-      bytes = c.bytes-1.given;
-      masks = c.masks-1.given;
-      placed = c.placed-1.given;
-      noted = c.noted-1.given;
-      lines = c.lines-1.given;
-    } in
-    let kept-all : SameLengths (after) (lent) = let k = kept in
-    let l = c.loop-k.invariant.listed.long in
-    record {
-      segments = k.segments ∙ l.segments;
-      references = k.references ∙ l.references;
-      symbols = k.symbols ∙ l.symbols;
-      bytes = k.bytes ∙ l.bytes;
-      masks = k.masks ∙ l.masks;
-      placed = k.placed ∙ l.placed;
-      noted = k.noted ∙ l.noted;
-      lines = k.lines ∙ l.lines;
-    } in
-    (kept-all).segments
-
-pub shape_of-references-in_default : goal.shape_of-references-in_default
-shape_of-references-in_default c =
-    let lent : Lent = let a = c.args in lent_lists a.segments.now a.references.now a.symbols.now a.bytes.now a.masks.now a.placed.now a.noted.now a.lines.now in
-    let turn : Lent = let l = c.loop-k in lent_lists l.segments l.references l.symbols l.bytes l.masks l.placed l.noted l.lines in
-    let after : Lent = let q = c.find_view-came.new.1.1.1.1.1 in
-    lent_lists q.0 q.1.0 q.1.1.0 q.1.1.1.0 q.1.1.1.1.0 q.1.1.1.1.1.0 q.1.1.1.1.1.1.0 q.1.1.1.1.1.1.1.0 in
-    let kept : SameLengths (after) (turn) = record {
-      segments = c.segments-1.given;
-      references = c.references-1.given;
-      symbols = c.symbols-1.given;
-      bytes = c.bytes-1.given;
-      masks = c.masks-1.given;
-      placed = c.placed-1.given;
-      noted = c.noted-1.given;
-      lines = c.lines-1.given;
-    } in
-    let kept-all : SameLengths (after) (lent) = let k = kept in
-    let l = c.loop-k.invariant.listed.long in
-    record {
-      segments = k.segments ∙ l.segments;
-      references = k.references ∙ l.references;
-      symbols = k.symbols ∙ l.symbols;
-      bytes = k.bytes ∙ l.bytes;
-      masks = k.masks ∙ l.masks;
-      placed = k.placed ∙ l.placed;
-      noted = k.noted ∙ l.noted;
-      lines = k.lines ∙ l.lines;
-    } in
-    (kept-all).references
-
-pub shape_of-symbols-in_default : goal.shape_of-symbols-in_default
-shape_of-symbols-in_default c =
-    let lent : Lent = let a = c.args in lent_lists a.segments.now a.references.now a.symbols.now a.bytes.now a.masks.now a.placed.now a.noted.now a.lines.now in
-    let turn : Lent = let l = c.loop-k in lent_lists l.segments l.references l.symbols l.bytes l.masks l.placed l.noted l.lines in
-    let after : Lent = let q = c.find_view-came.new.1.1.1.1.1 in
-    lent_lists q.0 q.1.0 q.1.1.0 q.1.1.1.0 q.1.1.1.1.0 q.1.1.1.1.1.0 q.1.1.1.1.1.1.0 q.1.1.1.1.1.1.1.0 in
-    let kept : SameLengths (after) (turn) = record {
-      segments = c.segments-1.given;
-      references = c.references-1.given;
-      symbols = c.symbols-1.given;
-      bytes = c.bytes-1.given;
-      masks = c.masks-1.given;
-      placed = c.placed-1.given;
-      noted = c.noted-1.given;
-      lines = c.lines-1.given;
-    } in
-    let kept-all : SameLengths (after) (lent) = let k = kept in
-    let l = c.loop-k.invariant.listed.long in
-    record {
-      segments = k.segments ∙ l.segments;
-      references = k.references ∙ l.references;
-      symbols = k.symbols ∙ l.symbols;
-      bytes = k.bytes ∙ l.bytes;
-      masks = k.masks ∙ l.masks;
-      placed = k.placed ∙ l.placed;
-      noted = k.noted ∙ l.noted;
-      lines = k.lines ∙ l.lines;
-    } in
-    (kept-all).symbols
-
-pub shape_of-bytes-in_default : goal.shape_of-bytes-in_default
-shape_of-bytes-in_default c =
-    let lent : Lent = let a = c.args in lent_lists a.segments.now a.references.now a.symbols.now a.bytes.now a.masks.now a.placed.now a.noted.now a.lines.now in
-    let turn : Lent = let l = c.loop-k in lent_lists l.segments l.references l.symbols l.bytes l.masks l.placed l.noted l.lines in
-    let after : Lent = let q = c.find_view-came.new.1.1.1.1.1 in
-    lent_lists q.0 q.1.0 q.1.1.0 q.1.1.1.0 q.1.1.1.1.0 q.1.1.1.1.1.0 q.1.1.1.1.1.1.0 q.1.1.1.1.1.1.1.0 in
-    let kept : SameLengths (after) (turn) = record {
-      segments = c.segments-1.given;
-      references = c.references-1.given;
-      symbols = c.symbols-1.given;
-      bytes = c.bytes-1.given;
-      masks = c.masks-1.given;
-      placed = c.placed-1.given;
-      noted = c.noted-1.given;
-      lines = c.lines-1.given;
-    } in
-    let kept-all : SameLengths (after) (lent) = let k = kept in
-    let l = c.loop-k.invariant.listed.long in
-    record {
-      segments = k.segments ∙ l.segments;
-      references = k.references ∙ l.references;
-      symbols = k.symbols ∙ l.symbols;
-      bytes = k.bytes ∙ l.bytes;
-      masks = k.masks ∙ l.masks;
-      placed = k.placed ∙ l.placed;
-      noted = k.noted ∙ l.noted;
-      lines = k.lines ∙ l.lines;
-    } in
-    (kept-all).bytes
-
-pub shape_of-masks-in_default : goal.shape_of-masks-in_default
-shape_of-masks-in_default c =
-    let lent : Lent = let a = c.args in lent_lists a.segments.now a.references.now a.symbols.now a.bytes.now a.masks.now a.placed.now a.noted.now a.lines.now in
-    let turn : Lent = let l = c.loop-k in lent_lists l.segments l.references l.symbols l.bytes l.masks l.placed l.noted l.lines in
-    let after : Lent = let q = c.find_view-came.new.1.1.1.1.1 in
-    lent_lists q.0 q.1.0 q.1.1.0 q.1.1.1.0 q.1.1.1.1.0 q.1.1.1.1.1.0 q.1.1.1.1.1.1.0 q.1.1.1.1.1.1.1.0 in
-    let kept : SameLengths (after) (turn) = record {
-      segments = c.segments-1.given;
-      references = c.references-1.given;
-      symbols = c.symbols-1.given;
-      bytes = c.bytes-1.given;
-      masks = c.masks-1.given;
-      placed = c.placed-1.given;
-      noted = c.noted-1.given;
-      lines = c.lines-1.given;
-    } in
-    let kept-all : SameLengths (after) (lent) = let k = kept in
-    let l = c.loop-k.invariant.listed.long in
-    record {
-      segments = k.segments ∙ l.segments;
-      references = k.references ∙ l.references;
-      symbols = k.symbols ∙ l.symbols;
-      bytes = k.bytes ∙ l.bytes;
-      masks = k.masks ∙ l.masks;
-      placed = k.placed ∙ l.placed;
-      noted = k.noted ∙ l.noted;
-      lines = k.lines ∙ l.lines;
-    } in
-    (kept-all).masks
-
-pub shape_of-placed-in_default : goal.shape_of-placed-in_default
-shape_of-placed-in_default c =
-    let lent : Lent = let a = c.args in lent_lists a.segments.now a.references.now a.symbols.now a.bytes.now a.masks.now a.placed.now a.noted.now a.lines.now in
-    let turn : Lent = let l = c.loop-k in lent_lists l.segments l.references l.symbols l.bytes l.masks l.placed l.noted l.lines in
-    let after : Lent = let q = c.find_view-came.new.1.1.1.1.1 in
-    lent_lists q.0 q.1.0 q.1.1.0 q.1.1.1.0 q.1.1.1.1.0 q.1.1.1.1.1.0 q.1.1.1.1.1.1.0 q.1.1.1.1.1.1.1.0 in
-    let kept : SameLengths (after) (turn) = record {
-      segments = c.segments-1.given;
-      references = c.references-1.given;
-      symbols = c.symbols-1.given;
-      bytes = c.bytes-1.given;
-      masks = c.masks-1.given;
-      placed = c.placed-1.given;
-      noted = c.noted-1.given;
-      lines = c.lines-1.given;
-    } in
-    let kept-all : SameLengths (after) (lent) = let k = kept in
-    let l = c.loop-k.invariant.listed.long in
-    record {
-      segments = k.segments ∙ l.segments;
-      references = k.references ∙ l.references;
-      symbols = k.symbols ∙ l.symbols;
-      bytes = k.bytes ∙ l.bytes;
-      masks = k.masks ∙ l.masks;
-      placed = k.placed ∙ l.placed;
-      noted = k.noted ∙ l.noted;
-      lines = k.lines ∙ l.lines;
-    } in
-    (kept-all).placed
-
-pub shape_of-noted-in_default : goal.shape_of-noted-in_default
-shape_of-noted-in_default c =
-    let lent : Lent = let a = c.args in lent_lists a.segments.now a.references.now a.symbols.now a.bytes.now a.masks.now a.placed.now a.noted.now a.lines.now in
-    let turn : Lent = let l = c.loop-k in lent_lists l.segments l.references l.symbols l.bytes l.masks l.placed l.noted l.lines in
-    let after : Lent = let q = c.find_view-came.new.1.1.1.1.1 in
-    lent_lists q.0 q.1.0 q.1.1.0 q.1.1.1.0 q.1.1.1.1.0 q.1.1.1.1.1.0 q.1.1.1.1.1.1.0 q.1.1.1.1.1.1.1.0 in
-    let kept : SameLengths (after) (turn) = record {
-      segments = c.segments-1.given;
-      references = c.references-1.given;
-      symbols = c.symbols-1.given;
-      bytes = c.bytes-1.given;
-      masks = c.masks-1.given;
-      placed = c.placed-1.given;
-      noted = c.noted-1.given;
-      lines = c.lines-1.given;
-    } in
-    let kept-all : SameLengths (after) (lent) = let k = kept in
-    let l = c.loop-k.invariant.listed.long in
-    record {
-      segments = k.segments ∙ l.segments;
-      references = k.references ∙ l.references;
-      symbols = k.symbols ∙ l.symbols;
-      bytes = k.bytes ∙ l.bytes;
-      masks = k.masks ∙ l.masks;
-      placed = k.placed ∙ l.placed;
-      noted = k.noted ∙ l.noted;
-      lines = k.lines ∙ l.lines;
-    } in
-    (kept-all).noted
-
-pub shape_of-lines-in_default : goal.shape_of-lines-in_default
-shape_of-lines-in_default c =
-    let lent : Lent = let a = c.args in lent_lists a.segments.now a.references.now a.symbols.now a.bytes.now a.masks.now a.placed.now a.noted.now a.lines.now in
-    let turn : Lent = let l = c.loop-k in lent_lists l.segments l.references l.symbols l.bytes l.masks l.placed l.noted l.lines in
-    let after : Lent = let q = c.find_view-came.new.1.1.1.1.1 in
-    lent_lists q.0 q.1.0 q.1.1.0 q.1.1.1.0 q.1.1.1.1.0 q.1.1.1.1.1.0 q.1.1.1.1.1.1.0 q.1.1.1.1.1.1.1.0 in
-    let kept : SameLengths (after) (turn) = record {
-      segments = c.segments-1.given;
-      references = c.references-1.given;
-      symbols = c.symbols-1.given;
-      bytes = c.bytes-1.given;
-      masks = c.masks-1.given;
-      placed = c.placed-1.given;
-      noted = c.noted-1.given;
-      lines = c.lines-1.given;
-    } in
-    let kept-all : SameLengths (after) (lent) = let k = kept in
-    let l = c.loop-k.invariant.listed.long in
-    record {
-      segments = k.segments ∙ l.segments;
-      references = k.references ∙ l.references;
-      symbols = k.symbols ∙ l.symbols;
-      bytes = k.bytes ∙ l.bytes;
-      masks = k.masks ∙ l.masks;
-      placed = k.placed ∙ l.placed;
-      noted = k.noted ∙ l.noted;
-      lines = k.lines ∙ l.lines;
-    } in
-    c.lines-in_default-1.given ∙ (kept-all).lines
-
 pub offset_bounds-each-k : goal.offset_bounds-each-k
 offset_bounds-each-k c =
     let few : c.loop-k.k < 16 = omega (arith, c.loop-k-test.true, c.requires.2) in
@@ -406,34 +166,3 @@ pub loop-k-smaller : goal.loop-k-smaller
 loop-k-smaller c =
     omega (arith, c.loop-k-test.true)
 
-pub shape_of-segments : goal.shape_of-segments
-shape_of-segments c =
-    c.loop-k.invariant.listed.long.segments
-
-pub shape_of-references : goal.shape_of-references
-shape_of-references c =
-    c.loop-k.invariant.listed.long.references
-
-pub shape_of-symbols : goal.shape_of-symbols
-shape_of-symbols c =
-    c.loop-k.invariant.listed.long.symbols
-
-pub shape_of-bytes : goal.shape_of-bytes
-shape_of-bytes c =
-    c.loop-k.invariant.listed.long.bytes
-
-pub shape_of-masks : goal.shape_of-masks
-shape_of-masks c =
-    c.loop-k.invariant.listed.long.masks
-
-pub shape_of-placed : goal.shape_of-placed
-shape_of-placed c =
-    c.loop-k.invariant.listed.long.placed
-
-pub shape_of-noted : goal.shape_of-noted
-shape_of-noted c =
-    c.loop-k.invariant.listed.long.noted
-
-pub shape_of-lines : goal.shape_of-lines
-shape_of-lines c =
-    c.loop-k.invariant.listed.long.lines
