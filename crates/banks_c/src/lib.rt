@@ -8,8 +8,8 @@ ghost use Rattle.exported.specs.Exported.{settings_of};
 ghost use Rattle.banks_c.specs.Exported.{handed_banks};
 
 use banks::entry::find_banks;
-use lent::rows::put;
 use exported::numbers::{hand_over, settings_of};
+use lent::rows::put;
 
 // The run on a board, with its settings as plain numbers. Gives 0 or the number of a refusal, and leaves the seven counts in
 // `counts` and the lines of each of 16 banks in `each`; the eight lists behind these are lent to the stages.
