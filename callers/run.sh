@@ -1,8 +1,7 @@
 #!/bin/sh
-# run.sh OUT: builds the static libraries and the examples for x86-64, runs them on the files of examples/ and on one that is refused, and compares what they
+# run.sh OUT: builds the static libraries and the examples, for x86-64, runs them on the files of examples/ and on one that is refused, and compares what they
 # print with what `./sillmarble list`, `hex`, `unhex`, `walk` and `banks` print. Left: OUT/example-c, OUT/example-rs, OUT/hex-c, OUT/walk-c, OUT/banks-c. The last line is 'N passed, 0 failed', and then the status is 0.
-# README.md names what has to be installed. On another machine than x86-64 Debian's emulator runs them (a program of Rust's ends that of the kit, QEMU 8.2.2, as it
-# starts), and Rust's standard library for x86-64 is unpacked under OUT; nothing is installed.
+# README.md names what has to be installed.
 set -eu
 [ $# -eq 1 ] || { echo "usage: run.sh OUT" >&2; exit 2; }
 root=$(cd "$(dirname "$0")/.." && pwd)
@@ -10,49 +9,18 @@ mkdir -p "$1"
 out=$(cd "$1" && pwd)
 cd "$root"
 for each in libfind_c hex_c routine_c banks_c; do
-    rt staticlib "$each" >"$out/staticlib.log" 2>&1 || { cat "$out/staticlib.log"; exit 1; }
+    (cd "crates/$each" && rt lib) >"$out/staticlib.log" 2>&1 || { cat "$out/staticlib.log"; exit 1; }
 done
-library=$root/target/staticlib/liblibfind_c.a
-hex=$root/target/staticlib/libhex_c.a
-walk=$root/target/staticlib/libroutine_c.a
-banks=$root/target/staticlib/libbanks_c.a
+library=$root/crates/libfind_c/out/liblibfind_c.a
+hex=$root/crates/hex_c/out/libhex_c.a
+walk=$root/crates/routine_c/out/libroutine_c.a
+banks=$root/crates/banks_c/out/libbanks_c.a
 
-build_here() {
-    cc -O2 -std=c99 -Wall -Wextra -o "$out/example-c" callers/example.c "$library"
-    cc -O2 -std=c99 -Wall -Wextra -o "$out/hex-c" callers/hex.c "$hex"
-    cc -O2 -std=c99 -Wall -Wextra -o "$out/walk-c" callers/walk.c "$walk"
-    cc -O2 -std=c99 -Wall -Wextra -o "$out/banks-c" callers/banks.c "$banks" "$library"
-    rustc -O --edition 2021 -o "$out/example-rs" -L "native=$root/target/staticlib" -l static=libfind_c callers/example.rs
-}
-
-# Debian's own compiler, with the standard library for x86-64 beside the machine's own (as bench/rust.sh does)
-build_across() {
-    target=x86_64-unknown-linux-gnu
-    x86_64-linux-gnu-gcc -O2 -std=c99 -Wall -Wextra -static -o "$out/example-c" callers/example.c "$library"
-    x86_64-linux-gnu-gcc -O2 -std=c99 -Wall -Wextra -static -o "$out/hex-c" callers/hex.c "$hex"
-    x86_64-linux-gnu-gcc -O2 -std=c99 -Wall -Wextra -static -o "$out/walk-c" callers/walk.c "$walk"
-    x86_64-linux-gnu-gcc -O2 -std=c99 -Wall -Wextra -static -o "$out/banks-c" callers/banks.c "$banks" "$library"
-    if [ ! -d "$out/std/usr" ]; then
-        mkdir -p "$out/std"
-        (cd "$out/std" && apt-get download libstd-rust-dev:amd64 && dpkg -x libstd-rust-dev_*_amd64.deb .)
-    fi
-    mkdir -p "$out/sysroot/lib/rustlib" "$out/lib"
-    for each in /usr/lib/rustlib/*-linux-gnu "$out/std/usr/lib/rustlib/$target"; do
-        ln -sfn "$each" "$out/sysroot/lib/rustlib/$(basename "$each")"
-    done
-    # the cross package's libm.a names a folder that only an x86-64 machine has
-    ln -sf /usr/x86_64-linux-gnu/lib/libm-2.*.a "$out/lib/libm.a"
-    /usr/bin/rustc --sysroot "$out/sysroot" --target "$target" -C linker=x86_64-linux-gnu-gcc -C target-feature=+crt-static -L "native=$out/lib" \
-        -O --edition 2021 -o "$out/example-rs" -L "native=$root/target/staticlib" -l static=libfind_c callers/example.rs
-}
-
-if [ "$(uname -m)" = x86_64 ]; then
-    build_here
-    emulator=
-else
-    build_across
-    emulator=/usr/bin/qemu-x86_64
-fi
+cc -O2 -std=c99 -Wall -Wextra -o "$out/example-c" callers/example.c "$library"
+cc -O2 -std=c99 -Wall -Wextra -o "$out/hex-c" callers/hex.c "$hex"
+cc -O2 -std=c99 -Wall -Wextra -o "$out/walk-c" callers/walk.c "$walk"
+cc -O2 -std=c99 -Wall -Wextra -o "$out/banks-c" callers/banks.c "$banks" "$library"
+rustc -O --edition 2021 -o "$out/example-rs" -L "native=$(dirname "$library")" -l static=libfind_c callers/example.rs
 
 passed=0 failed=0
 # The examples and the program have to do with 6 MiB of stack.
@@ -61,7 +29,7 @@ ulimit -S -s 6144
 try() { # EXAMPLE IMAGE LIBRARY RULES EDITION DEPTH
     was=0 got=0
     ./sillmarble list "$2" "$3" --rules "$4" --edition "$5" --depth "$6" >"$out/was" 2>"$out/was.err" || was=$?
-    $emulator "$out/$1" "$2" "$3" "$4" "$5" "$6" >"$out/got" 2>"$out/got.err" || got=$?
+    "$out/$1" "$2" "$3" "$4" "$5" "$6" >"$out/got" 2>"$out/got.err" || got=$?
     if [ "$was" -eq "$got" ] && cmp -s "$out/was" "$out/got" && [ "$(sed 's/:.*//' "$out/was.err")" = "$(cat "$out/got.err")" ]; then
         passed=$((passed + 1))
     else
@@ -74,7 +42,7 @@ try() { # EXAMPLE IMAGE LIBRARY RULES EDITION DEPTH
 try_hex() { # JOB COMMAND FILE
     was=0 got=0
     ./sillmarble "$2" "$3" >"$out/was" 2>"$out/was.err" || was=$?
-    $emulator "$out/hex-c" "$1" "$3" >"$out/got" 2>"$out/got.err" || got=$?
+    "$out/hex-c" "$1" "$3" >"$out/got" 2>"$out/got.err" || got=$?
     if [ "$was" -eq "$got" ] && cmp -s "$out/was" "$out/got" && [ "$(sed 's/:.*//' "$out/was.err")" = "$(cat "$out/got.err")" ]; then
         passed=$((passed + 1))
     else
@@ -87,7 +55,7 @@ try_hex() { # JOB COMMAND FILE
 try_walk() { # IMAGE ADDRESS STRETCHES..
     was=0 got=0 at=$1 start=$2
     shift 2
-    $emulator "$out/walk-c" "$at" "$start" "$@" >"$out/got" 2>"$out/got.err" || got=$?
+    "$out/walk-c" "$at" "$start" "$@" >"$out/got" 2>"$out/got.err" || got=$?
     for stretch; do
         shift
         set -- "$@" --withhold "$stretch"
@@ -106,7 +74,7 @@ try_walk() { # IMAGE ADDRESS STRETCHES..
 try_banks() { # IMAGE STRETCHES..
     was=0 got=0 at=$1
     shift
-    $emulator "$out/banks-c" "$at" examples/routines.lib "$@" >"$out/got" 2>"$out/got.err" || got=$?
+    "$out/banks-c" "$at" examples/routines.lib "$@" >"$out/got" 2>"$out/got.err" || got=$?
     for stretch; do
         shift
         set -- "$@" --withhold "$stretch"
@@ -157,6 +125,6 @@ for example in example-c example-rs; do
         try "$example" examples/aid.img examples/routines.lib documented 1 "$depth"
     done
 done
-$emulator "$out/example-c" examples/aid.img examples/routines.lib documented 1 1
+"$out/example-c" examples/aid.img examples/routines.lib documented 1 1
 printf '%s passed, %s failed\n' "$passed" "$failed"
 [ "$failed" -eq 0 ]

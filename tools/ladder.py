@@ -12,9 +12,11 @@ Every citation is then written by these names, as `at-entry (at-loop c) .args`; 
 than once gets a `let` there. Which places get a name is a matter of length only: names are added as long as they make
 the proof shorter. Then `rt fmt` runs, and long lines are broken. A second run changes nothing.
 
-    rt dev NAME --generated /tmp/gen     the modules; they are written where a proof fails, too
+    cd crates/NAME; rt check --generated /tmp/gen     the modules; they are written where a proof fails, too
     tools/ladder.py /tmp/gen NAME        all proofs of crates/NAME; or NAME/proofs/entry: those in that folder
-    rt dev NAME                          the check
+    cd crates/NAME; rt check             the check
+
+That is for proofs that walk the code, proofs/F/Proof.antt. The answers of today's Rattle name the places themselves.
 
 After a change of the code, as a parameter more, the same three commands mend the proof: a name is kept by its type, and
 a run of `.before` with a field behind it goes to the nearest place that has this field. What is left to mend by hand are

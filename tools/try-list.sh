@@ -249,7 +249,7 @@ count $was 'help'
 
 # no kit: a path that has the usual tools and no rt
 mkdir bin
-for tool in sh dirname basename readlink cat find head uname; do ln -s "$(command -v $tool)" "bin/$tool"; done
+for tool in sh dirname basename readlink cat find head; do ln -s "$(command -v $tool)" "bin/$tool"; done
 got=0
 PATH=$work/bin "$program" list aid.img routines.lib >out 2>err || got=$?
 [ "$got" -eq 2 ] && [ ! -s out ] && grep -q 'there is no rt on the path' err && was=0 || was=1
@@ -265,7 +265,7 @@ unbuilt() { # WORDS LABEL, and the script on standard input
     [ "$got" -eq 2 ] && [ ! -s out ] && [ "$(tail -n 1 err)" = "sillmarble: $1" ] && was=0 || was=1
     count $was "$2"
 }
-unbuilt "list was not built: 'rt check list' says why" 'with a kit that does not prove' <<'EOF'
+unbuilt "list was not built: 'rt run' in crates/list says why" 'with a kit that does not prove' <<'EOF'
 #!/bin/sh
 [ "$1" != version ] || { echo another; exit 0; }
 echo 'rt: list NOT PROVED'

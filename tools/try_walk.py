@@ -95,4 +95,4 @@ def usage(folder):
 
 
 if __name__ == "__main__":
-    sys.exit(main(__doc__, [("walk", ROOT / "examples" / "aid.img", 0)], outcomes, as_hex, usage))
+    sys.exit(main(__doc__, [("walk", ROOT / "examples" / "aid.img", 0), ("hex", ROOT / "examples" / "aid.img")], outcomes, as_hex, usage))

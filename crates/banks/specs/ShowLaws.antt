@@ -55,19 +55,28 @@ module _ (k : ℕ) (file seen one two : List ℕ) (h : Has k file) (room : lengt
           ∙ all-over bank (take (length one - 32768) (drop 32768 one))
           (omega (arith, bank-length k file h, one-long, length-drop 32768 one, length-take (length one - 32768) (drop 32768 one)))
 
--- the same from the copies as the code makes them: each part of the view becomes the part of the file that is copied to it
-pub shows-both : (k : ℕ) (file seen : List ℕ) → Has k file → length seen ≡ 65536 → (front back : List ℕ) → front ≡ take 32768 file
-    → back ≡ take (bank_start k + 32768 - bank_start k) (drop (bank_start k) file)
-    → put_mid 32768 (length (front ++ drop 32768 seen) - 32768) (front ++ drop 32768 seen) back ≡ bank_cells k file
-shows-both k file seen h room front back e f =
-    let one : List ℕ = front ++ drop 32768 seen in
-    let common : List ℕ = take 32768 file in
-    let long : length common ≡ 32768 = common-length k file h in
-    let part : List ℕ = take (bank_start k + 32768 - bank_start k) (drop (bank_start k) file) in
-    let size : bank_start k + 32768 - bank_start k ≡ 32768 = omega arith in
-    let part-long : length part ≡ 32768 = ap (λ n. length (take n (drop (bank_start k) file))) size ∙ bank-length k file h in
-    let left : List ℕ = take (length one - 32768) (drop 32768 one) in
-    let one-long : length one ≡ 65536 = length-append front (drop 32768 seen) ∙ omega (arith, ap length e, long, length-drop 32768 seen, room) in
-    show-both k file seen one back h room
-    (ap (λ l. l ++ drop 32768 seen) (e ∙ sym (take-length common)) ∙ ap (λ n. take (length common) common ++ drop n seen) (sym long))
-    (f ∙ sym (all-over part left (omega (arith, part-long, one-long, length-drop 32768 one, length-take (length one - 32768) (drop 32768 one)))))
+-- a copy over each half of a view: what was copied to its front, and what was copied behind that
+module _ (k : ℕ) (file seen one two : List ℕ) (h : Has k file) (room : length seen ≡ 65536) where
+  part-of-file : List ℕ
+  part-of-file = take (bank_start k + 32768 - bank_start k) (drop (bank_start k) file)
+
+  pub show-halves : one ≡ take 32768 file → two ≡ take (bank_start k + 32768 - bank_start k) (drop (bank_start k) file)
+      → put_mid 32768 (length (one ++ drop 32768 seen) - 32768) (one ++ drop 32768 seen) two ≡ bank_cells k file
+  unfolding part-of-file
+  show-halves e f =
+      show-both k file seen (one ++ drop 32768 seen) two h room
+      (ap (λ l. l ++ drop 32768 seen) (e ∙ sym (take-length (take 32768 file)))
+       ∙ ap (λ n. take (length (take 32768 file)) (take 32768 file) ++ drop n seen) (sym (common-length k file h)))
+      (f ∙ sym (all-over part-of-file behind (omega (arith, part-long, whole-long, length-drop 32768 whole, length-take (length whole - 32768) (drop 32768 whole)))))
+    where
+      whole : List ℕ
+      whole = one ++ drop 32768 seen
+
+      behind : List ℕ
+      behind = take (length whole - 32768) (drop 32768 whole)
+
+      whole-long : length whole ≡ 65536
+      whole-long = length-append one (drop 32768 seen) ∙ omega (arith, ap length e, common-length k file h, length-drop 32768 seen, room)
+
+      part-long : length part-of-file ≡ 32768
+      part-long = let size : bank_start k + 32768 - bank_start k ≡ 32768 = omega arith in ap (λ n. length (take n (drop (bank_start k) file))) size ∙ bank-length k file h

@@ -18,7 +18,7 @@ pub fn show_bank(file: &[u8], k: usize, seen: &mut [u8])
     requires { Has k file.now × (length seen.old ≡ 65536) }
     ensures { seen.new ≡ bank_cells k file.now }
 {
-    seen[..BANK].copy_from_slice(&file[..BANK]);
     let at = BANK * (k + 1);
+    seen[..BANK].copy_from_slice(&file[..BANK]);
     seen[BANK..].copy_from_slice(&file[at..at + BANK]);
 }
