@@ -3,7 +3,6 @@ use Prim.Native.Nat.{ℕ, zero, suc, ◌+◌, ◌*◌, ◌≤◌, ◌<◌}
 use Rattle.std.specs.Prelude.{◌≡◌, List, length, set}
 use Rattle.std.proofs.Math.Path.{refl, ap, subst}
 use Rattle.std.proofs.Common.{sym, ◌∙◌, length-append}
-use Rattle.std.proofs.Math.Option.{none, some}
 use native.Mathlib.Omega.{arith}
 use Rattle.lent.specs.declared.refusal.Refusal.{Refusal}
 use Rattle.lent.specs.declared.refusal.Refusal.TheVariants.{TooFewRows}
@@ -17,13 +16,13 @@ use Rattle.run.specs.declared.Counts.{Counts}
 use Rattle.run.specs.declared.Answer.TheVariants.{Done, Refused}
 use Rattle.run.specs.Run.{Lent, segments_of, counts_with, counted, filled_with}
 use Rattle.run.proofs.Answers.{SameLengths}
-use Rattle.libfind.specs.Ends.{collectable, finding_by, Filled}
+use Rattle.libfind.specs.Ends.{collectable, Filled}
 use Rattle.libfind.specs.FindingLaws.{nine-finding, none-finding}
 use Rattle.bank_rules.specs.Banks.{shown, lines_to, each_to, last_to, given_to, needed_to}
 use Rattle.bank_rules.proofs.CutLaws.{Has}
 use Rattle.banks.specs.Turns.{with_lines, FindsView, without_rows, joined_counts, no_banks, board_by}
 use Rattle.bank_rules.proofs.OverLaws.{over-grows, lines_next}
-use Rattle.banks.specs.TurnLaws.{place, Listed, left_to, none-listed, turn-done, Stopped, turn-refused}
+use Rattle.banks.specs.TurnLaws.{place, Listed, left_to, none-listed, turn-done, turn-refused}
 
 pub each-length : (cells library : List ℕ) (s : Settings) (k : ℕ) → length (each_to cells library s k) ≡ k
 unfolding each_to

@@ -1,8 +1,7 @@
 -- WHAT IS PROVED OF A RUN ON A BOARD: from the contract of the entry point alone. Assumes nothing.
-use Rattle.std.specs.Prelude.{ℕ, suc, ◌+◌, ◌-◌, ◌*◌, ◌≤◌, ◌<◌, ◌≡◌, ◌↔◌, List, ◌++◌, get_or}
+use Rattle.std.specs.Prelude.{ℕ, suc, ◌+◌, ◌-◌, ◌≤◌, ◌<◌, ◌≡◌, ◌↔◌, List, get_or}
 use Rattle.std.proofs.Math.Path.{refl, sym, ap}
 use Rattle.std.proofs.Common.{subst, ◌∙◌, arith}
-use Rattle.std.proofs.Math.Option.{none}
 use Rattle.std.proofs.Math.ListN.{length, get_or-append}
 use Rattle.lent.specs.declared.refusal.Refusal.{Refusal}
 use Rattle.lent.specs.Choice.{leading}
@@ -12,16 +11,15 @@ use Rattle.lent.specs.RefusalLaws.{numbered}
 use Rattle.lent.specs.Rows.{zeros}
 use Rattle.lent.specs.RowLaws.{padded-length}
 use Rattle.image.specs.View.{view}
-use Rattle.image.proofs.ViewLaws.{Agree, same_view, view-length}
+use Rattle.image.proofs.ViewLaws.{Agree, same_view}
 use Rattle.image.specs.fixup.Target.{rules_of}
 use Rattle.omf51.specs.File.{modules_in}
 use Rattle.listing_rules.specs.declared.Line.{Line}
-use Rattle.listing_rules.specs.Listing.{line_width, line_numbers}
 use Rattle.listing_rules.specs.LineLayout.{line_at}
 use Rattle.run.specs.declared.Settings.{Settings}
 use Rattle.run.specs.declared.Answer.{Answer}
 use Rattle.run.specs.declared.Answer.TheVariants.{Done, Refused}
-use Rattle.run.specs.Run.{Lent, Outcome, library_read, stages, counted, refusals, filled_with, outcome_of, number_of, counts_of, cover}
+use Rattle.run.specs.Run.{Lent, Outcome, library_read, stages, counted, refusals, filled_with, number_of, counts_of, cover}
 use Rattle.run.proofs.Answers.{SameLengths, SoundBy, sound-by, filled-lengths, kept_by}
 use Rattle.run.proofs.ListedRows.{grades, row-is-line}
 use Rattle.run.proofs.Demands.{Contract as SingleContract, memory as single-memory, answered-exactly as single-answered}

@@ -1,5 +1,5 @@
 -- THE STEPS MAKE UP THE RUN ON A BOARD: the beginning, the collection, and then the banks. Assumes nothing.
-use Rattle.std.specs.Prelude.{ℕ, ◌+◌, ◌-◌, ◌*◌, ◌/◌, ◌%◌, ◌≤◌, ◌≡◌, Bool, true, false, not, ◌&&◌, List, eqb, leb, length}
+use Rattle.std.specs.Prelude.{ℕ, ◌+◌, ◌*◌, ◌%◌, ◌≤◌, ◌≡◌, Bool, true, false, not, ◌&&◌, List, eqb, leb, length}
 use Rattle.std.proofs.Math.Path.{refl, ap}
 use Rattle.std.proofs.Common.{sym, subst, ◌∙◌, inr, arith, eqb-true, leb-true}
 use Rattle.std.proofs.Math.Option.{Option, none, some}
@@ -26,7 +26,7 @@ use Rattle.run.specs.declared.Settings.{Settings}
 use Rattle.run.specs.declared.Counts.{Counts}
 use Rattle.run.specs.declared.Answer.{Answer}
 use Rattle.run.specs.declared.Answer.TheVariants.{Done, Refused}
-use Rattle.run.specs.Run.{Lent, lent_lists, Outcome, library_read, zeroed, filled_with, outcome_of, run_by, cover}
+use Rattle.run.specs.Run.{Lent, lent_lists, Outcome, library_read, zeroed, filled_with, run_by, cover}
 use Rattle.run.proofs.Answers.{SameLengths}
 use Rattle.run.proofs.StageLaws.{when-none}
 use Rattle.libfind.specs.Begin.{settings_refusal, Begun}

@@ -1,5 +1,5 @@
 -- The run on a bank's bytes, with what is cut, is the run on the bank's view of the board. Assumes nothing.
-use Rattle.std.specs.Prelude.{ℕ, ◌-◌, ◌≤◌, ◌≡◌, refl, List, ◌++◌, length, take, drop}
+use Rattle.std.specs.Prelude.{ℕ, ◌-◌, ◌≤◌, ◌≡◌, List, ◌++◌, length, take, drop}
 use Rattle.std.proofs.Common.{sym, ap, ◌∙◌, append-nil, arith, length-drop, drop_of_length-le, take_all, drop_at, length-take-le}
 use borrow.Rule.Slice.PartMut.{put_mid, take_put}
 use Rattle.image.specs.View.{view}
@@ -10,7 +10,7 @@ use Rattle.run.specs.declared.Answer.{Answer}
 use Rattle.run.specs.Run.{Lent, Outcome, asked_of, cover}
 use Rattle.libfind.specs.Ends.{given_lists, concluded, FindsCollected}
 use Rattle.bank_rules.specs.Banks.{bank_cells}
-use Rattle.bank_rules.specs.Cut.{cut_one, cut_settings}
+use Rattle.bank_rules.specs.Cut.{cut_settings}
 use Rattle.bank_rules.proofs.CutLaws.{Has, cells-length, cut-cover, bank-view}
 use Rattle.banks.specs.Turns.{with_lines, FindsView}
 

@@ -1,6 +1,6 @@
 -- Two copies, side by side, are a bank's view. Assumes nothing.
-use Rattle.std.specs.Prelude.{ℕ, ◌+◌, ◌-◌, ◌*◌, ◌≤◌, ◌≡◌, refl, List, [], ◌++◌, take}
-use Rattle.std.proofs.Common.{sym, ◌∙◌, append-nil, arith, length-append, length-take, drop_of_length-le, take_at, drop-drop, length-take-le}
+use Rattle.std.specs.Prelude.{ℕ, ◌+◌, ◌-◌, ◌≤◌, ◌≡◌, List, ◌++◌, take}
+use Rattle.std.proofs.Common.{sym, ◌∙◌, append-nil, arith, length-append, length-take, drop_of_length-le, take_at}
 use Rattle.std.proofs.Math.Path.{ap}
 use borrow.Rule.Slice.PartMut.{put_mid}
 use Rattle.std.proofs.Math.ListN.{length, drop, length-drop}
@@ -66,7 +66,7 @@ module _ (k : ℕ) (file seen one two : List ℕ) (h : Has k file) (room : lengt
   show-halves e f =
       show-both k file seen (one ++ drop 32768 seen) two h room
       (ap (λ l. l ++ drop 32768 seen) (e ∙ sym (take-length (take 32768 file)))
-       ∙ ap (λ n. take (length (take 32768 file)) (take 32768 file) ++ drop n seen) (sym (common-length k file h)))
+      ∙ ap (λ n. take (length (take 32768 file)) (take 32768 file) ++ drop n seen) (sym (common-length k file h)))
       (f ∙ sym (all-over part-of-file behind (omega (arith, part-long, whole-long, length-drop 32768 whole, length-take (length whole - 32768) (drop 32768 whole)))))
     where
       whole : List ℕ

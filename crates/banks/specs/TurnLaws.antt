@@ -1,11 +1,11 @@
 -- FROM BANK TO BANK: each list is that of the run on the bank's view as a single image, proved once over the bank's number. Assumes nothing.
-use Prim.Native.Nat.{ℕ, zero, suc, ◌+◌, ◌-◌, ◌*◌, ◌≤◌, ◌<◌}
+use Prim.Native.Nat.{ℕ, zero, suc, ◌-◌, ◌*◌}
 use Rattle.std.specs.Prelude.{◌≡◌, ◌⊎◌, Bool, true, false, drop}
 use Rattle.std.proofs.Math.Path.{refl, sym, ap}
 use Rattle.std.proofs.Common.{◌∙◌, arith, length-drop, length-append, take-append-drop}
 use Rattle.std.proofs.Math.Logic.{inl, inr}
 use Rattle.std.proofs.lemmas.Bool.{false≢true}
-use mathlib.Core.List.{List, [], ◌++◌, append_assoc}
+use mathlib.Core.List.{List, ◌++◌, append_assoc}
 use Rattle.std.proofs.Math.Option.{Option, none, some}
 use Rattle.std.proofs.Math.ListN.{length, take}
 use Rattle.std.proofs.Math.Seq.{take_at}
@@ -25,7 +25,7 @@ use Rattle.run.specs.declared.Settings.{Settings}
 use Rattle.run.specs.declared.Counts.{Counts}
 use Rattle.run.specs.declared.Answer.{Answer}
 use Rattle.run.specs.declared.Answer.TheVariants.{Done, Refused}
-use Rattle.run.specs.Run.{Lent, lent_lists, Yield, Outcome, asked_of, stages, counted, zeroed, filled_with, left_by, outcome_of}
+use Rattle.run.specs.Run.{Lent, lent_lists, Yield, asked_of, stages, counted, zeroed, filled_with, left_by, outcome_of}
 use Rattle.run.specs.Given.{SearchOver, ListOver}
 use Rattle.run.proofs.Answers.{SameLengths}
 use Rattle.libfind.specs.Ends.{collectable, findable, concluded, finding_by, Filled}

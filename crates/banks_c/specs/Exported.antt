@@ -1,6 +1,5 @@
 -- What the exported function for boards gives its callers: plain numbers instead of settings, answers and counts.
-use Rattle.std.specs.Prelude.{ℕ, ◌≡◌, refl, List}
-use Rattle.std.proofs.Common.{sym, ap, ◌∙◌}
+use Rattle.std.specs.Prelude.{ℕ, List}
 use Rattle.lent.specs.Rows.{put_row}
 use Rattle.run.specs.declared.Settings.{Settings}
 use Rattle.run.specs.Run.{Lent, number_of}

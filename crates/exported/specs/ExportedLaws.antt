@@ -2,9 +2,8 @@
 use Rattle.std.specs.Prelude.{ℕ, ◌≡◌, List}
 use Rattle.std.proofs.Common.{ap, ◌∙◌}
 use Rattle.run.specs.declared.Settings.{Settings}
-use Rattle.run.specs.declared.Answer.{Answer}
 use Rattle.run.specs.Run.{Lent, Outcome, run, number_of}
-use Rattle.exported.specs.Exported.{Handed, handed, handed_run, counts_in}
+use Rattle.exported.specs.Exported.{handed, handed_run, counts_in}
 
 -- by the settings, what the run came to, the number and the counts
 pub handed-over : (image library : List ℕ) (s t : Settings) (counts : List ℕ) (lent : Lent) (r : ℕ) (after : List ℕ) (o : Outcome)

@@ -13,9 +13,7 @@ use Rattle.run.specs.declared.Settings.{Settings}
 use Rattle.run.specs.Run.{library_read, other_edition, too_deep, cover}
 use Rattle.run.specs.Given.{AcceptedBy}
 use Rattle.libfind.specs.declared.begin.Checked.{Checked}
-use Rattle.libfind.specs.declared.begin.Checked.TheVariants as Checked
 use Rattle.libfind.specs.declared.begin.Beginning.{Beginning}
-use Rattle.libfind.specs.declared.begin.Beginning.TheVariants as Beginning
 
 -- refusals 1, 30, 17, the image's own, 3, 16 and 4 in their order, by the lengths of the image and of the library
 abbrev pub settings_refusals : Option Refusal → ℕ → ℕ → Settings → List (Option Refusal)

@@ -1,11 +1,11 @@
 -- What the beginning of a run says of the whole run. Assumes nothing.
-use Rattle.std.specs.Prelude.{ℕ, zero, suc, ◌+◌, ◌-◌, ◌<◌, ◌≤◌, Bool, true, false, ◌||◌, List, [], ◌∷◌, ltb}
+use Rattle.std.specs.Prelude.{ℕ, zero, suc, ◌<◌, ◌≤◌, Bool, true, false, ◌||◌, List, [], ◌∷◌, ltb}
 use Rattle.std.proofs.Math.Path.{◌≡◌, refl, ap}
 use Rattle.std.proofs.Common.{sym, ◌∙◌, inl, inr, arith}
 use Rattle.std.proofs.lemmas.Bool.{false≢true}
 use Rattle.std.proofs.Math.Option.{Option, none, some}
 use Rattle.std.proofs.Math.Decide.{dec_lt}
-use borrow.Author.Tests.{ltb-true, ltb-false, lt-ltb, le-ltb}
+use borrow.Author.Tests.{ltb-false, lt-ltb, le-ltb}
 use Rattle.std.proofs.Math.ListN.{length}
 use Rattle.lent.specs.declared.refusal.Refusal.{Refusal}
 use Rattle.lent.specs.declared.refusal.Refusal.TheVariants.{RuleSet, OtherEdition, TooDeep, LibraryTooLong, TooManyStretches, StretchPastEnd}
@@ -18,16 +18,13 @@ use Rattle.omf51.specs.Module.{Module}
 use Rattle.omf51.specs.Record.{edition_of}
 use Rattle.omf51.specs.File.{file_refusal}
 use Rattle.library.specs.declared.Reading.{Reading}
-use Rattle.library.specs.declared.Reading.TheVariants as Reading
 use Rattle.library.specs.Reading.{first_at, reading_of, reading}
 use Rattle.library.specs.StandLaws.{modules-stand, reading-refused}
 use Rattle.run.specs.declared.Settings.{Settings}
 use Rattle.run.specs.Run.{library_read, other_edition, cover}
 use Rattle.run.specs.Given.{NoEdition, AcceptedBy}
 use Rattle.libfind.specs.declared.begin.Checked.{Checked}
-use Rattle.libfind.specs.declared.begin.Checked.TheVariants as Checked
 use Rattle.libfind.specs.declared.begin.Beginning.{Beginning}
-use Rattle.libfind.specs.declared.begin.Beginning.TheVariants as Beginning
 use Rattle.libfind.specs.Begin.{settings_refusal, checked, refusal_in, begins_at, beginning, Begun}
 
 -- what the code says of an image for itself

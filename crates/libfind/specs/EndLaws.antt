@@ -1,5 +1,5 @@
 -- THE STEPS MAKE UP THE RUN, whatever is searched: the beginning, the collection, and then what is found. Assumes nothing.
-use Rattle.std.specs.Prelude.{ℕ, ◌+◌, ◌≤◌, ◌<◌, ◌≡◌, Bool, ◌&&◌, ◌||◌, ◌⊎◌, leb, ltb, length}
+use Rattle.std.specs.Prelude.{ℕ, ◌≡◌, Bool, ◌&&◌, ◌||◌, ◌⊎◌, leb, ltb, length}
 use Rattle.std.proofs.Math.Path.{refl, sym, ap}
 use Rattle.std.proofs.Common.{◌∙◌, inl, inr, arith}
 use Rattle.std.proofs.Math.Bool.{true, false}
@@ -28,7 +28,6 @@ use Rattle.segments.proofs.RefuseLaws.{collect-late}
 use Rattle.collect.specs.declared.stored.CollectCounts.{CollectCounts as Stored}
 use Rattle.collect.specs.stored.Stores.{CollectLists as Collectable}
 use Rattle.collect.specs.declared.Collection.{Collection}
-use Rattle.collect.specs.declared.Collection.TheVariants as Collection
 use Rattle.collect.specs.Outcome.{CollectOutcome as Collecting, counted_in, refusal_of as refusal_of_collection, collect_zeroed as zeroed_collection, collect_outcome_of as collection_of, collection}
 use Rattle.run.specs.declared.Settings.{Settings}
 use Rattle.run.specs.declared.Counts.{Counts}

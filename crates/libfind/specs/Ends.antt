@@ -13,7 +13,6 @@ use Rattle.collect.specs.declared.stored.CollectCounts.{CollectCounts as Stored}
 use Rattle.collect.specs.stored.Stores.{CollectLists as Collectable}
 use Rattle.collect.specs.Outcome.{counted_in, collect_filled}
 use Rattle.listing.specs.declared.FindAnswer.{FindAnswer}
-use Rattle.listing.specs.declared.FindAnswer.TheVariants as FindAnswer
 use Rattle.listing.specs.Outcome.{FindLists, FindOutcome as Finding, find_outcome}
 use Rattle.run.specs.declared.Settings.{Settings}
 use Rattle.run.specs.declared.Counts.{Counts}

@@ -1,15 +1,15 @@
 -- 9 for what is found: when it is given, in words, and that it sets all to zero. Assumes nothing.
 use Rattle.std.specs.Prelude.{◌≡◌, ◌⊎◌, Bool, [], ◌∷◌}
 use Rattle.std.proofs.Math.Path.{refl}
-use Rattle.std.proofs.Common.{sym, inl, inr, arith}
-use Rattle.std.proofs.Math.Bool.{true, false, or-true}
-use Rattle.std.proofs.Math.Option.{Option, none, some}
+use Rattle.std.proofs.Common.{sym, inl, inr}
+use Rattle.std.proofs.Math.Bool.{true, false}
+use Rattle.std.proofs.Math.Option.{none, some}
 use Rattle.lent.specs.declared.refusal.Refusal.{Refusal}
 use Rattle.lent.specs.declared.refusal.Refusal.TheVariants.{TooFewRows}
 use Rattle.lent.specs.Choice.{when, leading}
 use Rattle.lent.specs.FirstOf.{none≢some}
 use Rattle.lent.specs.Refusals.{zeroes}
-use Rattle.lent.specs.RefusalLaws.{number-tells, same_number, zeroes-late}
+use Rattle.lent.specs.RefusalLaws.{number-tells, same_number}
 use Rattle.listing_rules.specs.Listing.{line_width}
 use Rattle.run.specs.declared.Counts.{Counts}
 use Rattle.run.specs.Run.{Lent, search_over, list_over}

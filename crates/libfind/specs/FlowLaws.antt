@@ -9,7 +9,6 @@ use Rattle.collect.specs.declared.stored.CollectCounts.{CollectCounts}
 use Rattle.search_rules.specs.declared.Asked.{Asked}
 use Rattle.search.specs.declared.SearchCounts.{SearchCounts}
 use Rattle.search.specs.declared.Searched.{Searched}
-use Rattle.search.specs.declared.Searched.TheVariants as Searched
 use Rattle.search.specs.Outcome.{SearchLists, SearchFound}
 use Rattle.listing.specs.declared.FindAnswer.{FindAnswer}
 use Rattle.listing.specs.Outcome.{find_outcome}

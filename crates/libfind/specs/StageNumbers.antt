@@ -10,25 +10,21 @@ use Rattle.omf51.specs.Module.{Module}
 use Rattle.omf51.specs.File.{file_refusal}
 use Rattle.segments.specs.Collect.{Collected, collect}
 use Rattle.collect.specs.declared.Collection.{Collection}
-use Rattle.collect.specs.declared.Collection.TheVariants as Collection
 use Rattle.collect.specs.declared.stored.CollectCounts.{CollectCounts}
 use Rattle.collect.specs.stored.Stores.{CollectLists}
 use Rattle.collect.specs.Outcome.{CollectOutcome, counted_in, refusal_of as collection_refusal, collect_outcome_of, collection}
 use Rattle.search_rules.specs.declared.Asked.{Asked}
 use Rattle.search_rules.specs.Search.{Placing, Noting, placed, noted}
 use Rattle.search.specs.declared.Searched.{Searched}
-use Rattle.search.specs.declared.Searched.TheVariants as Searched
 use Rattle.search.specs.visit.Visits.{segments_in}
 use Rattle.search.specs.Outcome.{SearchLists, SearchOutcome, refusal_of as search_refusal, search_outcome_of, searched}
 use Rattle.listing_rules.specs.declared.Skip.{Skip}
 use Rattle.listing.specs.declared.FindAnswer.{FindAnswer}
-use Rattle.listing.specs.declared.FindAnswer.TheVariants as FindAnswer
 use Rattle.listing.specs.Outcome.{FindLists, FindOutcome, Yield, yields, refusal_of as find_refusal, find_outcome_of, find_outcome}
 use Rattle.library.specs.Reading.{first_at}
 use Rattle.run.specs.declared.Settings.{Settings}
 use Rattle.run.specs.Run.{library_read}
 use Rattle.libfind.specs.declared.begin.Beginning.{Beginning}
-use Rattle.libfind.specs.declared.begin.Beginning.TheVariants as Beginning
 use Rattle.libfind.specs.Begin.{settings_refusal, begins_at, beginning}
 
 -- the number of each answer; its values are in the answer itself, and a refusal has none

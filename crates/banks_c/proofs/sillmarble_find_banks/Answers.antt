@@ -1,7 +1,6 @@
 -- `sillmarble_find_banks` makes the settings, runs, and hands over what came of it. Assumes nothing.
 use Rattle.run.specs.Run.{lent_lists}
 use Rattle.banks_c.specs.Demands.{handed-over}
-use borrow.Author.Rules.{rules}
 use Rattle.banks_c.proofs.sillmarble_find_banks.Goals as goal
 
 pub returns : goal.returns

@@ -1,7 +1,6 @@
 -- `sillmarble_describe` makes a number of the answer. Assumes nothing.
 use mathlib.Core.Path.{ap}
 use Rattle.exported.specs.Exported.{said_in}
-use borrow.Author.Rules.{rules}
 use Rattle.libfind_c.proofs.sillmarble_describe.Goals as goal
 
 pub returns : goal.returns

@@ -1,7 +1,6 @@
 -- `sillmarble_find` makes the settings, runs, and hands over what came of it. Assumes nothing.
 use Rattle.run.specs.Run.{lent_lists}
 use Rattle.exported.specs.ExportedLaws.{handed-over}
-use borrow.Author.Rules.{rules}
 use Rattle.libfind_c.proofs.sillmarble_find.Goals as goal
 
 pub returns : goal.returns

@@ -1,7 +1,6 @@
 -- `sillmarble_print_heading` makes a number of the answer. Assumes nothing.
 use mathlib.Core.Path.{ap}
 use Rattle.exported.specs.Exported.{written_in}
-use borrow.Author.Rules.{rules}
 use Rattle.libfind_c.proofs.sillmarble_print_heading.Goals as goal
 
 pub returns : goal.returns

@@ -4,7 +4,6 @@ use Rattle.listing_rules.specs.declared.Line.{Line}
 use Rattle.listing_rules.specs.Print.{printed_line}
 use Rattle.printing.specs.PrintedText.{fitted_text}
 use Rattle.exported.specs.Exported.{written_in}
-use borrow.Author.Rules.{rules}
 use Rattle.libfind_c.proofs.sillmarble_print_line.Goals as goal
 
 pub returns : goal.returns

@@ -4,7 +4,6 @@ use mathlib.Core.Path.{sym}
 use native.Mathlib.Omega.{arith}
 use lib.ListN.{get_or-eq_default}
 use Rattle.exported.specs.Exported.{widths}
-use borrow.Author.Rules.{rules}
 use Rattle.libfind_c.proofs.sillmarble_row_width.Goals as goal
 
 pub returns : goal.returns

@@ -1,6 +1,5 @@
 -- `board`, by its test. Assumes nothing.
 use mathlib.Core.Path.{refl, sym, ◌∙◌}
-use borrow.Author.Rules.{rules}
 use Rattle.banks.proofs.board.board.Goals as goal
 
 pub returns-then-is_banked : goal.returns-then-is_banked

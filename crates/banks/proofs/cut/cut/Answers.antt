@@ -1,6 +1,5 @@
 -- `cut`: the pairs are cut, and all else is as it was. Assumes nothing.
 use mathlib.Core.Path.{ap}
-use borrow.Author.Rules.{rules}
 use Rattle.run.proofs.Withheld.{withholding}
 use Rattle.banks.proofs.cut.cut.Goals as goal
 

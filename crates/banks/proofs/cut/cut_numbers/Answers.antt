@@ -1,7 +1,7 @@
-use Prim.Native.Nat.{◌+◌, ◌-◌, ◌<◌}
+use Prim.Native.Nat.{◌+◌, ◌<◌}
 use native.Mathlib.Omega.{arith}
 use lib.ListN.{length, get_or, length-set}
-use Rattle.bank_rules.proofs.CutLaws.{place-grows, Cutting, cutting-starts, cutting-on, cutting-ends}
+use Rattle.bank_rules.proofs.CutLaws.{place-grows, cutting-starts, cutting-on, cutting-ends}
 use Rattle.banks.proofs.cut.cut_numbers.Goals as goal
 use Rattle.banks.proofs.cut.cut_numbers.Goals.{After-place-first}
 

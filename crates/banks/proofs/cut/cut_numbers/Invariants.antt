@@ -1,8 +1,7 @@
 -- `cut_numbers` goes from pair to pair. The invariant: those before are cut, and the others are as they were. Assumes nothing.
-use Prim.Native.Nat.{◌+◌, ◌-◌, ◌<◌}
-use native.Mathlib.Omega.{arith}
-use lib.ListN.{length, get_or, length-set}
-use Rattle.bank_rules.proofs.CutLaws.{place-grows, Cutting, cutting-starts, cutting-on, cutting-ends}
+use Prim.Native.Nat.{◌-◌}
+use lib.ListN.{length}
+use Rattle.bank_rules.proofs.CutLaws.{Cutting}
 use Rattle.banks.proofs.cut.cut_numbers.Given as goal
 
 abbrev pub invariant-loop-i : goal.invariant-loop-i

@@ -6,7 +6,6 @@ use Rattle.libfind.specs.Begin.{beginning}
 use Rattle.libfind.specs.BeginLaws.{own_is, begun, never-begun}
 use Rattle.bank_rules.specs.Banks.{not_banked}
 use Rattle.banks.specs.EntryLaws.{refused-early}
-use borrow.Author.Rules.{rules}
 use Rattle.banks.proofs.entry.find_banks.Goals as goal
 
 pub find_from-requires : goal.find_from-requires

@@ -15,7 +15,6 @@ use Rattle.libfind.specs.Ends.{collectable, Filled}
 use Rattle.bank_rules.specs.Banks.{banks_in}
 use Rattle.banks.specs.Turns.{board_by}
 use Rattle.banks.specs.EntryLaws.{begun-banks, refilled, same-board, refused-collecting, collected-filled, banks-then}
-use borrow.Author.Rules.{rules}
 use Rattle.banks.proofs.entry.find_from.Goals as goal
 
 pub find_views-requires : goal.find_views-requires
@@ -87,4 +86,3 @@ returns-in-Refused c =
     ∙ refused-collecting a.file.now a.library.now a.settings (lent) c.requires
     (ap (λ r. record { answer = r; left = left }) (sym c.in-Refused.is) ∙ c.collect.ensures ∙ ap (collected) c.rules_of-rules.ensures)
     c.clear.ensures c.clear-in-Refused.ensures c.clear-in-Refused-2.ensures
-

@@ -1,9 +1,8 @@
 -- `find_view`: the bank is shown, what is withheld is cut, and the lines from the place on are lent. Assumes nothing.
 use native.Mathlib.Omega.{arith}
 use mathlib.Core.Path.{refl}
-use Rattle.run.specs.Run.{Lent, lent_lists}
+use Rattle.run.specs.Run.{lent_lists}
 use Rattle.banks.specs.FoundLaws.{finds-view}
-use borrow.Author.Rules.{rules}
 use Rattle.banks.proofs.one_view.find_view.Goals as goal
 
 pub offset_bounds-lines-at : goal.offset_bounds-lines-at

@@ -1,4 +1,4 @@
-use Prim.Native.Nat.{ℕ, ◌+◌, ◌-◌, ◌*◌, ◌≤◌, ◌<◌}
+use Prim.Native.Nat.{ℕ, ◌+◌, ◌*◌, ◌≤◌, ◌<◌}
 use mathlib.Core.Path.{◌≡◌, sym, ap, subst, ◌∙◌}
 use mathlib.Core.List.{List}
 use native.Mathlib.Omega.{arith}
@@ -11,7 +11,6 @@ use Rattle.run.proofs.Answers.{SameLengths}
 use Rattle.bank_rules.proofs.CutLaws.{Has}
 use Rattle.banks.specs.Turns.{with_lines, FindsView, joined_counts, no_banks}
 use Rattle.banks.specs.BoardLaws.{Shown, shown-starts, shown-room, shown-on, shown-stops, shown-ends}
-use borrow.Author.Rules.{rules}
 use Rattle.banks.proofs.views.find_views.Goals as goal
 
 pub loop-k-init : goal.loop-k-init
@@ -165,4 +164,3 @@ overflow_add-k c =
 pub loop-k-smaller : goal.loop-k-smaller
 loop-k-smaller c =
     omega (arith, c.loop-k-test.true)
-

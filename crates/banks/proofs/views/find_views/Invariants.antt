@@ -1,18 +1,8 @@
 -- `find_views` goes from bank to bank. The invariant: so many are shown. Assumes nothing.
-use Prim.Native.Nat.{ℕ, ◌+◌, ◌-◌, ◌*◌, ◌≤◌, ◌<◌}
-use mathlib.Core.Path.{◌≡◌, sym, ap, subst, ◌∙◌}
-use mathlib.Core.List.{List}
-use native.Mathlib.Omega.{arith}
-use lib.ListN.{length, set}
+use Prim.Native.Nat.{◌-◌}
 use Rattle.image.specs.View.{view}
-use Rattle.image.proofs.ViewLaws.{view-length}
-use Rattle.run.specs.declared.Answer.{Answer}
-use Rattle.run.specs.Run.{Lent, lent_lists, cover}
-use Rattle.run.proofs.Answers.{SameLengths}
-use Rattle.bank_rules.proofs.CutLaws.{Has}
-use Rattle.banks.specs.Turns.{with_lines, FindsView, joined_counts, no_banks}
-use Rattle.banks.specs.BoardLaws.{Shown, shown-starts, shown-room, shown-on, shown-stops, shown-ends}
-use borrow.Author.Rules.{rules}
+use Rattle.run.specs.Run.{lent_lists, cover}
+use Rattle.banks.specs.BoardLaws.{Shown}
 use Rattle.banks.proofs.views.find_views.Given as goal
 
 abbrev pub invariant-loop-k : goal.invariant-loop-k

@@ -1,10 +1,7 @@
 -- `over_contents`: each step leaves fewer contents. Assumes nothing.
-use mathlib.Core.Path.{sym, ◌∙◌}
 use lib.ListN.{length}
 use Rattle.omf51.specs.Module.{sections_at}
 use Rattle.library.specs.Gathered.{items_at}
-use Rattle.library.specs.items.Fewer.{fewer-sections}
-use borrow.Author.Rules.{rules}
 use Rattle.counting.proofs.passes.over_contents.Given as goal
 
 abbrev pub invariant-loop-content : goal.invariant-loop-content

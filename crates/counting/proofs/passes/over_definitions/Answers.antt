@@ -1,8 +1,5 @@
 use mathlib.Core.Path.{sym, ◌∙◌}
-use lib.ListN.{length}
-use Rattle.library.specs.items.Left.{definitions_left}
 use Rattle.library.specs.items.Fewer.{fewer-definitions}
-use borrow.Author.Rules.{rules}
 use Rattle.counting.proofs.passes.over_definitions.Goals as goal
 
 pub loop-definition-smaller : goal.loop-definition-smaller

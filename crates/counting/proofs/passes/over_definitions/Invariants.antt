@@ -1,9 +1,6 @@
 -- `over_definitions`: each step leaves fewer definitions. Assumes nothing.
-use mathlib.Core.Path.{sym, ◌∙◌}
 use lib.ListN.{length}
 use Rattle.library.specs.items.Left.{definitions_left}
-use Rattle.library.specs.items.Fewer.{fewer-definitions}
-use borrow.Author.Rules.{rules}
 use Rattle.counting.proofs.passes.over_definitions.Given as goal
 
 abbrev pub invariant-loop-definition : goal.invariant-loop-definition

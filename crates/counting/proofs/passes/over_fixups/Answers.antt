@@ -1,8 +1,5 @@
 use mathlib.Core.Path.{sym, ◌∙◌}
-use lib.ListN.{length}
-use Rattle.library.specs.items.Left.{fixups_left}
 use Rattle.library.specs.items.Fewer.{fewer-fixups}
-use borrow.Author.Rules.{rules}
 use Rattle.counting.proofs.passes.over_fixups.Goals as goal
 
 pub loop-fixup-smaller : goal.loop-fixup-smaller

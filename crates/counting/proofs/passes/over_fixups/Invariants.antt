@@ -1,9 +1,6 @@
 -- `over_fixups`: each step leaves fewer fixups. Assumes nothing.
-use mathlib.Core.Path.{sym, ◌∙◌}
 use lib.ListN.{length}
 use Rattle.library.specs.items.Left.{fixups_left}
-use Rattle.library.specs.items.Fewer.{fewer-fixups}
-use borrow.Author.Rules.{rules}
 use Rattle.counting.proofs.passes.over_fixups.Given as goal
 
 abbrev pub invariant-loop-fixup : goal.invariant-loop-fixup

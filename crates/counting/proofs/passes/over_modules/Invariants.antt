@@ -1,6 +1,5 @@
 -- `over_modules` counts the modules. Assumes nothing.
 use Prim.Native.Nat.{◌-◌}
-use borrow.Author.Rules.{rules}
 use Rattle.counting.proofs.passes.over_modules.Given as goal
 
 abbrev pub invariant-loop-i : goal.invariant-loop-i

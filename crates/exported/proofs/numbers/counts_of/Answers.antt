@@ -1,5 +1,4 @@
 -- `counts_of` gives zeros with every refusal. Assumes nothing.
-use borrow.Author.Rules.{rules}
 use Rattle.exported.proofs.numbers.counts_of.Goals as goal
 
 pub returns-in-Refused : goal.returns-in-Refused

@@ -1,7 +1,6 @@
 -- `number_of`: 0, or the refusal's number. Assumes nothing.
 use mathlib.Core.Path.{sym, ap, ◌∙◌}
 use Rattle.run.specs.Run.{number_of}
-use borrow.Author.Rules.{rules}
 use Rattle.exported.proofs.numbers.number_of.Goals as goal
 
 pub returns-in-Refused : goal.returns-in-Refused

@@ -3,7 +3,6 @@ use mathlib.Core.Path.{ap, ◌∙◌}
 use Rattle.lent.specs.Rows.{put_row}
 use Rattle.run.specs.declared.Counts.{Counts}
 use Rattle.exported.specs.Exported.{count_numbers, counts_in}
-use borrow.Author.Rules.{rules}
 use Rattle.exported.proofs.numbers.put_counts.Goals as goal
 
 pub returns : goal.returns

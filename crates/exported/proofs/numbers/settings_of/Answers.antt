@@ -1,5 +1,4 @@
 -- `settings_of` puts the settings together. Assumes nothing.
-use borrow.Author.Rules.{rules}
 use Rattle.exported.proofs.numbers.settings_of.Goals as goal
 
 pub returns : goal.returns

@@ -1,5 +1,4 @@
 -- `skip_of` makes a skip amount of two numbers. Assumes nothing.
-use borrow.Author.Rules.{rules}
 use Rattle.exported.proofs.numbers.skip_of.Goals as goal
 
 pub returns-then-skips : goal.returns-then-skips

@@ -1,5 +1,4 @@
 -- `begin`: the settings and lengths, and then what the reader says. Assumes nothing.
-use borrow.Author.Rules.{rules}
 use mathlib.Core.Path.{◌≡◌, sym, ap, ◌∙◌}
 use lib.ListN.{length}
 use Rattle.omf51.specs.Record.{edition_of}

@@ -9,7 +9,6 @@ use Rattle.image.specs.Cover.{passes_end}
 use Rattle.run.specs.Run.{other_edition, cover}
 use Rattle.libfind.specs.Begin.{refusal_in}
 use Rattle.libfind.specs.BeginLaws.{refused-1, refused-30, refused-17, refused-own, refused-3, refused-16, refused-4, is-accepted}
-use borrow.Author.Rules.{rules}
 use Rattle.libfind.proofs.begin.check.Goals as goal
 
 pub returns-then-settings-gt1 : goal.returns-then-settings-gt1

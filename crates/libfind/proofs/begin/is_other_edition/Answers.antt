@@ -1,6 +1,5 @@
 -- `is_other_edition`, by the two tests. Assumes nothing.
 use mathlib.Core.Path.{refl}
-use native.Mathlib.Omega.{arith}
 use borrow.Author.Tests.{lt-ltb, le-ltb}
 use Rattle.libfind.proofs.begin.is_other_edition.Goals as goal
 

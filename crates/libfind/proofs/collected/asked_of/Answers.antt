@@ -1,5 +1,4 @@
 -- `asked_of`: the settings, without what the search does not ask. Assumes nothing.
-use borrow.Author.Rules.{rules}
 use mathlib.Core.Path.{ap}
 use Rattle.libfind.proofs.collected.asked_of.Goals as goal
 

@@ -1,5 +1,4 @@
 -- `conclude`: the answer is the one that the counts and the list give. Assumes nothing.
-use borrow.Author.Rules.{rules}
 use mathlib.Core.Path.{sym, ap}
 use Rattle.libfind.specs.Ends.{answer_by}
 use Rattle.libfind.proofs.collected.conclude.Goals as goal

@@ -1,5 +1,4 @@
 -- `find_by_heads`: the list of what the search found, or the search's refusal. Assumes nothing.
-use borrow.Author.Rules.{rules}
 use Prim.Native.Nat.{◌*◌, min}
 use mathlib.Core.Path.{ap, ◌∙◌}
 use lib.ListN.{take}

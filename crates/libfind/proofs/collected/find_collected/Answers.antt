@@ -7,7 +7,6 @@ use lib.ListN.{length}
 use Rattle.lent.specs.ChoiceLaws.{both}
 use Rattle.tables.specs.by_name.Heads.{near}
 use Rattle.tables.specs.by_name.HeadLaws.{zeros-blank}
-use borrow.Author.Rules.{rules}
 use Rattle.libfind.proofs.collected.find_collected.Goals as goal
 
 pub returns-then-is_near : goal.returns-then-is_near

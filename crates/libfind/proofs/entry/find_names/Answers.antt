@@ -1,5 +1,4 @@
 -- `find_names`: refused by what begins the run, or the rest of it. Assumes nothing.
-use borrow.Author.Rules.{rules}
 use mathlib.Core.Path.{◌≡◌, sym, ap, ◌∙◌}
 use lib.ListN.{length}
 use Rattle.run.specs.Run.{Lent, lent_lists, too_long}
