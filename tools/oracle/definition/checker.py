@@ -1,15 +1,15 @@
 """Has the checker compute cases: a scratch repository with the definition's crates and one crate a batch."""
-import os
 import re
 import shutil
 import subprocess
+from concurrent.futures import ThreadPoolExecutor
 from pathlib import Path
 
 from definition import template
 
 # The checker's words where the two sides of a theorem differ; it then shows what they compute to,
 # unless that is too long.
-DIFFERS = re.compile(r"error: `case-(\d+)`: (?:as printed, the two types differ|expected type)")
+DIFFERS = re.compile(r"error: `case-(\d+)`: (?:as printed, the two types|computed as far as they go|expected type)")
 COMPUTED = re.compile(r"(?:computed as far as they go|what the two types compute to).*?(?=\n  expected type|\Z)", re.DOTALL)
 
 
@@ -18,35 +18,33 @@ class Unclear(Exception):
 
 
 def scratch(definition, folder):
-    """A copy of the definition's crates, with what was proved of them, since they are not changed."""
+    """A copy of the definition's crates. `rt check` of a crate above them takes what was proved of them on this machine, since they are not changed."""
     source, folder = Path(definition), Path(folder)
     for crate in template.CRATES:
-        shutil.copytree(source / "crates" / crate, folder / "crates" / crate)
+        shutil.copytree(source / "crates" / crate, folder / "crates" / crate, ignore=shutil.ignore_patterns("out"))
     lines = (source / "crates.txt").read_text(encoding="utf-8").splitlines()
     own = [line for line in lines if line.split(":")[0] in template.CRATES]
     (folder / "crates.txt").write_text("\n".join(own) + "\n", encoding="utf-8")
-    for part in ("rlib", "stamp"):
-        if (source / "target" / part).is_dir():
-            shutil.copytree(source / "target" / part, folder / "target" / part)
-    run(folder, template.CRATES, 1)
     return folder
 
 
 def run(folder, crates, jobs):
-    """Proves crates, and says whether all are proved."""
-    environment = {**os.environ, "RT_JOBS": str(jobs)}
-    done = subprocess.run(["rt", "check", *crates], cwd=folder, env=environment, stdout=subprocess.PIPE,
-                          stderr=subprocess.STDOUT, check=False)
-    if done.returncode not in (0, 1) or done.returncode and list(crates) == list(template.CRATES):
-        raise Unclear(done.stdout.decode(errors="replace")[-4000:])
-    return done.returncode == 0
+    """Checks crates, some at once. What is said of each that is not proved."""
+    def one(crate):
+        return subprocess.run(["rt", "check", "--jobs", "1"], cwd=folder / "crates" / crate, stdout=subprocess.PIPE, stderr=subprocess.STDOUT, check=False)
+    with ThreadPoolExecutor(jobs) as pool:
+        done = dict(zip(crates, pool.map(one, crates)))
+    for each in done.values():
+        if each.returncode not in (0, 1):
+            raise Unclear(each.stdout.decode(errors="replace")[-4000:])
+    return {crate: each.stdout.decode(errors="replace") for crate, each in done.items() if each.returncode}
 
 
 def write(folder, crate, batch, lent):
     home = folder / "crates" / crate
     for part in ("src", "specs"):
         (home / part).mkdir(parents=True, exist_ok=True)
-    (home / "src" / "lib.rt").write_text("// Cases, in specs/.\n", encoding="utf-8")
+    (home / "src" / "lib.rt").write_text("// Cases, in specs/.\n#![tactic(auto)]\n", encoding="utf-8")
     (home / "specs" / "Lib.antt").write_text("pub mod Cases\n", encoding="utf-8")
     (home / "specs" / "Cases.antt").write_text(template.module(folder, batch, lent), encoding="utf-8")
     listed = (folder / "crates.txt").read_text(encoding="utf-8")
@@ -75,18 +73,13 @@ def check(folder, batches, jobs, lent):
     while waiting:
         for crate, batch in waiting.items():
             write(folder, crate, batch, lent)
-        if run(folder, waiting, jobs):
-            return found
         again = {}
-        for crate, batch in waiting.items():
-            if (folder / "target" / "log" / f"{crate}.res").read_text(encoding="utf-8").strip() == "proved":
-                continue
-            log = (folder / "target" / "log" / f"{crate}.out").read_text(encoding="utf-8", errors="replace")
+        for crate, log in run(folder, waiting, jobs).items():
             new = differing(log)
             if not new:
                 raise Unclear(log[:4000])
             found.update(new)
-            left = [each for each in batch if each[0] not in new]
+            left = [each for each in waiting[crate] if each[0] not in new]
             if left:
                 again[crate] = left
         waiting = again
