@@ -1,5 +1,5 @@
 /* libfind.h: what the static library of the crate libfind_c exports. Each function is proved to end, to touch no memory but what it is handed, and to give what
-   crates/libfind_c/specs/Exported.antt defines, for all inputs.
+   crates/exported/specs/Exported.antt defines, for all inputs.
 
    A list that is lent is a pointer to its first element and then its length, in elements and not in bytes. Lists that are written must overlap nothing else
    that is handed over. An empty list may have any pointer but NULL. sillmarble_find takes less than 4 MiB of stack: the 8 MiB that a program usually has are
