@@ -12,7 +12,7 @@ use Rattle.lent.specs.Lists.{any}
 use Rattle.image.specs.declared.Stretch.{Stretch}
 use Rattle.image.specs.View.{in_one, within, stretches_in, view, cell_at}
 use Rattle.image.proofs.ViewLaws.{view-length, view-cell}
-use Rattle.bank_rules.specs.Banks.{bank_start, bank_cells}
+use Rattle.bank_rules.specs.Banks.{bank_start, Has, bank_cells}
 use Rattle.image.specs.declared.cover.Stretches.{Stretches}
 use Rattle.image.specs.Cover.{cover_of}
 use Rattle.bank_rules.specs.Cut.{place, cut_one, cut_numbers, cut_stretches}
@@ -184,21 +184,18 @@ stands_at k i h = go (dec_lt i 32768)
 
 -- a board has bank k
 module _ (k : ℕ) where
-  abbrev pub Has : List ℕ → Type 0
-  Has cells = 32768 * (k + 2) ≤ length cells
-
-  pub bank-length : (cells : List ℕ) → Has cells → length (take 32768 (drop (bank_start k) cells)) ≡ 32768
+  pub bank-length : (cells : List ℕ) → Has k cells → length (take 32768 (drop (bank_start k) cells)) ≡ 32768
   bank-length cells h = length-take-le 32768 (drop (bank_start k) cells) (omega (arith, h, length-drop (bank_start k) cells))
 
-  pub common-length : (cells : List ℕ) → Has cells → length (take 32768 cells) ≡ 32768
+  pub common-length : (cells : List ℕ) → Has k cells → length (take 32768 cells) ≡ 32768
   common-length cells h = length-take-le 32768 cells (omega (arith, h))
 
-  pub cells-length : (cells : List ℕ) → Has cells → length (bank_cells k cells) ≡ 65536
+  pub cells-length : (cells : List ℕ) → Has k cells → length (bank_cells k cells) ≡ 65536
   unfolding bank_cells
   cells-length cells h =
       omega (arith, length-append (take 32768 cells) (take 32768 (drop (bank_start k) cells)), common-length cells h, bank-length cells h)
 
-  cell-at : (cells : List ℕ) → Has cells → (x i : ℕ) → Stands k x i → get_or (bank_cells k cells) i 0 ≡ get_or cells x 0
+  cell-at : (cells : List ℕ) → Has k cells → (x i : ℕ) → Stands k x i → get_or (bank_cells k cells) i 0 ≡ get_or cells x 0
   unfolding bank_cells
   cell-at cells h x i at = go (dec_lt i 32768)
     where
@@ -213,13 +210,13 @@ module _ (k : ℕ) where
           ∙ get_or-drop (bank_start k) cells (i - 32768) 0
           ∙ ap (λ n. get_or cells n 0) (omega (arith, at.bank (omega arith)))
 
-  pub bank-view : (file : List ℕ) (cover : List Stretch) → Has file → bank_cells k (view file cover) ≡ view (bank_cells k file) (map (cut_one k) cover)
+  pub bank-view : (file : List ℕ) (cover : List Stretch) → Has k file → bank_cells k (view file cover) ≡ view (bank_cells k file) (map (cut_one k) cover)
   bank-view file cover h =
       ext_get_or 0 (bank_cells k (view file cover)) (view (bank_cells k file) (map (cut_one k) cover))
       (cells-length (view file cover) seen-long ∙ sym (view-length (bank_cells k file) (map (cut_one k) cover) ∙ cells-length file h))
       (λ i l. let z = cells-length (view file cover) seen-long in cell i (omega (arith, l, z)) (stands_at k i (omega (arith, l, z))))
     where
-      seen-long : Has (view file cover)
+      seen-long : Has k (view file cover)
       seen-long = omega (arith, h, view-length file cover)
 
       cell : (i : ℕ) → i < 65536 → (x : ℕ) × Stands k x i → cell_at (bank_cells k (view file cover)) i ≡ cell_at (view (bank_cells k file) (map (cut_one k) cover)) i

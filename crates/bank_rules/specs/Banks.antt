@@ -1,5 +1,5 @@
 -- A board with switched banks: its file, the views of its banks, what a run on it gives, refuses and leaves (W-210).
-use Rattle.std.specs.Prelude.{ℕ, zero, suc, ◌+◌, ◌-◌, ◌*◌, ◌/◌, ◌%◌, max, Bool, not, ◌&&◌, List, [], ◌++◌, eqb, leb, length, take, drop}
+use Rattle.std.specs.Prelude.{ℕ, zero, suc, ◌+◌, ◌-◌, ◌*◌, ◌/◌, ◌%◌, ◌≤◌, max, Bool, not, ◌&&◌, List, [], ◌++◌, eqb, leb, length, take, drop}
 use Rattle.std.proofs.Math.Option.{Option}
 use Rattle.lent.specs.declared.refusal.Refusal.{Refusal}
 use Rattle.lent.specs.declared.refusal.Refusal.TheVariants.{NotBanked}
@@ -30,6 +30,10 @@ not_banked size = when (not (is_banked size)) NotBanked
 -- where bank k begins in the file: behind the common part and the banks before it; banks count from 0
 abbrev pub bank_start : ℕ → ℕ
 bank_start k = 32768 * (k + 1)
+
+-- a board has bank k
+abbrev pub Has : ℕ → List ℕ → Type 0
+Has k cells = 32768 * (k + 2) ≤ length cells
 
 -- BANK k'S VIEW: the common part, and behind it the bank
 unfoldable pub bank_cells : ℕ → List ℕ → List ℕ

@@ -18,8 +18,7 @@ use Rattle.run.specs.Run.{Lent, segments_of, counts_with, counted, filled_with}
 use Rattle.run.proofs.Answers.{SameLengths}
 use Rattle.libfind.specs.Ends.{collectable, Filled}
 use Rattle.libfind.specs.FindingLaws.{nine-finding, none-finding}
-use Rattle.bank_rules.specs.Banks.{shown, lines_to, each_to, last_to, given_to, needed_to}
-use Rattle.bank_rules.proofs.CutLaws.{Has}
+use Rattle.bank_rules.specs.Banks.{shown, lines_to, each_to, last_to, given_to, needed_to, Has}
 use Rattle.banks.specs.Turns.{with_lines, FindsView, without_rows, joined_counts, no_banks, board_by}
 use Rattle.bank_rules.proofs.OverLaws.{over-grows, lines_next}
 use Rattle.banks.specs.TurnLaws.{place, Listed, left_to, none-listed, turn-done, turn-refused}

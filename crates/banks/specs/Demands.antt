@@ -23,10 +23,10 @@ use Rattle.run.specs.Run.{Lent, Outcome, library_read, stages, counted, refusals
 use Rattle.run.proofs.Answers.{SameLengths, SoundBy, sound-by, filled-lengths, kept_by}
 use Rattle.run.proofs.ListedRows.{grades, row-is-line}
 use Rattle.run.proofs.Demands.{Contract as SingleContract, memory as single-memory, answered-exactly as single-answered}
-use Rattle.bank_rules.specs.Banks.{bank_cells, banks_in, not_banked, shown, lines_to, each_to, given_to, needed_to, BankOutcome, with_banks, banks_seen, find_banks}
+use Rattle.bank_rules.specs.Banks.{bank_cells, banks_in, not_banked, shown, lines_to, each_to, given_to, needed_to, BankOutcome, with_banks, banks_seen, find_banks, Has}
 use Rattle.bank_rules.specs.declared.BankAnswer.{BankAnswer}
 use Rattle.bank_rules.specs.Cut.{cut_settings}
-use Rattle.bank_rules.proofs.CutLaws.{Has, cut-cover, bank-view}
+use Rattle.bank_rules.proofs.CutLaws.{cut-cover, bank-view}
 use Rattle.bank_rules.proofs.OverLaws.{lines-grow, given-needed, lines_next}
 use Rattle.banks.specs.EntryLaws.{has-banks, answer-is, single-is}
 use Rattle.banks.specs.Exactly.{Banked, is-banked, GivenBoard, NoneGiven, given-exactly, done-exactly}

@@ -9,9 +9,9 @@ use Rattle.run.specs.declared.Settings.{Settings}
 use Rattle.run.specs.declared.Answer.{Answer}
 use Rattle.run.specs.Run.{Lent, Outcome, asked_of, cover}
 use Rattle.libfind.specs.Ends.{given_lists, concluded, FindsCollected}
-use Rattle.bank_rules.specs.Banks.{bank_cells}
+use Rattle.bank_rules.specs.Banks.{bank_cells, Has}
 use Rattle.bank_rules.specs.Cut.{cut_settings}
-use Rattle.bank_rules.proofs.CutLaws.{Has, cells-length, cut-cover, bank-view}
+use Rattle.bank_rules.proofs.CutLaws.{cells-length, cut-cover, bank-view}
 use Rattle.banks.specs.Turns.{with_lines, FindsView}
 
 module _ (file library : List ℕ) (s : Settings) (c : Stored) (k at : ℕ) (has : Has k file) (before after : Lent) (within : at ≤ length before.lines) where

@@ -5,8 +5,8 @@ use Rattle.std.proofs.Math.Path.{ap}
 use borrow.Rule.Slice.PartMut.{put_mid}
 use Rattle.std.proofs.Math.ListN.{length, drop, length-drop}
 use Rattle.std.proofs.Math.Seq.{take-length}
-use Rattle.bank_rules.specs.Banks.{bank_start, bank_cells}
-use Rattle.bank_rules.proofs.CutLaws.{Has, common-length, bank-length}
+use Rattle.bank_rules.specs.Banks.{bank_start, bank_cells, Has}
+use Rattle.bank_rules.proofs.CutLaws.{common-length, bank-length}
 
 -- a copy over the whole of a list, or over its front
 all-over : (src dst : List ℕ) → length dst ≤ length src → take (length src) src ++ drop (length src) dst ≡ src

@@ -31,8 +31,8 @@ use Rattle.run.proofs.Answers.{SameLengths}
 use Rattle.libfind.specs.Ends.{collectable, findable, concluded, finding_by, Filled}
 use Rattle.libfind.specs.FindingLaws.{finding-nine, finding-none, finding-late}
 use Rattle.libfind.specs.FoundLaws.{found-then}
-use Rattle.bank_rules.specs.Banks.{bank_cells, shown, lines_to, last_to, most_to, given_to, needed_to}
-use Rattle.bank_rules.proofs.CutLaws.{Has, cells-length}
+use Rattle.bank_rules.specs.Banks.{bank_cells, shown, lines_to, last_to, most_to, given_to, needed_to, Has}
+use Rattle.bank_rules.proofs.CutLaws.{cells-length}
 use Rattle.banks.specs.Turns.{with_lines, FindsView}
 use Rattle.bank_rules.proofs.OverLaws.{search-next, next-search, lines_next}
 

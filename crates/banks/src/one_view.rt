@@ -3,7 +3,7 @@ ghost use Rattle.std.specs.Prelude.{◌≡◌, ◌<◌, ◌≤◌, length};
 ghost use Rattle.image.specs.View.{view};
 ghost use Rattle.run.specs.Run.{lent_lists, cover};
 ghost use Rattle.banks.specs.Turns.{FindsView};
-ghost use Rattle.bank_rules.proofs.CutLaws.{Has};
+ghost use Rattle.bank_rules.specs.Banks.{Has};
 
 use crate::cut::cut;
 use crate::view::{show_bank, view_room};

@@ -1,8 +1,7 @@
 // A bank's view: the common part and the bank, side by side.
 ghost use Rattle.std.specs.Prelude.{◌≡◌, length};
 ghost use Rattle.tables.specs.zeros.Zeros.{zero_list};
-ghost use Rattle.bank_rules.specs.Banks.{bank_cells};
-ghost use Rattle.bank_rules.proofs.CutLaws.{Has};
+ghost use Rattle.bank_rules.specs.Banks.{bank_cells, Has};
 
 use crate::board::BANK;
 

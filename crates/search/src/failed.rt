@@ -1,7 +1,7 @@
 // Whether a reference of a match fails at depth 1, and why: one step is looked at. Nothing is noted here, and nothing written.
 ghost use Rattle.std.specs.Prelude.{◌≡◌, not};
 ghost use Rattle.image.specs.View.{stretches_in, view};
-ghost use Rattle.search_rules.proofs.FailedLaws.{is_nothing};
+ghost use Rattle.search_rules.specs.Search.{is_nothing};
 ghost use Rattle.search.specs.failed.Failures.{FailsBy};
 
 use crate::targets::is_match;

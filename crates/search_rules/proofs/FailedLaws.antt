@@ -17,17 +17,12 @@ use Rattle.segments.specs.declared.Reference.{Reference}
 use Rattle.segments.specs.Collect.{Collected}
 use Rattle.search_rules.specs.declared.Why.{Why}
 use Rattle.search_rules.specs.declared.Failed.{Failed}
-use Rattle.search_rules.specs.Search.{positions_of, leads, segment_of, holds_at, holds_to, failure, failed, failed_from, failed_to}
+use Rattle.search_rules.specs.Search.{positions_of, leads, segment_of, holds_at, holds_to, failure, is_nothing, failed, failed_from, failed_to}
 
 -- no reason is told
 abbrev is_none : Option Why → Bool
 is_none none = true
 is_none (some why) = false
-
--- no reference failed
-abbrev pub is_nothing : Failed → Bool
-is_nothing Failed.Nothing = true
-is_nothing (Failed.Reference number why) = false
 
 -- a reference holds exactly if there is no reason why it fails
 module _ (cells : List ℕ) (segments : List Collected) (below : Collected → ℕ → Bool) where

@@ -103,6 +103,11 @@ failure cells segments below (Goal.Segment number) (At t) =
     if is_in (positions_of cells segments number) t then (if below (segment_of segments number) t then none else some Why.NotHeld) else some Why.NoMatch
 failure cells segments below (Goal.Name name) (At t) = none
 
+-- no reference failed
+abbrev pub is_nothing : Failed → Bool
+is_nothing Failed.Nothing = true
+is_nothing (Failed.Reference number why) = false
+
 -- the first of some references that fails, in their order, which are numbered from k on
 abbrev pub failed : ℕ → Option Why → Failed → Failed
 failed k none later = later

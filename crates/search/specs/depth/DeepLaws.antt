@@ -20,8 +20,8 @@ use Rattle.segments.specs.SegmentLayouts.{reference_layout, segment_row_at}
 use Rattle.segments.specs.recalled.Recall.{rows_of, recalled_by, recalled_at}
 use Rattle.search_rules.specs.declared.Why.TheVariants as Why
 use Rattle.search_rules.specs.declared.Failed.{Failed}
-use Rattle.search_rules.specs.Search.{no_segment, segment_of, leads, holds_to, failure, failed, failed_from, failed_to}
-use Rattle.search_rules.proofs.FailedLaws.{is_nothing, holds-exactly}
+use Rattle.search_rules.specs.Search.{no_segment, segment_of, leads, holds_to, failure, failed, failed_from, failed_to, is_nothing}
+use Rattle.search_rules.proofs.FailedLaws.{holds-exactly}
 use Rattle.search_rules.proofs.DepthLaws.{holds-every-less}
 use Rattle.search.specs.targets.Seats.{IsMatch}
 use Rattle.search.specs.failed.Failures.{FailsBy, FirstToFail}

@@ -14,8 +14,7 @@ use Rattle.segments.specs.declared.Reference.{Reference}
 use Rattle.segments.specs.recalled.Recall.{recalled}
 use Rattle.search_rules.specs.declared.Why.{Why}
 use Rattle.search_rules.specs.declared.Failed.{Failed}
-use Rattle.search_rules.specs.Search.{leads, failure, failed, failed_from}
-use Rattle.search_rules.proofs.FailedLaws.{is_nothing}
+use Rattle.search_rules.specs.Search.{leads, failure, failed, failed_from, is_nothing}
 use Rattle.search.specs.targets.Seats.{IsMatch}
 use Rattle.search.specs.failed.Failures.{at_once, why_of, FailsBy}
 

@@ -19,9 +19,8 @@ use Rattle.tables.specs.by_name.TakeLaws.{takes_none, leads-all, lead-on, all-ta
 use Rattle.segments.specs.recalled.Recall.{recalled}
 use Rattle.search_rules.specs.declared.Why.{Why}
 use Rattle.search_rules.specs.declared.Failed.{Failed}
-use Rattle.search_rules.specs.Search.{leads, failed, failed_from, note_at, note}
+use Rattle.search_rules.specs.Search.{leads, failed, failed_from, note_at, note, is_nothing}
 use Rattle.search_rules.specs.SearchRows.{noted_sheet}
-use Rattle.search_rules.proofs.FailedLaws.{is_nothing}
 use Rattle.search.specs.failed.Failures.{why_of, FailsBy}
 use Rattle.search.specs.failed.FailureLaws.{fails-led, or_else, goes_on, all_asked}
 use Rattle.search.specs.note.NotedNames.{NotesOne, NotesAt, notes_of, Refers}

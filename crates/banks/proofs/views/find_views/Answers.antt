@@ -8,7 +8,7 @@ use Rattle.image.proofs.ViewLaws.{view-length}
 use Rattle.run.specs.declared.Answer.{Answer}
 use Rattle.run.specs.Run.{Lent, lent_lists, cover}
 use Rattle.run.proofs.Answers.{SameLengths}
-use Rattle.bank_rules.proofs.CutLaws.{Has}
+use Rattle.bank_rules.specs.Banks.{Has}
 use Rattle.banks.specs.Turns.{with_lines, FindsView, joined_counts, no_banks}
 use Rattle.banks.specs.BoardLaws.{Shown, shown-starts, shown-room, shown-on, shown-stops, shown-ends}
 use Rattle.banks.proofs.views.find_views.Goals as goal
