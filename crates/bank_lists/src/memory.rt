@@ -2,7 +2,8 @@
 // image alone, since a board's file takes more room; the lines are those of all banks.
 //
 // The stack: the lists take 2,424,784 bytes, the two files 622,594 and a bank's view 65,536. Beside them stand the tables of one stage at a time
-// (crates/tables/src/zeros.rt). Measured, the program takes 4,920 KiB in all, of the 8 MiB that it usually has.
+// (crates/tables/src/zeros.rt). Measured, the program takes 5,296 KiB in all, and 7,040 KiB as Rattle's own compiler builds it, of the 8 MiB that it
+// usually has.
 use command::memory::lent_with;
 use run::Counts;
 

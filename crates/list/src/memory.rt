@@ -2,7 +2,7 @@
 // ordinary firmware takes some hundreds.
 //
 // The stack: the lists take 2,883,536 bytes and the two files 131,074. Beside them stand the tables of one stage at a time (crates/tables/src/zeros.rt). Measured,
-// the program takes 4,890 KiB in all, of the 8 MiB that it usually has.
+// the program takes 5,195 KiB in all, and 7,061 KiB as Rattle's own compiler builds it, of the 8 MiB that it usually has.
 use command::memory::lent_with;
 use run::Counts;
 
