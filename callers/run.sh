@@ -22,6 +22,12 @@ cc -O2 -std=c99 -Wall -Wextra -o "$out/walk-c" callers/walk.c "$walk"
 cc -O2 -std=c99 -Wall -Wextra -o "$out/banks-c" callers/banks.c "$banks" "$library"
 rustc -O --edition 2021 -o "$out/example-rs" -L "native=$(dirname "$library")" -l static=libfind_c callers/example.rs
 
+# once more than needed, so that building a program is not taken for its words
+./sillmarble list examples/aid.img examples/routines.lib >"$out/was" 2>"$out/was.err" || :
+./sillmarble banks examples/aid.img examples/routines.lib >"$out/was" 2>"$out/was.err" || :
+./sillmarble walk examples/aid.img 0 >"$out/was" 2>"$out/was.err" || :
+./sillmarble hex examples/aid.img >"$out/was" 2>"$out/was.err" || :
+
 passed=0 failed=0
 # The examples and the program have to do with 6 MiB of stack.
 ulimit -S -s 6144
