@@ -1,8 +1,8 @@
 #!/usr/bin/env python3
-"""Breaks the long lines of .antt files, and measures proofs.
+"""Breaks the long lines of .antt files, and says how long lines are.
 
     tools/lines.py FILE..    breaks the lines of over 200 characters, where the fewest brackets are open; then `rt fmt`
-    tools/lines.py           the share of `.before` in all proofs, the longest run of it, and the longest line
+    tools/lines.py           how many lines have over 300 characters, and the longest
 """
 import pathlib
 import re
@@ -19,7 +19,8 @@ def break_lines(paths):
             text = path.read_text()
             names = set(re.findall(r"^abbrev (\S+) : tie\.", text, re.M))
             path.write_text("\n".join(part for line in text.split("\n") for part in parts(line, names)))
-        subprocess.run(["rt", "fmt"], cwd=ROOT, check=True)
+        for crate in sorted({ROOT / "crates" / path.resolve().relative_to(ROOT / "crates").parts[0] for path in paths}):
+            subprocess.run(["rt", "fmt"], cwd=crate, check=True, stdout=subprocess.DEVNULL)
 
 
 def opened(line, names):
@@ -55,12 +56,10 @@ def broken(line, names):
 
 
 def measure():
-    texts = {path: path.read_text() for path in sorted((ROOT / "crates").rglob("*.antt"))}
-    proofs = "".join(text for path, text in texts.items() if "proofs" in path.parts)
-    runs = [run[0].count(".before") for run in re.finditer(r"(?:\s\.before\b)+", proofs)]
-    print(f"proofs: {len(proofs)} characters, `.before`: {8 * sum(runs) / len(proofs):.1%}, longest run: {max(runs)}")
-    wide = sorted(((len(line), path) for path, text in texts.items() for line in text.split("\n")), reverse=True)
-    print(f"lines over 300: {sum(n > 300 for n, _ in wide)}, longest: {wide[0][0]} ({wide[0][1].relative_to(ROOT)})")
+    lines = [(len(line), path) for path in sorted((ROOT / "crates").rglob("*.antt")) if "out" not in path.parts
+             for line in path.read_text().split("\n")]
+    longest, where = max(lines)
+    print(f"lines over 300: {sum(n > 300 for n, _ in lines)}, longest: {longest} ({where.relative_to(ROOT)})")
 
 
 if __name__ == "__main__":

@@ -16,16 +16,18 @@ use Rattle.bank_rules.specs.Banks.{banks_in}
 use Rattle.banks.specs.Turns.{board_by}
 use Rattle.banks.specs.EntryLaws.{begun-banks, refilled, same-board, refused-collecting, collected-filled, banks-then}
 use Rattle.banks.proofs.entry.find_from.Goals as goal
+use Rattle.banks.proofs.entry.find_from.Goals.{In-Done}
+
+abbrev between : (c : In-Done) → Lent
+between c =
+    let left : CollectLists = let q = c.collect.new in lists q.segments q.references q.symbols q.bytes q.masks in let l = left in let a = c.args in lent_lists l.segments l.references l.symbols l.bytes l.masks a.placed.now a.noted.now a.lines.now
 
 pub find_views-requires : goal.find_views-requires
 find_views-requires c =
     let lent : Lent = let a = c.args in lent_lists a.segments.now a.references.now a.symbols.now a.bytes.now a.masks.now a.placed.now a.noted.now a.lines.now in
     let collected : Rules → CollectOutcome = λ rules. collection rules c.args.library.now (items_at c.args.library.now (module_at c.args.library.now) c.args.first) (collectable (lent)) in
     let left : CollectLists = let q = c.collect.new in lists q.segments q.references q.symbols q.bytes q.masks in
-    let between : Lent = let l = left in
-    let a = c.args in
-    lent_lists l.segments l.references l.symbols l.bytes l.masks a.placed.now a.noted.now a.lines.now in
-    let kept : SameLengths (between) (lent) = record {
+    let kept : SameLengths (between (goal.at.find_views-requires c).In-Done) (lent) = record {
       segments = c.segments-1.given;
       references = c.references-1.given;
       symbols = c.symbols-1.given;
@@ -52,10 +54,7 @@ returns-in-Done c =
     let lent : Lent = let a = c.args in lent_lists a.segments.now a.references.now a.symbols.now a.bytes.now a.masks.now a.placed.now a.noted.now a.lines.now in
     let collected : Rules → CollectOutcome = λ rules. collection rules c.args.library.now (items_at c.args.library.now (module_at c.args.library.now) c.args.first) (collectable (lent)) in
     let left : CollectLists = let q = c.collect.new in lists q.segments q.references q.symbols q.bytes q.masks in
-    let between : Lent = let l = left in
-    let a = c.args in
-    lent_lists l.segments l.references l.symbols l.bytes l.masks a.placed.now a.noted.now a.lines.now in
-    let kept : SameLengths (between) (lent) = record {
+    let kept : SameLengths (between (goal.at.returns-in-Done c).In-Done) (lent) = record {
       segments = c.segments-1.given;
       references = c.references-1.given;
       symbols = c.symbols-1.given;
@@ -71,7 +70,7 @@ returns-in-Done c =
     let a = c.args in
     let cells = view a.file.now (cover a.settings) in
     c.find_views.ensures
-    ∙ ap (λ n. board_by cells a.library.now a.settings n (between)) c.banks_in.ensures
+    ∙ ap (λ n. board_by cells a.library.now a.settings n (between (goal.at.returns-in-Done c).In-Done)) c.banks_in.ensures
     ∙ same-board a.library.now a.settings (lent) c.in-Done.collected (left) cells (banks_in (length a.file.now)) (kept)
     ∙ banks-then a.file.now a.library.now a.settings (lent) c.requires (filled)
 

@@ -12,36 +12,39 @@ use Rattle.bank_rules.specs.Banks.{Has}
 use Rattle.banks.specs.Turns.{with_lines, FindsView, joined_counts, no_banks}
 use Rattle.banks.specs.BoardLaws.{Shown, shown-starts, shown-room, shown-on, shown-stops, shown-ends}
 use Rattle.banks.proofs.views.find_views.Goals as goal
+use Rattle.banks.proofs.views.find_views.Goals.{After-without_rows-counts}
+
+abbrev lent : (c : After-without_rows-counts) → Lent
+lent c =
+    let a = c.args in lent_lists a.segments.now a.references.now a.symbols.now a.bytes.now a.masks.now a.placed.now a.noted.now a.lines.now
+
+abbrev seen : (c : After-without_rows-counts) → List ℕ
+seen c =
+    view c.args.file.now (cover c.args.settings)
 
 pub loop-k-init : goal.loop-k-init
 loop-k-init c =
-    let lent : Lent = let a = c.args in lent_lists a.segments.now a.references.now a.symbols.now a.bytes.now a.masks.now a.placed.now a.noted.now a.lines.now in
-    let seen : List ℕ = view c.args.file.now (cover c.args.settings) in
     let a = c.args in
-    shown-starts (seen) a.library.now a.settings a.banks (lent) a.collected c.requires.3 c.without_rows-counts.ensures
+    shown-starts (seen c) a.library.now a.settings a.banks (lent c) a.collected c.requires.3 c.without_rows-counts.ensures
 
 pub overflow_mul-before : goal.overflow_mul-before
 overflow_mul-before c =
-    let lent : Lent = let a = c.args in lent_lists a.segments.now a.references.now a.symbols.now a.bytes.now a.masks.now a.placed.now a.noted.now a.lines.now in
-    let seen : List ℕ = view c.args.file.now (cover c.args.settings) in
     let room : c.loop-k.counts.lines * 4 ≤ length c.loop-k.lines = let a = c.args in
-    shown-room (seen) a.library.now a.settings a.banks (lent) a.collected c.loop-k.invariant in
+    shown-room (seen (goal.at.overflow_mul-before c).After-without_rows-counts) a.library.now a.settings a.banks
+    (lent (goal.at.overflow_mul-before c).After-without_rows-counts) a.collected c.loop-k.invariant in
     omega (arith, room, c.well_formed, c.loop-k.invariant.listed.long.lines)
 
 pub find_view-came-requires : goal.find_view-came-requires
 find_view-came-requires c =
-    let lent : Lent = let a = c.args in lent_lists a.segments.now a.references.now a.symbols.now a.bytes.now a.masks.now a.placed.now a.noted.now a.lines.now in
-    let seen : List ℕ = view c.args.file.now (cover c.args.settings) in
     let has-bank : let a = c.args in Has c.loop-k.k a.file.now = omega (arith, c.loop-k-test.true, c.requires.0) in
     let few : c.loop-k.k < 16 = omega (arith, c.loop-k-test.true, c.requires.2) in
     let room : c.loop-k.counts.lines * 4 ≤ length c.loop-k.lines = let a = c.args in
-    shown-room (seen) a.library.now a.settings a.banks (lent) a.collected c.loop-k.invariant in
+    shown-room (seen (goal.at.find_view-came-requires c).After-without_rows-counts) a.library.now a.settings a.banks
+    (lent (goal.at.find_view-came-requires c).After-without_rows-counts) a.collected c.loop-k.invariant in
     (has-bank, few, room)
 
 pub returns-in_default : goal.returns-in_default
 returns-in_default c =
-    let lent : Lent = let a = c.args in lent_lists a.segments.now a.references.now a.symbols.now a.bytes.now a.masks.now a.placed.now a.noted.now a.lines.now in
-    let seen : List ℕ = view c.args.file.now (cover c.args.settings) in
     let turn : Lent = let l = c.loop-k in lent_lists l.segments l.references l.symbols l.bytes l.masks l.placed l.noted l.lines in
     let after : Lent = let q = c.find_view-came.new in
     lent_lists q.segments q.references q.symbols q.bytes q.masks q.placed q.noted q.lines in
@@ -56,20 +59,20 @@ returns-in_default c =
       lines = c.lines-1.given;
     } in
     let has-bank : let a = c.args in Has c.loop-k.k a.file.now = omega (arith, c.loop-k-test.true, c.requires.0) in
-    let has-view : Has c.loop-k.k (seen) = let a = c.args in omega (arith, has-bank, view-length a.file.now (cover a.settings)) in
-    let finds : (r : Answer) → c.find_view-came.result ≡ r → let a = c.args in let l = c.loop-k in FindsView (seen) a.library.now a.settings a.collected l.k (l.counts.lines * 4) (turn) r (after) = λ _ e. let a = c.args in
+    let has-view : Has c.loop-k.k (seen (goal.at.returns-in_default c).After-without_rows-counts) = let a = c.args in omega (arith, has-bank, view-length a.file.now (cover a.settings)) in
+    let finds : (r : Answer) → c.find_view-came.result ≡ r → let a = c.args in let l = c.loop-k in FindsView
+    (seen (goal.at.returns-in_default c).After-without_rows-counts) a.library.now a.settings a.collected l.k (l.counts.lines * 4) (turn) r (after) = λ _ e. let a = c.args in
     let l = c.loop-k in
-    subst (λ x. FindsView (seen) a.library.now a.settings a.collected l.k (l.counts.lines * 4) (turn) x (after)) e c.find_view-came.ensures in
+    subst (λ x. FindsView (seen (goal.at.returns-in_default c).After-without_rows-counts) a.library.now a.settings a.collected l.k (l.counts.lines * 4) (turn) x (after)) e c.find_view-came.ensures in
     let a = c.args in
     let told = c.in_default.is in
     ap (λ x. record { answer = x; left = with_lines (after) c.clear.new.rows }) (c.no_banks.ensures ∙ ap no_banks told)
-    ∙ shown-stops (seen) a.library.now a.settings a.banks (lent) a.collected c.loop-k.invariant (omega (arith, c.loop-k-test.true)) (has-view)
+    ∙ shown-stops (seen (goal.at.returns-in_default c).After-without_rows-counts) a.library.now a.settings a.banks
+    (lent (goal.at.returns-in_default c).After-without_rows-counts) a.collected c.loop-k.invariant (omega (arith, c.loop-k-test.true)) (has-view)
     (kept) (finds _ told) c.clear.ensures
 
 pub overflow_add-before : goal.overflow_add-before
 overflow_add-before c =
-    let lent : Lent = let a = c.args in lent_lists a.segments.now a.references.now a.symbols.now a.bytes.now a.masks.now a.placed.now a.noted.now a.lines.now in
-    let seen : List ℕ = view c.args.file.now (cover c.args.settings) in
     let turn : Lent = let l = c.loop-k in lent_lists l.segments l.references l.symbols l.bytes l.masks l.placed l.noted l.lines in
     let after : Lent = let q = c.find_view-came.new in
     lent_lists q.segments q.references q.symbols q.bytes q.masks q.placed q.noted q.lines in
@@ -84,12 +87,13 @@ overflow_add-before c =
       lines = c.lines-1.given;
     } in
     let has-bank : let a = c.args in Has c.loop-k.k a.file.now = omega (arith, c.loop-k-test.true, c.requires.0) in
-    let has-view : Has c.loop-k.k (seen) = let a = c.args in omega (arith, has-bank, view-length a.file.now (cover a.settings)) in
+    let has-view : Has c.loop-k.k (seen (goal.at.overflow_add-before c).After-without_rows-counts) = let a = c.args in omega (arith, has-bank, view-length a.file.now (cover a.settings)) in
     let few : c.loop-k.k < 16 = omega (arith, c.loop-k-test.true, c.requires.2) in
-    let finds : (r : Answer) → c.find_view-came.result ≡ r → let a = c.args in let l = c.loop-k in FindsView (seen) a.library.now a.settings a.collected l.k (l.counts.lines * 4) (turn) r (after) = λ _ e. let a = c.args in
+    let finds : (r : Answer) → c.find_view-came.result ≡ r → let a = c.args in let l = c.loop-k in FindsView
+    (seen (goal.at.overflow_add-before c).After-without_rows-counts) a.library.now a.settings a.collected l.k (l.counts.lines * 4) (turn) r (after) = λ _ e. let a = c.args in
     let l = c.loop-k in
-    subst (λ x. FindsView (seen) a.library.now a.settings a.collected l.k (l.counts.lines * 4) (turn) x (after)) e c.find_view-came.ensures in
-    let kept-all : SameLengths (after) (lent) = let k = kept in
+    subst (λ x. FindsView (seen (goal.at.overflow_add-before c).After-without_rows-counts) a.library.now a.settings a.collected l.k (l.counts.lines * 4) (turn) x (after)) e c.find_view-came.ensures in
+    let kept-all : SameLengths (after) (lent (goal.at.overflow_add-before c).After-without_rows-counts) = let k = kept in
     let l = c.loop-k.invariant.listed.long in
     record {
       segments = k.segments ∙ l.segments;
@@ -101,16 +105,24 @@ overflow_add-before c =
       noted = k.noted ∙ l.noted;
       lines = k.lines ∙ l.lines;
     } in
-    let on : let a = c.args in let l = c.loop-k in let next = c.in-Done.next in Shown (seen) a.library.now a.settings a.banks (lent) a.collected (l.k + 1) (after) (joined_counts l.counts next (l.counts.lines + next.lines)) (set l.each l.k next.lines) = let a = c.args in
-    shown-on (seen) a.library.now a.settings a.banks (lent) a.collected c.loop-k.invariant (omega (arith, c.loop-k-test.true)) (has-view)
+    let on : let a = c.args in let l = c.loop-k in let next = c.in-Done.next in Shown
+    (seen (goal.at.overflow_add-before c).After-without_rows-counts) a.library.now a.settings a.banks
+    (lent (goal.at.overflow_add-before c).After-without_rows-counts) a.collected (l.k + 1) (after)
+    (joined_counts l.counts next (l.counts.lines + next.lines)) (set l.each l.k next.lines) = let a = c.args in
+    shown-on (seen (goal.at.overflow_add-before c).After-without_rows-counts) a.library.now a.settings a.banks
+    (lent (goal.at.overflow_add-before c).After-without_rows-counts) a.collected c.loop-k.invariant (omega (arith, c.loop-k-test.true)) (has-view)
     (kept) (finds _ c.in-Done.is) (few) in
     let a = c.args in
-    omega (arith, shown-room (seen) a.library.now a.settings a.banks (lent) a.collected (on), (kept-all).lines, c.well_formed)
+    omega (
+      arith,
+      shown-room (seen (goal.at.overflow_add-before c).After-without_rows-counts) a.library.now a.settings a.banks
+          (lent (goal.at.overflow_add-before c).After-without_rows-counts) a.collected (on),
+      (kept-all).lines,
+      c.well_formed,
+    )
 
 pub loop-k-preserved : goal.loop-k-preserved
 loop-k-preserved c =
-    let lent : Lent = let a = c.args in lent_lists a.segments.now a.references.now a.symbols.now a.bytes.now a.masks.now a.placed.now a.noted.now a.lines.now in
-    let seen : List ℕ = view c.args.file.now (cover c.args.settings) in
     let turn : Lent = let l = c.loop-k in lent_lists l.segments l.references l.symbols l.bytes l.masks l.placed l.noted l.lines in
     let after : Lent = let q = c.find_view-came.new in
     lent_lists q.segments q.references q.symbols q.bytes q.masks q.placed q.noted q.lines in
@@ -125,26 +137,30 @@ loop-k-preserved c =
       lines = c.lines-1.given;
     } in
     let has-bank : let a = c.args in Has c.loop-k.k a.file.now = omega (arith, c.loop-k-test.true, c.requires.0) in
-    let has-view : Has c.loop-k.k (seen) = let a = c.args in omega (arith, has-bank, view-length a.file.now (cover a.settings)) in
+    let has-view : Has c.loop-k.k (seen (goal.at.loop-k-preserved c).After-without_rows-counts) = let a = c.args in omega (arith, has-bank, view-length a.file.now (cover a.settings)) in
     let few : c.loop-k.k < 16 = omega (arith, c.loop-k-test.true, c.requires.2) in
-    let finds : (r : Answer) → c.find_view-came.result ≡ r → let a = c.args in let l = c.loop-k in FindsView (seen) a.library.now a.settings a.collected l.k (l.counts.lines * 4) (turn) r (after) = λ _ e. let a = c.args in
+    let finds : (r : Answer) → c.find_view-came.result ≡ r → let a = c.args in let l = c.loop-k in FindsView
+    (seen (goal.at.loop-k-preserved c).After-without_rows-counts) a.library.now a.settings a.collected l.k (l.counts.lines * 4) (turn) r (after) = λ _ e. let a = c.args in
     let l = c.loop-k in
-    subst (λ x. FindsView (seen) a.library.now a.settings a.collected l.k (l.counts.lines * 4) (turn) x (after)) e c.find_view-came.ensures in
-    let on : let a = c.args in let l = c.loop-k in let next = c.in-Done.next in Shown (seen) a.library.now a.settings a.banks (lent) a.collected (l.k + 1) (after) (joined_counts l.counts next (l.counts.lines + next.lines)) (set l.each l.k next.lines) = let a = c.args in
-    shown-on (seen) a.library.now a.settings a.banks (lent) a.collected c.loop-k.invariant (omega (arith, c.loop-k-test.true)) (has-view)
+    subst (λ x. FindsView (seen (goal.at.loop-k-preserved c).After-without_rows-counts) a.library.now a.settings a.collected l.k (l.counts.lines * 4) (turn) x (after)) e c.find_view-came.ensures in
+    let on : let a = c.args in let l = c.loop-k in let next = c.in-Done.next in Shown (seen (goal.at.loop-k-preserved c).After-without_rows-counts)
+    a.library.now a.settings a.banks (lent (goal.at.loop-k-preserved c).After-without_rows-counts) a.collected (l.k + 1) (after)
+    (joined_counts l.counts next (l.counts.lines + next.lines)) (set l.each l.k next.lines) = let a = c.args in
+    shown-on (seen (goal.at.loop-k-preserved c).After-without_rows-counts) a.library.now a.settings a.banks
+    (lent (goal.at.loop-k-preserved c).After-without_rows-counts) a.collected c.loop-k.invariant (omega (arith, c.loop-k-test.true)) (has-view)
     (kept) (finds _ c.in-Done.is) (few) in
     let a = c.args in
     let l = c.loop-k in
-    subst (λ x. Shown (seen) a.library.now a.settings a.banks (lent) a.collected (l.k + 1) (after)
+    subst (λ x. Shown (seen (goal.at.loop-k-preserved c).After-without_rows-counts) a.library.now a.settings a.banks
+    (lent (goal.at.loop-k-preserved c).After-without_rows-counts) a.collected (l.k + 1) (after)
     x (set l.each l.k c.in-Done.next.lines))
     (sym c.joined-counts.ensures) (on)
 
 pub returns : goal.returns
 returns c =
-    let lent : Lent = let a = c.args in lent_lists a.segments.now a.references.now a.symbols.now a.bytes.now a.masks.now a.placed.now a.noted.now a.lines.now in
-    let seen : List ℕ = view c.args.file.now (cover c.args.settings) in
     let a = c.args in
-    shown-ends (seen) a.library.now a.settings a.banks (lent) a.collected c.loop-k.invariant (omega (arith, c.loop-k-test.false)) c.requires.1
+    shown-ends (seen (goal.at.returns c).After-without_rows-counts) a.library.now a.settings a.banks
+    (lent (goal.at.returns c).After-without_rows-counts) a.collected c.loop-k.invariant (omega (arith, c.loop-k-test.false)) c.requires.1
 
 pub offset_bounds-each-k : goal.offset_bounds-each-k
 offset_bounds-each-k c =

@@ -21,6 +21,11 @@ use Rattle.tables.specs.links.Things.{places_of, next_of}
 use Rattle.tables.specs.links.ThingLaws.{next_small}
 use Rattle.collect.specs.absolute.Absolute.{ByOffset}
 use Rattle.collect.proofs.absolute.store_absolutes.Goals as goal
+use Rattle.collect.proofs.absolute.store_absolutes.Goals.{After-place_at-place}
+
+abbrev held : (c : After-place_at-place) → CollectLists
+held c =
+    let l = c.loop-last in lists l.segments l.references l.symbols l.bytes l.masks
 
 pub loop-last-init : goal.loop-last-init
 loop-last-init c =
@@ -77,12 +82,14 @@ store_absolute-stored-requires c =
 
 pub returns-in_default-stored : goal.returns-in_default-stored
 returns-in_default-stored c =
-    let held : CollectLists = let l = c.loop-last in
-    lists l.segments l.references l.symbols l.bytes l.masks in
     let left : CollectLists = let s = c.store_absolute-stored in
     lists s.new.segments s.new.references s.new.symbols
     s.new.bytes s.new.masks in
-    let stored_here : (rules : Rules) (m : Module) (gs : List Collected) → c.args.absolutes.own ≡ own_by rules → ByOffset c.args.library.now m c.args.absolutes.link c.args.table.now c.args.contents.now c.args.publics.now c.args.n c.args.heads.now → (s : Section) → SectionIs c.args.library.now (places_of c.args.contents.now) (c.loop-last.here - 1) s → Stores gs (held) c.loop-last.c → After (gs ++ one (absolute_segment rules c.args.library.now m c.args.absolutes.number s)) (left) c.store_absolute-stored.result = λ rules m gs o x s i stores. let a = c.args in
+    let stored_here : (rules : Rules) (m : Module) (gs : List Collected) → c.args.absolutes.own ≡ own_by rules → ByOffset c.args.library.now m
+    c.args.absolutes.link c.args.table.now c.args.contents.now c.args.publics.now c.args.n c.args.heads.now → (s : Section) → SectionIs
+    c.args.library.now (places_of c.args.contents.now) (c.loop-last.here - 1) s → Stores gs
+    (held (goal.at.returns-in_default-stored c).After-place_at-place) c.loop-last.c → After
+    (gs ++ one (absolute_segment rules c.args.library.now m c.args.absolutes.number s)) (left) c.store_absolute-stored.result = λ rules m gs o x s i stores. let a = c.args in
     let lib = a.library.now in
     let r = c.store_absolute-stored in
     let same = section-met lib (sym c.next_content.ensures ∙ c.in-Item.is)
@@ -100,7 +107,7 @@ returns-in_default-stored c =
       long = lengths-on l.invariant.long s.ensures.long;
       apart-long = s.ensures.apart-long ∙ l.invariant.apart-long;
       extends = λ rules m o x gs stores. absolutes-lack (SectionIs lib (places_of a.contents.now)) (next_of a.contents.now) rules lib m a.absolutes.number gs l.last
-          l.here (held) (left) l.c s.result (omega (arith, c.loop-last-test.true)) (l.invariant.storing rules m gs o x stores)
+          l.here (held (goal.at.returns-in_default-stored c).After-place_at-place) (left) l.c s.result (omega (arith, c.loop-last-test.true)) (l.invariant.storing rules m gs o x stores)
           (λ section i hs t. stored_here rules m hs o x section i t) c.in_default-stored.is;
     }
 
@@ -114,12 +121,14 @@ loop-last-smaller c =
 
 pub loop-last-preserved : goal.loop-last-preserved
 loop-last-preserved c =
-    let held : CollectLists = let l = c.loop-last in
-    lists l.segments l.references l.symbols l.bytes l.masks in
     let left : CollectLists = let s = c.store_absolute-stored in
     lists s.new.segments s.new.references s.new.symbols
     s.new.bytes s.new.masks in
-    let stored_here : (rules : Rules) (m : Module) (gs : List Collected) → c.args.absolutes.own ≡ own_by rules → ByOffset c.args.library.now m c.args.absolutes.link c.args.table.now c.args.contents.now c.args.publics.now c.args.n c.args.heads.now → (s : Section) → SectionIs c.args.library.now (places_of c.args.contents.now) (c.loop-last.here - 1) s → Stores gs (held) c.loop-last.c → After (gs ++ one (absolute_segment rules c.args.library.now m c.args.absolutes.number s)) (left) c.store_absolute-stored.result = λ rules m gs o x s i stores. let a = c.args in
+    let stored_here : (rules : Rules) (m : Module) (gs : List Collected) → c.args.absolutes.own ≡ own_by rules → ByOffset c.args.library.now m
+    c.args.absolutes.link c.args.table.now c.args.contents.now c.args.publics.now c.args.n c.args.heads.now → (s : Section) → SectionIs
+    c.args.library.now (places_of c.args.contents.now) (c.loop-last.here - 1) s → Stores gs
+    (held (goal.at.loop-last-preserved c).After-place_at-place) c.loop-last.c → After
+    (gs ++ one (absolute_segment rules c.args.library.now m c.args.absolutes.number s)) (left) c.store_absolute-stored.result = λ rules m gs o x s i stores. let a = c.args in
     let lib = a.library.now in
     let r = c.store_absolute-stored in
     let same = section-met lib (sym c.next_content.ensures ∙ c.in-Item.is)
@@ -140,7 +149,8 @@ loop-last-preserved c =
       clear = s.ensures.clear;
       small = rw c.next_at-here.ensures (omega (arith, next_small a.contents.now (l.here - 1)));
       storing = λ rules m gs o x stores. rw c.next_at-here.ensures
-          (absolutes-on (SectionIs lib (places_of a.contents.now)) (next_of a.contents.now) rules lib m a.absolutes.number gs l.last l.here (held) (left) l.c
+          (absolutes-on (SectionIs lib (places_of a.contents.now)) (next_of a.contents.now) rules lib m a.absolutes.number gs l.last l.here
+          (held (goal.at.loop-last-preserved c).After-place_at-place) (left) l.c
           s.result (omega (arith, c.loop-last-test.true)) (l.invariant.storing rules m gs o x stores)
           (λ section i hs t. stored_here rules m hs o x section i t) c.in-Rows.is);
     }

@@ -20,13 +20,21 @@ use Rattle.collect.specs.stored.Segments.{lists}
 use Rattle.collect.specs.kept.Kept.{kept_from, kept_segments}
 use Rattle.collect.specs.kept.KeptLaws.{definition-stored, kept_rest, rest-passed, rest-none, keeps_on, keeps-lack, keeps-start}
 use Rattle.collect.proofs.kept.store_keeps.Goals as goal
-use Rattle.collect.proofs.kept.store_keeps.Goals.{In-Item}
+use Rattle.collect.proofs.kept.store_keeps.Goals.{After-since-place, In-Item}
 
 yields : (c : In-Item) → definitions_left c.args.library.now c.loop-definition.at ≡ c.in-Item.definition
     ∷ definitions_left c.args.library.now c.in-Item.rest
 yields c =
     let lib = c.args.library.now in next-definition-yields lib c.loop-definition.at ∙ ap (definitions_after lib)
     (sym c.next_definition.ensures ∙ c.in-Item.is)
+
+abbrev held : (c : After-since-place) → CollectLists
+held c =
+    let l = c.loop-definition in lists l.segments l.references l.symbols l.bytes l.masks
+
+kept_here : (c : After-since-place) → is_kept c.in-Item.definition ≡ true
+kept_here c =
+    sym c.is_kept.ensures ∙ c.if-is_kept.true
 
 pub loop-definition-init : goal.loop-definition-init
 loop-definition-init c =
@@ -51,24 +59,26 @@ store_kept-stored-requires c =
 
 pub returns-in_default : goal.returns-in_default
 returns-in_default c =
-    let held : CollectLists = let l = c.loop-definition in
-    lists l.segments l.references l.symbols l.bytes l.masks in
     let left : CollectLists = let s = c.store_kept-stored in
     lists s.new.segments s.new.references s.new.symbols
     s.new.bytes s.new.masks in
-    let extended : (m : Module) → Indexed c.args.library.now m c.args.table.now c.args.first.now c.args.contents.now c.args.heads.now c.args.publics.now → c.loop-definition.c.segments - c.args.before.segments < length (kept m) → Extends (one (kept_segment c.args.library.now m c.args.before.segments (c.loop-definition.c.segments - c.args.before.segments, c.in-Item.definition))) (held) c.loop-definition.c (left) c.store_kept-stored.result = λ m x h. let a = c.args in
+    let extended : (m : Module) → Indexed c.args.library.now m c.args.table.now c.args.first.now c.args.contents.now c.args.heads.now
+    c.args.publics.now → c.loop-definition.c.segments - c.args.before.segments < length (kept m) → Extends
+    (one (kept_segment c.args.library.now m c.args.before.segments
+    (c.loop-definition.c.segments - c.args.before.segments, c.in-Item.definition))) (held (goal.at.returns-in_default c).After-since-place)
+    c.loop-definition.c (left) c.store_kept-stored.result = λ m x h. let a = c.args in
     let d = c.in-Item.definition in
     let from = c.kept_from-kept in
     definition-stored a.library.now m d x (c.loop-definition.c.segments - a.before.segments) h from.ensures.1 a.before.segments
     (from.ensures.0 ∙ ap (λ (p : Part). kept_from d p.len a.table.now a.first.now a.heads.now) c.since-place.ensures) c.store_kept-stored.ensures in
-    let kept_here : is_kept c.in-Item.definition ≡ true = sym c.is_kept.ensures ∙ c.if-is_kept.true in
     let a = c.args in
     let l = c.loop-definition in
     record {
       long = lengths-on l.invariant.long c.store_kept-stored.ensures.long;
       apart-long = c.store_kept-stored.ensures.apart-long ∙ l.invariant.apart-long;
       extends = λ m e x gs stores.
-          keeps-lack a.library.now m a.before.segments gs (held) (left) l.c c.store_kept-stored.result (yields (goal.at.returns-in_default c).In-Item) (kept_here)
+          keeps-lack a.library.now m a.before.segments gs (held (goal.at.returns-in_default c).After-since-place) (left) l.c
+          c.store_kept-stored.result (yields (goal.at.returns-in_default c).In-Item) (kept_here (goal.at.returns-in_default c).After-since-place)
           (stored-count stores) (l.invariant.progress m gs e x stores) (extended m x) c.in_default.is;
     }
 
@@ -78,24 +88,26 @@ loop-definition-smaller-in-Rows c =
 
 pub loop-definition-preserved-in-Rows : goal.loop-definition-preserved-in-Rows
 loop-definition-preserved-in-Rows c =
-    let held : CollectLists = let l = c.loop-definition in
-    lists l.segments l.references l.symbols l.bytes l.masks in
     let left : CollectLists = let s = c.store_kept-stored in
     lists s.new.segments s.new.references s.new.symbols
     s.new.bytes s.new.masks in
-    let extended : (m : Module) → Indexed c.args.library.now m c.args.table.now c.args.first.now c.args.contents.now c.args.heads.now c.args.publics.now → c.loop-definition.c.segments - c.args.before.segments < length (kept m) → Extends (one (kept_segment c.args.library.now m c.args.before.segments (c.loop-definition.c.segments - c.args.before.segments, c.in-Item.definition))) (held) c.loop-definition.c (left) c.store_kept-stored.result = λ m x h. let a = c.args in
+    let extended : (m : Module) → Indexed c.args.library.now m c.args.table.now c.args.first.now c.args.contents.now c.args.heads.now
+    c.args.publics.now → c.loop-definition.c.segments - c.args.before.segments < length (kept m) → Extends
+    (one (kept_segment c.args.library.now m c.args.before.segments
+    (c.loop-definition.c.segments - c.args.before.segments, c.in-Item.definition)))
+    (held (goal.at.loop-definition-preserved-in-Rows c).After-since-place) c.loop-definition.c (left) c.store_kept-stored.result = λ m x h. let a = c.args in
     let d = c.in-Item.definition in
     let from = c.kept_from-kept in
     definition-stored a.library.now m d x (c.loop-definition.c.segments - a.before.segments) h from.ensures.1 a.before.segments
     (from.ensures.0 ∙ ap (λ (p : Part). kept_from d p.len a.table.now a.first.now a.heads.now) c.since-place.ensures) c.store_kept-stored.ensures in
-    let kept_here : is_kept c.in-Item.definition ≡ true = sym c.is_kept.ensures ∙ c.if-is_kept.true in
     let a = c.args in
     let l = c.loop-definition in
     record {
       long = lengths-on l.invariant.long c.store_kept-stored.ensures.long;
       apart-long = c.store_kept-stored.ensures.apart-long ∙ l.invariant.apart-long;
       progress = λ m gs e x stores.
-          keeps_on a.library.now m a.before.segments gs (held) (left) l.c c.store_kept-stored.result (yields (goal.at.loop-definition-preserved-in-Rows c).In-Item) (kept_here)
+          keeps_on a.library.now m a.before.segments gs (held (goal.at.loop-definition-preserved-in-Rows c).After-since-place) (left) l.c
+          c.store_kept-stored.result (yields (goal.at.loop-definition-preserved-in-Rows c).In-Item) (kept_here (goal.at.loop-definition-preserved-in-Rows c).After-since-place)
           (stored-count stores) (l.invariant.progress m gs e x stores) (extended m x) c.in-Rows.is;
     }
 
@@ -121,7 +133,6 @@ returns-in-Done c =
     let number = c.args.before.segments in
     let lib = c.args.library.now in
     let l = c.loop-definition in
-    let now-lists = lists l.segments l.references l.symbols l.bytes l.masks in
     let none = next-definition-yields lib l.at ∙ ap (definitions_after lib) (sym c.next_definition.ensures ∙ c.in-Done.is) in
     record {
       long = l.invariant.long;

@@ -7,6 +7,11 @@ use Rattle.image.proofs.fixup.TargetLaws.{Bytes, target_past, target-withheld}
 use Rattle.image.proofs.fixup.AddressLaws.{reads-some, target_at}
 use Rattle.image.specs.declared.fixup.Target.TheVariants.{At}
 use Rattle.image.proofs.fixup.find_target.Goals as goal
+use Rattle.image.proofs.fixup.find_target.Goals.{Else-passes}
+
+bytes : (c : Else-passes) → Bytes c.args.image.now
+bytes c =
+    λ k. omega (arith, c.shared_slice_known-1.given k)
 
 pub returns-then-passes : goal.returns-then-passes
 returns-then-passes c =
@@ -17,12 +22,11 @@ returns-then-passes c =
 
 pub returns-then-not-is_apart : goal.returns-then-not-is_apart
 returns-then-not-is_apart c =
-    let bytes : Bytes c.args.image.now = λ k. omega (arith, c.shared_slice_known-1.given k) in
     let passing : ltb (length c.args.image.now) (c.args.pos + reads c.args.kind) ≡ c.passes.result = let a = c.args in ap (λ w. ltb (length a.image.now) (a.pos + w)) (sym c.width-n.ensures) ∙ sym c.passes.ensures in
     let fitting : c.args.pos + reads c.args.kind ≤ length c.args.image.now = let a = c.args in ltb-false (length a.image.now) (a.pos + reads a.kind) (passing ∙ c.if-passes.false) in
     let windowed : is_apart (stretches_in c.args.s.now) c.args.pos (reads c.args.kind) ≡ c.is_apart.result = let a = c.args in ap (is_apart (stretches_in a.s.now) a.pos) (sym c.width-n.ensures) ∙ sym c.is_apart.ensures in
     let a = c.args in
-    sym (target-withheld a.image.now (stretches_in a.s.now) (bytes) a.rules a.pos a.kind a.offset (fitting)
+    sym (target-withheld a.image.now (stretches_in a.s.now) (bytes (goal.at.returns-then-not-is_apart c).Else-passes) a.rules a.pos a.kind a.offset (fitting)
     (windowed ∙ c.if-not-is_apart.true))
 
 pub overflow_add-pos : goal.overflow_add-pos
@@ -33,13 +37,12 @@ overflow_add-pos c =
 
 pub returns : goal.returns
 returns c =
-    let bytes : Bytes c.args.image.now = λ k. omega (arith, c.shared_slice_known-1.given k) in
     let passing : ltb (length c.args.image.now) (c.args.pos + reads c.args.kind) ≡ c.passes.result = let a = c.args in ap (λ w. ltb (length a.image.now) (a.pos + w)) (sym c.width-n.ensures) ∙ sym c.passes.ensures in
     let fitting : c.args.pos + reads c.args.kind ≤ length c.args.image.now = let a = c.args in ltb-false (length a.image.now) (a.pos + reads a.kind) (passing ∙ c.if-passes.false) in
     let windowed : is_apart (stretches_in c.args.s.now) c.args.pos (reads c.args.kind) ≡ c.is_apart.result = let a = c.args in ap (is_apart (stretches_in a.s.now) a.pos) (sym c.width-n.ensures) ∙ sym c.is_apart.ensures in
     let a = c.args in
     ap At c.counted.ensures
-    ∙ target_at a.image.now (stretches_in a.s.now) (bytes) a.rules a.pos a.offset a.kind
+    ∙ target_at a.image.now (stretches_in a.s.now) (bytes (goal.at.returns c).Else-passes) a.rules a.pos a.offset a.kind
     c.byte_at-a.result c.byte_at-b.result c.leads_to-led.result c.wrapping_sub_u64-t.result
     (fitting) (windowed ∙ c.if-not-is_apart.false)
     c.byte_at-a.ensures c.byte_at-b.ensures c.leads_to-led.ensures (omega arith) (omega (arith, c.ranges.offset)) c.wrapping_sub_u64-t.ensures.value

@@ -10,56 +10,56 @@ use Rattle.run.specs.Run.{other_edition, cover}
 use Rattle.libfind.specs.Begin.{refusal_in}
 use Rattle.libfind.specs.BeginLaws.{refused-1, refused-30, refused-17, refused-own, refused-3, refused-16, refused-4, is-accepted}
 use Rattle.libfind.proofs.begin.check.Goals as goal
+use Rattle.libfind.proofs.begin.check.Goals.{Else-settings-gt1}
+
+rules-fine : (c : Else-settings-gt1) → c.args.settings.rules ≤ 1
+rules-fine c =
+    omega (arith, c.if-settings-gt1.false)
 
 pub returns-then-settings-gt1 : goal.returns-then-settings-gt1
 returns-then-settings-gt1 c =
-    let a = c.args in refused-1 (refusal_in a.own) a.size a.library a.settings (omega (arith, c.if-settings-gt1.true))
+    let a = c.args in
+    refused-1 (refusal_in a.own) a.size a.library a.settings (omega (arith, c.if-settings-gt1.true))
 
 pub returns-then-is_other_edition : goal.returns-then-is_other_edition
 returns-then-is_other_edition c =
-    let rules-fine : c.args.settings.rules ≤ 1 = omega (arith, c.if-settings-gt1.false) in
     let a = c.args in
-    refused-30 (refusal_in a.own) a.size a.library a.settings (rules-fine) (sym c.is_other_edition.ensures ∙ c.if-is_other_edition.true)
+    refused-30 (refusal_in a.own) a.size a.library a.settings (rules-fine (goal.at.returns-then-is_other_edition c).Else-settings-gt1) (sym c.is_other_edition.ensures ∙ c.if-is_other_edition.true)
 
 pub returns-then-settings-gt-DEEPEST : goal.returns-then-settings-gt-DEEPEST
 returns-then-settings-gt-DEEPEST c =
-    let rules-fine : c.args.settings.rules ≤ 1 = omega (arith, c.if-settings-gt1.false) in
     let edition-fine : other_edition c.args.settings.edition ≡ false = sym c.is_other_edition.ensures ∙ c.if-is_other_edition.false in
     let a = c.args in
-    refused-17 (refusal_in a.own) a.size a.library a.settings (rules-fine) (edition-fine) (omega (arith, c.if-settings-gt-DEEPEST.true))
+    refused-17 (refusal_in a.own) a.size a.library a.settings (rules-fine (goal.at.returns-then-settings-gt-DEEPEST c).Else-settings-gt1) (edition-fine) (omega (arith, c.if-settings-gt-DEEPEST.true))
 
 pub returns-in_default : goal.returns-in_default
 returns-in_default c =
-    let rules-fine : c.args.settings.rules ≤ 1 = omega (arith, c.if-settings-gt1.false) in
     let edition-fine : other_edition c.args.settings.edition ≡ false = sym c.is_other_edition.ensures ∙ c.if-is_other_edition.false in
     let depth-fine : c.args.settings.depth ≤ 4 = omega (arith, c.if-settings-gt-DEEPEST.false) in
     let a = c.args in
     c.in_default.is
-    ∙ refused-own (refusal_in a.own) a.size a.library a.settings (rules-fine) (edition-fine) (depth-fine) (ap refusal_in c.in_default.is)
+    ∙ refused-own (refusal_in a.own) a.size a.library a.settings (rules-fine (goal.at.returns-in_default c).Else-settings-gt1) (edition-fine) (depth-fine) (ap refusal_in c.in_default.is)
 
 pub returns-then-library-gt-LONGEST_LIBRARY : goal.returns-then-library-gt-LONGEST_LIBRARY
 returns-then-library-gt-LONGEST_LIBRARY c =
-    let rules-fine : c.args.settings.rules ≤ 1 = omega (arith, c.if-settings-gt1.false) in
     let edition-fine : other_edition c.args.settings.edition ≡ false = sym c.is_other_edition.ensures ∙ c.if-is_other_edition.false in
     let depth-fine : c.args.settings.depth ≤ 4 = omega (arith, c.if-settings-gt-DEEPEST.false) in
     let own-fine : refusal_in c.args.own ≡ none = ap refusal_in c.in-Accepted.is in
     let a = c.args in
-    refused-3 (refusal_in a.own) a.size a.library a.settings (rules-fine) (edition-fine) (depth-fine) (own-fine) (omega (arith, c.if-library-gt-LONGEST_LIBRARY.true))
+    refused-3 (refusal_in a.own) a.size a.library a.settings (rules-fine (goal.at.returns-then-library-gt-LONGEST_LIBRARY c).Else-settings-gt1) (edition-fine) (depth-fine) (own-fine) (omega (arith, c.if-library-gt-LONGEST_LIBRARY.true))
 
 pub returns-then-withheld-gt-MOST_STRETCHES : goal.returns-then-withheld-gt-MOST_STRETCHES
 returns-then-withheld-gt-MOST_STRETCHES c =
-    let rules-fine : c.args.settings.rules ≤ 1 = omega (arith, c.if-settings-gt1.false) in
     let edition-fine : other_edition c.args.settings.edition ≡ false = sym c.is_other_edition.ensures ∙ c.if-is_other_edition.false in
     let depth-fine : c.args.settings.depth ≤ 4 = omega (arith, c.if-settings-gt-DEEPEST.false) in
     let own-fine : refusal_in c.args.own ≡ none = ap refusal_in c.in-Accepted.is in
     let library-fine : c.args.library ≤ 1048576 = omega (arith, c.if-library-gt-LONGEST_LIBRARY.false) in
     let a = c.args in
-    refused-16 (refusal_in a.own) a.size a.library a.settings (rules-fine) (edition-fine) (depth-fine)
+    refused-16 (refusal_in a.own) a.size a.library a.settings (rules-fine (goal.at.returns-then-withheld-gt-MOST_STRETCHES c).Else-settings-gt1) (edition-fine) (depth-fine)
     (own-fine) (library-fine) (omega (arith, c.if-withheld-gt-MOST_STRETCHES.true))
 
 pub returns-then-passes_end : goal.returns-then-passes_end
 returns-then-passes_end c =
-    let rules-fine : c.args.settings.rules ≤ 1 = omega (arith, c.if-settings-gt1.false) in
     let edition-fine : other_edition c.args.settings.edition ≡ false = sym c.is_other_edition.ensures ∙ c.if-is_other_edition.false in
     let depth-fine : c.args.settings.depth ≤ 4 = omega (arith, c.if-settings-gt-DEEPEST.false) in
     let own-fine : refusal_in c.args.own ≡ none = ap refusal_in c.in-Accepted.is in
@@ -67,12 +67,11 @@ returns-then-passes_end c =
     let passing : let a = c.args in c.passes_end.result ≡ passes_end a.size (cover a.settings) = let a = c.args in
     c.passes_end.ensures ∙ ap (λ pairs. passes_end a.size (stretches_in pairs)) c.first_pairs.ensures in
     let a = c.args in
-    refused-4 (refusal_in a.own) a.size a.library a.settings (rules-fine) (edition-fine) (depth-fine) (own-fine) (library-fine)
+    refused-4 (refusal_in a.own) a.size a.library a.settings (rules-fine (goal.at.returns-then-passes_end c).Else-settings-gt1) (edition-fine) (depth-fine) (own-fine) (library-fine)
     (omega (arith, c.if-withheld-gt-MOST_STRETCHES.false)) (sym (passing) ∙ c.if-passes_end.true)
 
 pub returns : goal.returns
 returns c =
-    let rules-fine : c.args.settings.rules ≤ 1 = omega (arith, c.if-settings-gt1.false) in
     let edition-fine : other_edition c.args.settings.edition ≡ false = sym c.is_other_edition.ensures ∙ c.if-is_other_edition.false in
     let depth-fine : c.args.settings.depth ≤ 4 = omega (arith, c.if-settings-gt-DEEPEST.false) in
     let own-fine : refusal_in c.args.own ≡ none = ap refusal_in c.in-Accepted.is in
@@ -80,5 +79,5 @@ returns c =
     let passing : let a = c.args in c.passes_end.result ≡ passes_end a.size (cover a.settings) = let a = c.args in
     c.passes_end.ensures ∙ ap (λ pairs. passes_end a.size (stretches_in pairs)) c.first_pairs.ensures in
     let a = c.args in
-    is-accepted (refusal_in a.own) a.size a.library a.settings (rules-fine) (edition-fine) (depth-fine) (own-fine) (library-fine)
+    is-accepted (refusal_in a.own) a.size a.library a.settings (rules-fine (goal.at.returns c).Else-settings-gt1) (edition-fine) (depth-fine) (own-fine) (library-fine)
     (omega (arith, c.if-withheld-gt-MOST_STRETCHES.false)) (sym (passing) ∙ c.if-passes_end.false)

@@ -10,6 +10,11 @@ use Rattle.module_ids.specs.fault.Faults.{verdict_of, fixup_fault}
 use Rattle.module_ids.specs.fault.Scan.{one_fault, fixups_fault}
 use Rattle.module_ids.proofs.fault.ScanLaws.{refused-first, passed_first, none_first, told}
 use Rattle.module_ids.proofs.scan.fixups_fault.Goals as goal
+use Rattle.module_ids.proofs.scan.fixups_fault.Goals.{After-id_row}
+
+yields : (c : After-id_row) → fixups_left c.args.library.now c.loop-fixup.c ≡ c.in-Item.fixup ∷ fixups_left c.args.library.now c.in-Item.rest
+yields c =
+    let a = c.args in next-fixup-yields a.library.now c.loop-fixup.c ∙ ap (fixups_after a.library.now) (sym c.next_fixup.ensures ∙ c.in-Item.is)
 
 pub loop-fixup-init : goal.loop-fixup-init
 loop-fixup-init c =
@@ -17,31 +22,25 @@ loop-fixup-init c =
 
 pub returns-in-Refused : goal.returns-in-Refused
 returns-in-Refused c =
-    let yields : fixups_left c.args.library.now c.loop-fixup.c ≡ c.in-Item.fixup ∷ fixups_left c.args.library.now c.in-Item.rest = let a = c.args in
-    next-fixup-yields a.library.now c.loop-fixup.c ∙ ap (fixups_after a.library.now) (sym c.next_fixup.ensures ∙ c.in-Item.is) in
     let verdict : (v : Verdict) → c.fixup_fault-verdict.result ≡ v → (ds : List Definition) → Tells ds c.args.table.now → verdict_of (one_fault ds c.in-Item.fixup) ≡ v = λ _ e ds t. let f = c.in-Item.fixup in
     ap (λ r. verdict_of (fixup_fault r f)) (sym (c.id_row.ensures.0 ∙ t.rows f.id c.id_row.ensures.1)) ∙ sym c.fixup_fault-verdict.ensures ∙ e in
     λ ds t.
     ap verdict_of (sym (refused-first (one_fault ds) c.in-Item.fixup
     (fixups_left c.args.library.now c.in-Item.rest)
-    (told (verdict _ c.in-Refused.is ds t))) ∙ ap (fixups_fault ds) (sym (yields)) ∙ c.loop-fixup.invariant ds t)
+    (told (verdict _ c.in-Refused.is ds t))) ∙ ap (fixups_fault ds) (sym (yields (goal.at.returns-in-Refused c).After-id_row)) ∙ c.loop-fixup.invariant ds t)
 
 pub loop-fixup-smaller : goal.loop-fixup-smaller
 loop-fixup-smaller c =
-    let yields : fixups_left c.args.library.now c.loop-fixup.c ≡ c.in-Item.fixup ∷ fixups_left c.args.library.now c.in-Item.rest = let a = c.args in
-    next-fixup-yields a.library.now c.loop-fixup.c ∙ ap (fixups_after a.library.now) (sym c.next_fixup.ensures ∙ c.in-Item.is) in
-    rw (yields) (omega arith)
+    rw (yields (goal.at.loop-fixup-smaller c).After-id_row) (omega arith)
 
 pub loop-fixup-preserved : goal.loop-fixup-preserved
 loop-fixup-preserved c =
-    let yields : fixups_left c.args.library.now c.loop-fixup.c ≡ c.in-Item.fixup ∷ fixups_left c.args.library.now c.in-Item.rest = let a = c.args in
-    next-fixup-yields a.library.now c.loop-fixup.c ∙ ap (fixups_after a.library.now) (sym c.next_fixup.ensures ∙ c.in-Item.is) in
     let verdict : (v : Verdict) → c.fixup_fault-verdict.result ≡ v → (ds : List Definition) → Tells ds c.args.table.now → verdict_of (one_fault ds c.in-Item.fixup) ≡ v = λ _ e ds t. let f = c.in-Item.fixup in
     ap (λ r. verdict_of (fixup_fault r f)) (sym (c.id_row.ensures.0 ∙ t.rows f.id c.id_row.ensures.1)) ∙ sym c.fixup_fault-verdict.ensures ∙ e in
     λ ds t.
     sym (passed_first (one_fault ds) c.in-Item.fixup
     (fixups_left c.args.library.now c.in-Item.rest)
-    (told (verdict _ c.in_default.is ds t))) ∙ ap (fixups_fault ds) (sym (yields)) ∙ c.loop-fixup.invariant ds t
+    (told (verdict _ c.in_default.is ds t))) ∙ ap (fixups_fault ds) (sym (yields (goal.at.loop-fixup-preserved c).After-id_row)) ∙ c.loop-fixup.invariant ds t
 
 pub returns-in-Done : goal.returns-in-Done
 returns-in-Done c =

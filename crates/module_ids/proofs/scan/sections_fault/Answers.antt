@@ -8,7 +8,20 @@ use Rattle.module_ids.specs.fault.Scan.{section_fault, sections_fault, section_w
 use Rattle.module_ids.specs.fault.Faults.{verdict_of}
 use Rattle.module_ids.proofs.fault.ScanLaws.{refused-first, passed_first, none_first, told}
 use Rattle.module_ids.proofs.scan.sections_fault.Goals as goal
+use Rattle.module_ids.proofs.scan.sections_fault.Goals.{In-Item}
 use Rattle.module_ids.proofs.scan.sections_fault.Invariants.{left}
+
+abbrev section : (c : In-Item) → Section
+section c =
+    section_with c.in-Item.content (fixups_left c.args.library.now c.in-Item.fixups)
+
+abbrev rest : (c : In-Item) → List Section
+rest c =
+    left c.args.library.now c.in-Item.rest
+
+yields : (c : In-Item) → left c.args.library.now c.loop-content.at ≡ (section c) ∷ (rest c)
+yields c =
+    let lib = c.args.library.now in next-content-yields lib c.loop-content.at ∙ ap (sections_after lib) (sym c.next_content.ensures ∙ c.in-Item.is)
 
 pub loop-content-init : goal.loop-content-init
 loop-content-init c =
@@ -16,31 +29,19 @@ loop-content-init c =
 
 pub returns-in-Refused : goal.returns-in-Refused
 returns-in-Refused c =
-    let section : Section = section_with c.in-Item.content (fixups_left c.args.library.now c.in-Item.fixups) in
-    let rest : List Section = left c.args.library.now c.in-Item.rest in
-    let yields : left c.args.library.now c.loop-content.at ≡ section ∷ rest = let lib = c.args.library.now in
-    next-content-yields lib c.loop-content.at ∙ ap (sections_after lib) (sym c.next_content.ensures ∙ c.in-Item.is) in
     λ ds t.
-    ap verdict_of (sym (refused-first (section_fault ds) (section) (rest)
-    (told (sym (c.section_fault-verdict.ensures ds t) ∙ c.in-Refused.is))) ∙ ap (sections_fault ds) (sym (yields)) ∙ c.loop-content.invariant ds t)
+    ap verdict_of (sym (refused-first (section_fault ds) (section (goal.at.returns-in-Refused c).In-Item) (rest (goal.at.returns-in-Refused c).In-Item)
+    (told (sym (c.section_fault-verdict.ensures ds t) ∙ c.in-Refused.is))) ∙ ap (sections_fault ds) (sym (yields (goal.at.returns-in-Refused c).In-Item)) ∙ c.loop-content.invariant ds t)
 
 pub loop-content-smaller : goal.loop-content-smaller
 loop-content-smaller c =
-    let section : Section = section_with c.in-Item.content (fixups_left c.args.library.now c.in-Item.fixups) in
-    let rest : List Section = left c.args.library.now c.in-Item.rest in
-    let yields : left c.args.library.now c.loop-content.at ≡ section ∷ rest = let lib = c.args.library.now in
-    next-content-yields lib c.loop-content.at ∙ ap (sections_after lib) (sym c.next_content.ensures ∙ c.in-Item.is) in
-    rw (yields) (omega arith)
+    rw (yields (goal.at.loop-content-smaller c).In-Item) (omega arith)
 
 pub loop-content-preserved : goal.loop-content-preserved
 loop-content-preserved c =
-    let section : Section = section_with c.in-Item.content (fixups_left c.args.library.now c.in-Item.fixups) in
-    let rest : List Section = left c.args.library.now c.in-Item.rest in
-    let yields : left c.args.library.now c.loop-content.at ≡ section ∷ rest = let lib = c.args.library.now in
-    next-content-yields lib c.loop-content.at ∙ ap (sections_after lib) (sym c.next_content.ensures ∙ c.in-Item.is) in
     λ ds t.
-    sym (passed_first (section_fault ds) (section) (rest)
-    (told (sym (c.section_fault-verdict.ensures ds t) ∙ c.in_default.is))) ∙ ap (sections_fault ds) (sym (yields)) ∙ c.loop-content.invariant ds t
+    sym (passed_first (section_fault ds) (section (goal.at.loop-content-preserved c).In-Item) (rest (goal.at.loop-content-preserved c).In-Item)
+    (told (sym (c.section_fault-verdict.ensures ds t) ∙ c.in_default.is))) ∙ ap (sections_fault ds) (sym (yields (goal.at.loop-content-preserved c).In-Item)) ∙ c.loop-content.invariant ds t
 
 pub returns-in-Done : goal.returns-in-Done
 returns-in-Done c =

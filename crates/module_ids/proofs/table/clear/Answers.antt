@@ -9,6 +9,11 @@ use Rattle.library.specs.items.Left.{definitions_left}
 use Rattle.library.specs.items.Yields.{definitions_after, next-definition-yields, definitions-start}
 use Rattle.module_ids.proofs.ClearLaws.{Clearing, clearing-starts, none-small, clearing-step, cleared}
 use Rattle.module_ids.proofs.table.clear.Goals as goal
+use Rattle.module_ids.proofs.table.clear.Goals.{After-no_row}
+
+yields : (c : After-no_row) → definitions_left c.args.library.now c.loop-definition.c ≡ c.in-Item.definition ∷ definitions_left c.args.library.now c.in-Item.rest
+yields c =
+    let a = c.args in next-definition-yields a.library.now c.loop-definition.c ∙ ap (definitions_after a.library.now) (sym c.next_definition.ensures ∙ c.in-Item.is)
 
 pub loop-definition-init : goal.loop-definition-init
 loop-definition-init c =
@@ -21,16 +26,10 @@ put_id-requires c =
 
 pub loop-definition-smaller : goal.loop-definition-smaller
 loop-definition-smaller c =
-    let yields : definitions_left c.args.library.now c.loop-definition.c ≡ c.in-Item.definition ∷ definitions_left c.args.library.now c.in-Item.rest = let a = c.args in
-    next-definition-yields a.library.now c.loop-definition.c ∙ ap (definitions_after a.library.now)
-    (sym c.next_definition.ensures ∙ c.in-Item.is) in
-    rw (yields) (omega arith)
+    rw (yields (goal.at.loop-definition-smaller c).After-no_row) (omega arith)
 
 pub loop-definition-preserved : goal.loop-definition-preserved
 loop-definition-preserved c =
-    let yields : definitions_left c.args.library.now c.loop-definition.c ≡ c.in-Item.definition ∷ definitions_left c.args.library.now c.in-Item.rest = let a = c.args in
-    next-definition-yields a.library.now c.loop-definition.c ∙ ap (definitions_after a.library.now)
-    (sym c.next_definition.ensures ∙ c.in-Item.is) in
     let l = c.loop-definition in
     let d = c.in-Item.definition in
     let i = c.id_of.ensures in
@@ -38,7 +37,7 @@ loop-definition-preserved c =
     record {
       long = ap length e ∙ put-length 3 l.table _ _ ∙ l.invariant.long;
       clearing = rw (e, c.no_row.ensures, i.0)
-          (clearing-step d _ l.table (subst (λ (x : ModuleId). x.0 < 65536) i.0 i.1) (rw (yields) at l.invariant.clearing));
+          (clearing-step d _ l.table (subst (λ (x : ModuleId). x.0 < 65536) i.0 i.1) (rw (yields (goal.at.loop-definition-preserved c).After-no_row) at l.invariant.clearing));
     }
 
 pub returns-in-Done : goal.returns-in-Done

@@ -10,6 +10,11 @@ use Rattle.library.specs.items.EntrySizeLaws.{definition-says}
 use Rattle.module_ids.proofs.IdRowLaws.{changed-small}
 use Rattle.module_ids.proofs.NotedLaws.{noted, kept_more, kept_step, none_kept, all_noted, note-length}
 use Rattle.module_ids.proofs.table.fill.Goals as goal
+use Rattle.module_ids.proofs.table.fill.Goals.{After-kept_after-n}
+
+yields : (c : After-kept_after-n) → definitions_left c.args.library.now c.loop-definition.c ≡ c.in-Item.definition ∷ definitions_left c.args.library.now c.in-Item.rest
+yields c =
+    let a = c.args in next-definition-yields a.library.now c.loop-definition.c ∙ ap (definitions_after a.library.now) (sym c.next_definition.ensures ∙ c.in-Item.is)
 
 pub loop-definition-init : goal.loop-definition-init
 loop-definition-init c =
@@ -45,19 +50,12 @@ kept_after-n-requires c =
 
 pub loop-definition-smaller : goal.loop-definition-smaller
 loop-definition-smaller c =
-    let yields : definitions_left c.args.library.now c.loop-definition.c ≡ c.in-Item.definition ∷ definitions_left c.args.library.now c.in-Item.rest = let a = c.args in
-    next-definition-yields a.library.now c.loop-definition.c ∙ ap (definitions_after a.library.now)
-    (sym c.next_definition.ensures ∙ c.in-Item.is) in
-    rw (yields) (omega arith)
+    rw (yields c) (omega arith)
 
 pub loop-definition-preserved : goal.loop-definition-preserved
 loop-definition-preserved c =
-    let yields : definitions_left c.args.library.now c.loop-definition.c ≡ c.in-Item.definition ∷ definitions_left c.args.library.now c.in-Item.rest = let a = c.args in
-    next-definition-yields a.library.now c.loop-definition.c ∙ ap (definitions_after a.library.now)
-    (sym c.next_definition.ensures ∙ c.in-Item.is) in
     let goes : Forward c.args.library.now c.loop-definition.c c.in-Item.rest = definition-goes c.args.library.now c.loop-definition.c c.loop-definition.invariant.ordered
     (sym c.next_definition.ensures ∙ c.in-Item.is) in
-    let a = c.args in
     let i = c.loop-definition.invariant in
     let d = c.in-Item.definition in
     let f = goes in
@@ -65,7 +63,7 @@ loop-definition-preserved c =
       long = ap length c.note.ensures.0 ∙ note-length
           c.loop-definition.table c.loop-definition.n d ∙ i.long;
       done = i.done ++ one d;
-      whole = append_assoc i.done (one d) _ ∙ ap (λ xs. i.done ++ xs) (sym (yields)) ∙ i.whole;
+      whole = append_assoc i.done (one d) _ ∙ ap (λ xs. i.done ++ xs) (sym (yields c)) ∙ i.whole;
       tells = rw (c.note.ensures.0, i.number)
           (noted i.done _ d i.tells c.note.ensures.1 (rw i.number at c.note.ensures.2));
       number = c.kept_after-n.ensures ∙ rw i.number (sym (kept_more i.done d));

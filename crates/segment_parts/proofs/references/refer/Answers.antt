@@ -10,6 +10,11 @@ use Rattle.segments.specs.SegmentLayouts.{reference_layout}
 use Rattle.segment_parts.specs.AddedReferences.{leaves_in}
 use Rattle.segment_parts.specs.AddedReferenceLaws.{refer-on}
 use Rattle.segment_parts.proofs.references.refer.Goals as goal
+use Rattle.segment_parts.proofs.references.refer.Goals.{After-id_row-row}
+
+yields : (c : After-id_row-row) → fixups_left c.args.library.now c.loop-fixup.c ≡ c.in-Item.fixup ∷ fixups_left c.args.library.now c.in-Item.rest
+yields c =
+    let lib = c.args.library.now in next-fixup-yields lib c.loop-fixup.c ∙ ap (fixups_after lib) (sym c.next_fixup.ensures ∙ c.in-Item.is)
 
 pub loop-fixup-init : goal.loop-fixup-init
 loop-fixup-init c =
@@ -25,20 +30,16 @@ reference_of-leaves-requires c =
 
 pub loop-fixup-smaller : goal.loop-fixup-smaller
 loop-fixup-smaller c =
-    let yields : fixups_left c.args.library.now c.loop-fixup.c ≡ c.in-Item.fixup ∷ fixups_left c.args.library.now c.in-Item.rest = let lib = c.args.library.now in next-fixup-yields lib c.loop-fixup.c ∙ ap (fixups_after lib)
-    (sym c.next_fixup.ensures ∙ c.in-Item.is) in
-    rw (yields) (omega arith)
+    rw (yields (goal.at.loop-fixup-smaller c).After-id_row-row) (omega arith)
 
 pub loop-fixup-preserved : goal.loop-fixup-preserved
 loop-fixup-preserved c =
-    let yields : fixups_left c.args.library.now c.loop-fixup.c ≡ c.in-Item.fixup ∷ fixups_left c.args.library.now c.in-Item.rest = let lib = c.args.library.now in next-fixup-yields lib c.loop-fixup.c ∙ ap (fixups_after lib)
-    (sym c.next_fixup.ensures ∙ c.in-Item.is) in
     let a = c.args in
     let l = c.loop-fixup in
     record {
       long = c.append_left-f.ensures.1 ∙ l.invariant.long;
       leads = λ ds t. refer-on ds a.table.now a.number a.base c.in-Item.fixup t c.id_row-row.ensures
-          (yields) c.reference_of-leaves.ensures c.append_left-f.ensures.0 (l.invariant.leads ds t);
+          (yields (goal.at.loop-fixup-preserved c).After-id_row-row) c.reference_of-leaves.ensures c.append_left-f.ensures.0 (l.invariant.leads ds t);
     }
 
 pub returns-in-Done : goal.returns-in-Done

@@ -2,10 +2,24 @@ use Rattle.std.proofs.Common.{◌≡◌, ◌+◌, ◌-◌, ◌*◌, ◌<◌, ◌
 use Rattle.lent.specs.RowLaws.{row_fits}
 use Rattle.tables.specs.by_name.TagLaws.{pass-first, stop-first, stop-here, pass_on, stop-end}
 use Rattle.tables.proofs.by_name.pass.Goals as goal
+use Rattle.tables.proofs.by_name.pass.Goals.{At-loop-width}
+
+wide : (c : At-loop-width) → 3 ≤ c.args.width
+wide c =
+    c.requires.0.wide (omega (arith, c.loop-width.invariant.near))
+
+whole : (c : At-loop-width) → let a = c.args in c.loop-width.i * a.width + a.width ≤ length a.m.now
+whole c =
+    let a = c.args in row_fits (length a.m.now) a.width c.loop-width.i (omega (arith, wide c)) (omega (arith, c.loop-width.invariant.near, c.requires.0.whole))
+
+linked : (c : At-loop-width) → let a = c.args in c.loop-width.i * a.width < length a.links.now
+linked c =
+    let a = c.args in omega (arith, whole c, wide c, ap length c.requires.1 ∙ length-drop (a.width - 1) a.m.now)
 
 pub returns-then-link-eq0 : goal.returns-then-link-eq0
 returns-then-link-eq0 c =
-    let a = c.args in stop-first a.width a.m.now a.key a.wanted a.link c.if-link-eq0.true
+    let a = c.args in
+    stop-first a.width a.m.now a.key a.wanted a.link c.if-link-eq0.true
 
 pub loop-width-init : goal.loop-width-init
 loop-width-init c =
@@ -15,17 +29,11 @@ loop-width-init c =
 
 pub overflow_mul-at : goal.overflow_mul-at
 overflow_mul-at c =
-    let wide : 3 ≤ c.args.width = c.requires.0.wide (omega (arith, c.loop-width.invariant.near)) in
-    let whole : let a = c.args in c.loop-width.i * a.width + a.width ≤ length a.m.now = let a = c.args in
-    row_fits (length a.m.now) a.width c.loop-width.i (omega (arith, wide)) (omega (arith, c.loop-width.invariant.near, c.requires.0.whole)) in
-    omega (arith, whole, c.well_formed)
+    omega (arith, whole c, c.well_formed)
 
 pub may_be-requires : goal.may_be-requires
 may_be-requires c =
-    let wide : 3 ≤ c.args.width = c.requires.0.wide (omega (arith, c.loop-width.invariant.near)) in
-    let whole : let a = c.args in c.loop-width.i * a.width + a.width ≤ length a.m.now = let a = c.args in
-    row_fits (length a.m.now) a.width c.loop-width.i (omega (arith, wide)) (omega (arith, c.loop-width.invariant.near, c.requires.0.whole)) in
-    omega (arith, whole, wide)
+    omega (arith, whole c, wide c)
 
 pub overflow_add-result : goal.overflow_add-result
 overflow_add-result c =
@@ -38,29 +46,16 @@ returns-then-may_be c =
 
 pub offset_bounds-links-at : goal.offset_bounds-links-at
 offset_bounds-links-at c =
-    let wide : 3 ≤ c.args.width = c.requires.0.wide (omega (arith, c.loop-width.invariant.near)) in
-    let whole : let a = c.args in c.loop-width.i * a.width + a.width ≤ length a.m.now = let a = c.args in
-    row_fits (length a.m.now) a.width c.loop-width.i (omega (arith, wide)) (omega (arith, c.loop-width.invariant.near, c.requires.0.whole)) in
-    let linked : let a = c.args in c.loop-width.i * a.width < length a.links.now = let a = c.args in
-    omega (arith, whole, wide, ap length c.requires.1 ∙ length-drop (a.width - 1) a.m.now) in
-    omega (arith, linked, c.well_formed)
+    omega (arith, linked (goal.at.offset_bounds-links-at c).At-loop-width, c.well_formed)
 
 pub bounds-links-at : goal.bounds-links-at
 bounds-links-at c =
-    let wide : 3 ≤ c.args.width = c.requires.0.wide (omega (arith, c.loop-width.invariant.near)) in
-    let whole : let a = c.args in c.loop-width.i * a.width + a.width ≤ length a.m.now = let a = c.args in
-    row_fits (length a.m.now) a.width c.loop-width.i (omega (arith, wide)) (omega (arith, c.loop-width.invariant.near, c.requires.0.whole)) in
-    let linked : let a = c.args in c.loop-width.i * a.width < length a.links.now = let a = c.args in
-    omega (arith, whole, wide, ap length c.requires.1 ∙ length-drop (a.width - 1) a.m.now) in
-    omega (arith, linked)
+    omega (arith, linked (goal.at.bounds-links-at c).At-loop-width)
 
 pub returns-then-i-before : goal.returns-then-i-before
 returns-then-i-before c =
-    let wide : 3 ≤ c.args.width = c.requires.0.wide (omega (arith, c.loop-width.invariant.near)) in
-    let whole : let a = c.args in c.loop-width.i * a.width + a.width ≤ length a.m.now = let a = c.args in
-    row_fits (length a.m.now) a.width c.loop-width.i (omega (arith, wide)) (omega (arith, c.loop-width.invariant.near, c.requires.0.whole)) in
     let a = c.args in
-    stop-end a.width a.m.now a.key a.wanted a.link c.requires.1 c.loop-width.i c.loop-width.invariant (wide) (whole)
+    stop-end a.width a.m.now a.key a.wanted a.link c.requires.1 c.loop-width.i c.loop-width.invariant (wide (goal.at.returns-then-i-before c).At-loop-width) (whole (goal.at.returns-then-i-before c).At-loop-width)
     (sym c.may_be.ensures ∙ c.if-may_be.false)
     (λ less. omega (arith, less, c.wrapping_sub_usize-before.ensures.value, c.if-i-before.true, c.wrapping_sub_usize-before.type_inv))
 
@@ -70,11 +65,8 @@ loop-width-smaller c =
 
 pub loop-width-preserved : goal.loop-width-preserved
 loop-width-preserved c =
-    let wide : 3 ≤ c.args.width = c.requires.0.wide (omega (arith, c.loop-width.invariant.near)) in
-    let whole : let a = c.args in c.loop-width.i * a.width + a.width ≤ length a.m.now = let a = c.args in
-    row_fits (length a.m.now) a.width c.loop-width.i (omega (arith, wide)) (omega (arith, c.loop-width.invariant.near, c.requires.0.whole)) in
     let a = c.args in
-    pass_on a.width a.m.now a.key a.wanted a.link c.requires.1 c.loop-width.i c.loop-width.invariant (wide) (whole)
+    pass_on a.width a.m.now a.key a.wanted a.link c.requires.1 c.loop-width.i c.loop-width.invariant (wide (goal.at.loop-width-preserved c).At-loop-width) (whole (goal.at.loop-width-preserved c).At-loop-width)
     (sym c.may_be.ensures ∙ c.if-may_be.false)
     (c.wrapping_sub_usize-before.result + 1)
     (omega (arith, c.wrapping_sub_usize-before.ensures.value, c.if-i-before.false, c.loop-width.invariant.near, c.ranges.link))

@@ -15,11 +15,16 @@ use Rattle.collect.specs.stored.ProgressLaws.{same-lengths, lengths-on}
 use Rattle.collect.specs.stored.Segments.{lists, own_by}
 use Rattle.collect.specs.all_modules.AllLaws.{Collecting, collecting-starts, collecting-on, collecting-lacks, collecting-ends, stored-few}
 use Rattle.collect.proofs.all_modules.all.store_all.Goals as goal
+use Rattle.collect.proofs.all_modules.all.store_all.Goals.{At-loop-module}
 
 ends : (r : ModuleAt) → ((p : Places) → r ≡ Whole p → ⊥) → Ended r
 ends (Whole p) never = absurd (never p refl)
 ends Stop never = tt
 ends (Refused r) never = tt
+
+abbrev held : (c : At-loop-module) → CollectLists
+held c =
+    let l = c.loop-module in lists l.segments l.references l.symbols l.bytes l.masks
 
 pub loop-module-init : goal.loop-module-init
 loop-module-init c =
@@ -65,8 +70,6 @@ store_module-stored-requires c =
 pub returns-in_default-stored : goal.returns-in_default-stored
 returns-in_default-stored c =
     let stands : places_at c.args.library.now c.loop-module.at ≡ places_read (Whole c.in-Whole.module) = sym c.module_at.ensures ∙ ap places_read c.in-Whole.is in
-    let held : CollectLists = let l = c.loop-module in
-    lists l.segments l.references l.symbols l.bytes l.masks in
     let left : CollectLists = let s = c.store_module-stored in
     lists s.new.segments s.new.references s.new.symbols
     s.new.bytes s.new.masks in
@@ -80,7 +83,7 @@ returns-in_default-stored c =
     record {
       tells = s.ensures.tells;
       long = lengths-on i.long s.ensures.long;
-      stored = collecting-lacks a.rules lib (items_at lib (module_at lib) a.from) (held) (left) l.c s.result (module_of One lib p)
+      stored = collecting-lacks a.rules lib (items_at lib (module_at lib) a.from) (held (goal.at.returns-in_default-stored c).At-loop-module) (left) l.c s.result (module_of One lib p)
           (modules-step One lib l.at (stands)) (i.collecting a.rules o) (s.ensures.extends a.rules o) c.in_default-stored.is;
     }
 
@@ -92,8 +95,6 @@ loop-module-smaller c =
 pub loop-module-preserved : goal.loop-module-preserved
 loop-module-preserved c =
     let stands : places_at c.args.library.now c.loop-module.at ≡ places_read (Whole c.in-Whole.module) = sym c.module_at.ensures ∙ ap places_read c.in-Whole.is in
-    let held : CollectLists = let l = c.loop-module in
-    lists l.segments l.references l.symbols l.bytes l.masks in
     let left : CollectLists = let s = c.store_module-stored in
     lists s.new.segments s.new.references s.new.symbols
     s.new.bytes s.new.masks in
@@ -105,7 +106,7 @@ loop-module-preserved c =
     let p = c.in-Whole.module in
     let on : (rules : Rules) → c.is_own-own.result ≡ own_by rules → Collecting rules lib (items_at lib (module_at lib) a.from)
     (items_at lib (module_at lib) p.next) (left) c.in-Rows.more = λ rules o. collecting-on rules lib
-    (items_at lib (module_at lib) a.from) (held) (left) l.c s.result (module_of One lib p) (modules-step One lib l.at (stands))
+    (items_at lib (module_at lib) a.from) (held (goal.at.loop-module-preserved c).At-loop-module) (left) l.c s.result (module_of One lib p) (modules-step One lib l.at (stands))
     (i.collecting rules o) (s.ensures.extends rules o) c.in-Rows.is in (
       record {
         table-long = c.table-1.given ∙ l.invariant.0.table-long;

@@ -34,6 +34,18 @@ passes : (c : In-Read) → end_of (sections_at c.args.library.now c.loop-next.at
 passes c =
     sym c.section_end.ensures ∙ c.in-At.is
 
+abbrev frame : (c : In-Read) → Frame
+frame c =
+    c.in-Read.f
+
+framed : (c : In-Read) → expected c.args.library.now fills c.loop-next.at ≡ read (frame c) (((frame c)).end + 1)
+framed c =
+    sym c.record_at-framed.ensures ∙ ap frame_read c.in-Read.is
+
+fits : (c : In-Read) → Fits c.args.library.now c.loop-next.at (frame c) (((frame c)).end + 1)
+fits c =
+    read_fits c.args.library.now fills c.loop-next.at (framed c)
+
 pub loop-next-init : goal.loop-next-init
 loop-next-init c =
     record { count = suc (length c.args.library.now); enough = omega arith; same = refl }
@@ -46,26 +58,18 @@ returns-in_default c =
 
 pub content_of-content-requires : goal.content_of-content-requires
 content_of-content-requires c =
-    let frame : Frame = c.in-Read.f in
-    let framed : expected c.args.library.now fills c.loop-next.at ≡ read (frame) ((frame).end + 1) = sym c.record_at-framed.ensures ∙ ap frame_read c.in-Read.is in
-    let fits : Fits c.args.library.now c.loop-next.at (frame) ((frame).end + 1) = read_fits c.args.library.now fills c.loop-next.at (framed) in
-    ((section-passed c.args.library.now c.loop-next.at (framed) (passes (goal.at.content_of-content-requires c).In-Read)).room, omega (arith, fits))
+    ((section-passed c.args.library.now c.loop-next.at (framed c) (passes (goal.at.content_of-content-requires c).In-Read)).room, omega (arith, fits c))
 
 pub overflow_add-f : goal.overflow_add-f
 overflow_add-f c =
-    let frame : Frame = c.in-Read.f in
-    let framed : expected c.args.library.now fills c.loop-next.at ≡ read (frame) ((frame).end + 1) = sym c.record_at-framed.ensures ∙ ap frame_read c.in-Read.is in
-    let fits : Fits c.args.library.now c.loop-next.at (frame) ((frame).end + 1) = read_fits c.args.library.now fills c.loop-next.at (framed) in
-    omega (arith, fits)
+    omega (arith, fits (goal.at.overflow_add-f c).In-Read)
 
 pub returns-in-Read : goal.returns-in-Read
 returns-in-Read c =
-    let frame : Frame = c.in-Read.f in
-    let framed : expected c.args.library.now fills c.loop-next.at ≡ read (frame) ((frame).end + 1) = sym c.record_at-framed.ensures ∙ ap frame_read c.in-Read.is in
     let l = c.loop-next in
     rw (c.content_of-content.ensures, c.start-fixups.ensures)
     (sym (seek-item l.invariant.count c.args.library.now l.at (omega (arith, l.invariant.enough))
-    (passes (goal.at.returns-in-Read c).In-Read) (framed)) ∙ l.invariant.same)
+    (passes (goal.at.returns-in-Read c).In-Read) (framed (goal.at.returns-in-Read c).In-Read)) ∙ l.invariant.same)
 
 pub loop-next-smaller : goal.loop-next-smaller
 loop-next-smaller c =

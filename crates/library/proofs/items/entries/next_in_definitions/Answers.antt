@@ -14,11 +14,16 @@ use Rattle.library.specs.PassLaws.{record-moved}
 use Rattle.library.specs.items.Walk.{entry_in, next_entry}
 use Rattle.library.specs.items.WalkLaws.{step-item, step-done, next-record}
 use Rattle.library.proofs.items.entries.next_in_definitions.Goals as goal
+use Rattle.library.proofs.items.entries.next_in_definitions.Goals.{In_default}
 
 halts : (e : End) → ((k : ℕ) → e ≡ At k → ⊥) → Halts e
 halts (At k) never = absurd (never k refl)
 halts Stop never = tt
 halts (Refused r) never = tt
+
+no-entry : (c : In_default) → Halts (entry_in Definitions c.args.library.now c.args.from)
+no-entry c =
+    subst Halts c.entry_in-entry.ensures (halts c.entry_in-entry.result c.in_default.not-At)
 
 pub entered-c-requires : goal.entered-c-requires
 entered-c-requires c =
@@ -32,16 +37,14 @@ returns-in-At c =
 
 pub returns-in_default-record_end : goal.returns-in_default-record_end
 returns-in_default-record_end c =
-    let no-entry : Halts (entry_in Definitions c.args.library.now c.args.from) = subst Halts c.entry_in-entry.ensures (halts c.entry_in-entry.result c.in_default.not-At) in
     let a = c.args in
     let none = subst Halts c.record_end.ensures (halts c.record_end.result c.in_default-record_end.not-At) in
-    sym (step-done (suc (length a.library.now)) Definitions a.library.now a.from (omega arith) (no-entry) none)
+    sym (step-done (suc (length a.library.now)) Definitions a.library.now a.from (omega arith) (no-entry (goal.at.returns-in_default-record_end c).In_default) none)
 
 pub returns-in-At-first : goal.returns-in-At-first
 returns-in-At-first c =
-    let no-entry : Halts (entry_in Definitions c.args.library.now c.args.from) = subst Halts c.entry_in-entry.ensures (halts c.entry_in-entry.result c.in_default.not-At) in
     let entered : let a = c.args in next_entry Definitions a.library.now a.from ≡ next_entry Definitions a.library.now c.entered-c.result = let a = c.args in
-    next-record Definitions a.library.now a.from (no-entry) (sym c.record_end.ensures ∙ c.in-At-record_end.is)
+    next-record Definitions a.library.now a.from (no-entry (goal.at.returns-in-At-first c).In_default) (sym c.record_end.ensures ∙ c.in-At-record_end.is)
     ∙ ap (next_entry Definitions a.library.now) (sym c.entered-c.ensures) in
     let a = c.args in
     sym (entered ∙ step-item (suc (length a.library.now)) Definitions a.library.now c.entered-c.result (omega arith)
@@ -49,8 +52,7 @@ returns-in-At-first c =
 
 pub returns : goal.returns
 returns c =
-    let no-entry : Halts (entry_in Definitions c.args.library.now c.args.from) = subst Halts c.entry_in-entry.ensures (halts c.entry_in-entry.result c.in_default.not-At) in
     let entered : let a = c.args in next_entry Definitions a.library.now a.from ≡ next_entry Definitions a.library.now c.entered-c.result = let a = c.args in
-    next-record Definitions a.library.now a.from (no-entry) (sym c.record_end.ensures ∙ c.in-At-record_end.is)
+    next-record Definitions a.library.now a.from (no-entry (goal.at.returns c).In_default) (sym c.record_end.ensures ∙ c.in-At-record_end.is)
     ∙ ap (next_entry Definitions a.library.now) (sym c.entered-c.ensures) in
     c.next_entry.ensures ∙ sym (entered)

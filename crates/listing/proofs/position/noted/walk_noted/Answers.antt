@@ -25,7 +25,10 @@ none = record { target = 0; name = record { at = 0; len = 0 }; valid = false }
 
 pub returns-then-noted-here : goal.returns-then-noted-here
 returns-then-noted-here c =
-    let started : (library : List ℕ) (ns : List Noting) (lines : List Line) → Noted-table library c.args.noted.now c.args.goals.now ns → c.args.at < key_buckets → Fronts lines c.args.m.now → Walked noted_sheet library ns c.args.at (noted_at_it c.args.at) noted_line lines [] c.head_at-here.result c.args.m.now (record { count = 0; grade = 0 }) = λ library ns lines tabled small front. walked-first noted_sheet library noted-reads none ns tabled refl c.args.at (noted_at_it c.args.at)
+    let started : (library : List ℕ) (ns : List Noting) (lines : List Line) → Noted-table library c.args.noted.now c.args.goals.now ns → c.args.at <
+    key_buckets → Fronts lines c.args.m.now → Walked noted_sheet library ns c.args.at (noted_at_it c.args.at) noted_line lines []
+    c.head_at-here.result c.args.m.now (record { count = 0; grade = 0 }) = λ library ns lines tabled small front. walked-first noted_sheet
+    library noted-reads none ns tabled refl c.args.at (noted_at_it c.args.at)
     (noted-within c.args.at small) noted_line lines [] c.head_at-here.result c.args.m.now (record { count = 0; grade = 0 }) small c.head_at-here.ensures
     (none-met lines c.args.m.now front) in
     record {
@@ -42,7 +45,10 @@ returns-then-noted-here c =
 
 pub loop-here-init : goal.loop-here-init
 loop-here-init c =
-    let started : (library : List ℕ) (ns : List Noting) (lines : List Line) → Noted-table library c.args.noted.now c.args.goals.now ns → c.args.at < key_buckets → Fronts lines c.args.m.now → Walked noted_sheet library ns c.args.at (noted_at_it c.args.at) noted_line lines [] c.head_at-here.result c.args.m.now (record { count = 0; grade = 0 }) = λ library ns lines tabled small front. walked-first noted_sheet library noted-reads none ns tabled refl c.args.at (noted_at_it c.args.at)
+    let started : (library : List ℕ) (ns : List Noting) (lines : List Line) → Noted-table library c.args.noted.now c.args.goals.now ns → c.args.at <
+    key_buckets → Fronts lines c.args.m.now → Walked noted_sheet library ns c.args.at (noted_at_it c.args.at) noted_line lines []
+    c.head_at-here.result c.args.m.now (record { count = 0; grade = 0 }) = λ library ns lines tabled small front. walked-first noted_sheet
+    library noted-reads none ns tabled refl c.args.at (noted_at_it c.args.at)
     (noted-within c.args.at small) noted_line lines [] c.head_at-here.result c.args.m.now (record { count = 0; grade = 0 }) small c.head_at-here.ensures
     (none-met lines c.args.m.now front) in
     record {

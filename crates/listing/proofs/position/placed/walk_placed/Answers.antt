@@ -18,17 +18,26 @@ use Rattle.listing.specs.position.RowsAt.{Walked, Known, stays_at, line_of}
 use Rattle.listing.specs.position.RowsAtLaws.{walked-first, walked-room, leads-back, walked-turn, walked-last}
 use Rattle.listing.specs.position.KnownLaws.{row_lines, known-within, known-lines}
 use Rattle.listing.proofs.position.placed.walk_placed.Goals as goal
+use Rattle.listing.proofs.position.placed.walk_placed.Goals.{In-loop-here}
 
 abbrev none : Placing
 none = record { position = 0; name = record { at = 0; len = 0 }; valid = false; segment = 0; base = 0 }
+
+abbrev lines_of : (c : In-loop-here) → Placed → List Line
+lines_of c =
+    row_lines (view c.args.image.now (stretches_in c.args.s.now)) c.args.rules c.args.library.now c.args.segments.now c.args.n c.args.references.now
+    c.args.placed.now c.args.positions.now c.args.noted.now c.args.goals.now c.args.at
 
 pub returns-then-placed-here : goal.returns-then-placed-here
 returns-then-placed-here c =
     let Known-at : Type 0 = Known c.args.rules c.args.library.now c.args.segments.now c.args.references.now c.args.n c.args.placed.now
     c.args.positions.now c.args.noted.now c.args.goals.now in
-    let within : (k : Known-at) → c.args.at < key_buckets → (p : Placing) → stays_at (view c.args.image.now (stretches_in c.args.s.now)) k c.args.at p ≡ true → key_bucket p.position ≡ c.args.at = λ k small. known-within (view c.args.image.now (stretches_in c.args.s.now)) c.args.rules c.args.library.now c.args.segments.now
+    let within : (k : Known-at) → c.args.at < key_buckets → (p : Placing) → stays_at (view c.args.image.now (stretches_in c.args.s.now)) k c.args.at
+    p ≡ true → key_bucket p.position ≡ c.args.at = λ k small. known-within (view c.args.image.now (stretches_in c.args.s.now)) c.args.rules c.args.library.now c.args.segments.now
     c.args.n c.args.references.now c.args.placed.now c.args.positions.now c.args.noted.now c.args.goals.now k c.args.at small in
-    let started : (k : Known-at) (lines before : List Line) → c.args.at < key_buckets → Bests lines before c.args.m.now c.args.before → Walked placed_sheet c.args.library.now k.ps c.args.at (stays_at (view c.args.image.now (stretches_in c.args.s.now)) k c.args.at) (line_of (view c.args.image.now (stretches_in c.args.s.now)) k) lines before c.head_at-here.result c.args.m.now c.args.before = λ k lines before small h. let a = c.args in
+    let started : (k : Known-at) (lines before : List Line) → c.args.at < key_buckets → Bests lines before c.args.m.now c.args.before → Walked
+    placed_sheet c.args.library.now k.ps c.args.at (stays_at (view c.args.image.now (stretches_in c.args.s.now)) k c.args.at)
+    (line_of (view c.args.image.now (stretches_in c.args.s.now)) k) lines before c.head_at-here.result c.args.m.now c.args.before = λ k lines before small h. let a = c.args in
     walked-first placed_sheet a.library.now placed-reads none k.ps k.sought.placings refl a.at
     (stays_at (view a.image.now (stretches_in a.s.now)) k a.at) (within k small) (line_of (view a.image.now (stretches_in a.s.now)) k) lines before
     c.head_at-here.result a.m.now a.before small c.head_at-here.ensures h in
@@ -50,9 +59,12 @@ pub loop-here-init : goal.loop-here-init
 loop-here-init c =
     let Known-at : Type 0 = Known c.args.rules c.args.library.now c.args.segments.now c.args.references.now c.args.n c.args.placed.now
     c.args.positions.now c.args.noted.now c.args.goals.now in
-    let within : (k : Known-at) → c.args.at < key_buckets → (p : Placing) → stays_at (view c.args.image.now (stretches_in c.args.s.now)) k c.args.at p ≡ true → key_bucket p.position ≡ c.args.at = λ k small. known-within (view c.args.image.now (stretches_in c.args.s.now)) c.args.rules c.args.library.now c.args.segments.now
+    let within : (k : Known-at) → c.args.at < key_buckets → (p : Placing) → stays_at (view c.args.image.now (stretches_in c.args.s.now)) k c.args.at
+    p ≡ true → key_bucket p.position ≡ c.args.at = λ k small. known-within (view c.args.image.now (stretches_in c.args.s.now)) c.args.rules c.args.library.now c.args.segments.now
     c.args.n c.args.references.now c.args.placed.now c.args.positions.now c.args.noted.now c.args.goals.now k c.args.at small in
-    let started : (k : Known-at) (lines before : List Line) → c.args.at < key_buckets → Bests lines before c.args.m.now c.args.before → Walked placed_sheet c.args.library.now k.ps c.args.at (stays_at (view c.args.image.now (stretches_in c.args.s.now)) k c.args.at) (line_of (view c.args.image.now (stretches_in c.args.s.now)) k) lines before c.head_at-here.result c.args.m.now c.args.before = λ k lines before small h. let a = c.args in
+    let started : (k : Known-at) (lines before : List Line) → c.args.at < key_buckets → Bests lines before c.args.m.now c.args.before → Walked
+    placed_sheet c.args.library.now k.ps c.args.at (stays_at (view c.args.image.now (stretches_in c.args.s.now)) k c.args.at)
+    (line_of (view c.args.image.now (stretches_in c.args.s.now)) k) lines before c.head_at-here.result c.args.m.now c.args.before = λ k lines before small h. let a = c.args in
     walked-first placed_sheet a.library.now placed-reads none k.ps k.sought.placings refl a.at
     (stays_at (view a.image.now (stretches_in a.s.now)) k a.at) (within k small) (line_of (view a.image.now (stretches_in a.s.now)) k) lines before
     c.head_at-here.result a.m.now a.before small c.head_at-here.ensures h in
@@ -83,11 +95,13 @@ pub returns-then-here-next : goal.returns-then-here-next
 returns-then-here-next c =
     let Known-at : Type 0 = Known c.args.rules c.args.library.now c.args.segments.now c.args.references.now c.args.n c.args.placed.now
     c.args.positions.now c.args.noted.now c.args.goals.now in
-    let within : (k : Known-at) → c.args.at < key_buckets → (p : Placing) → stays_at (view c.args.image.now (stretches_in c.args.s.now)) k c.args.at p ≡ true → key_bucket p.position ≡ c.args.at = λ k small. known-within (view c.args.image.now (stretches_in c.args.s.now)) c.args.rules c.args.library.now c.args.segments.now
+    let within : (k : Known-at) → c.args.at < key_buckets → (p : Placing) → stays_at (view c.args.image.now (stretches_in c.args.s.now)) k c.args.at
+    p ≡ true → key_bucket p.position ≡ c.args.at = λ k small. known-within (view c.args.image.now (stretches_in c.args.s.now)) c.args.rules c.args.library.now c.args.segments.now
     c.args.n c.args.references.now c.args.placed.now c.args.positions.now c.args.noted.now c.args.goals.now k c.args.at small in
-    let lines_of : Placed → List Line = row_lines (view c.args.image.now (stretches_in c.args.s.now)) c.args.rules c.args.library.now c.args.segments.now c.args.n
-    c.args.references.now c.args.placed.now c.args.positions.now c.args.noted.now c.args.goals.now c.args.at in
-    let are : (k : Known-at) (p : Placing) (link alike : ℕ) → lines_of (placed_sheet.row p link alike) ≡ map (line_of (view c.args.image.now (stretches_in c.args.s.now)) k) (keep (stays_at (view c.args.image.now (stretches_in c.args.s.now)) k c.args.at) (one p)) = λ k. known-lines (view c.args.image.now (stretches_in c.args.s.now)) c.args.rules c.args.library.now c.args.segments.now c.args.n
+    let are : (k : Known-at) (p : Placing) (link alike : ℕ) → (lines_of (goal.at.returns-then-here-next c).In-loop-here)
+    (placed_sheet.row p link alike) ≡ map (line_of (view c.args.image.now (stretches_in c.args.s.now)) k)
+    (keep (stays_at (view c.args.image.now (stretches_in c.args.s.now)) k c.args.at) (one p)) = λ k. known-lines
+    (view c.args.image.now (stretches_in c.args.s.now)) c.args.rules c.args.library.now c.args.segments.now c.args.n
     c.args.references.now c.args.placed.now c.args.positions.now c.args.noted.now c.args.goals.now k c.args.at in
     let a = c.args in
     let l = c.loop-here in
@@ -100,7 +114,7 @@ returns-then-here-next c =
             leads-back placed_sheet a.library.now placed-reads none k.ps k.sought.placings refl a.at
                 (stays_at (view a.image.now (stretches_in a.s.now)) k a.at) (within k small) (line_of (view a.image.now (stretches_in a.s.now)) k) lines before
                 l.here l.m l.b (l.invariant.walked k lines before small long h) c.loop-here-test.true
-                (λ r. r.link) (λ x link alike. refl) (lines_of) (are k) c.placed_at-row.result c.placed_at-row.ensures,
+                (λ r. r.link) (λ x link alike. refl) (lines_of (goal.at.returns-then-here-next c).In-loop-here) (are k) c.placed_at-row.result c.placed_at-row.ensures,
           ));
     }
 
@@ -112,11 +126,13 @@ pub loop-here-preserved : goal.loop-here-preserved
 loop-here-preserved c =
     let Known-at : Type 0 = Known c.args.rules c.args.library.now c.args.segments.now c.args.references.now c.args.n c.args.placed.now
     c.args.positions.now c.args.noted.now c.args.goals.now in
-    let within : (k : Known-at) → c.args.at < key_buckets → (p : Placing) → stays_at (view c.args.image.now (stretches_in c.args.s.now)) k c.args.at p ≡ true → key_bucket p.position ≡ c.args.at = λ k small. known-within (view c.args.image.now (stretches_in c.args.s.now)) c.args.rules c.args.library.now c.args.segments.now
+    let within : (k : Known-at) → c.args.at < key_buckets → (p : Placing) → stays_at (view c.args.image.now (stretches_in c.args.s.now)) k c.args.at
+    p ≡ true → key_bucket p.position ≡ c.args.at = λ k small. known-within (view c.args.image.now (stretches_in c.args.s.now)) c.args.rules c.args.library.now c.args.segments.now
     c.args.n c.args.references.now c.args.placed.now c.args.positions.now c.args.noted.now c.args.goals.now k c.args.at small in
-    let lines_of : Placed → List Line = row_lines (view c.args.image.now (stretches_in c.args.s.now)) c.args.rules c.args.library.now c.args.segments.now c.args.n
-    c.args.references.now c.args.placed.now c.args.positions.now c.args.noted.now c.args.goals.now c.args.at in
-    let are : (k : Known-at) (p : Placing) (link alike : ℕ) → lines_of (placed_sheet.row p link alike) ≡ map (line_of (view c.args.image.now (stretches_in c.args.s.now)) k) (keep (stays_at (view c.args.image.now (stretches_in c.args.s.now)) k c.args.at) (one p)) = λ k. known-lines (view c.args.image.now (stretches_in c.args.s.now)) c.args.rules c.args.library.now c.args.segments.now c.args.n
+    let are : (k : Known-at) (p : Placing) (link alike : ℕ) → (lines_of (goal.at.loop-here-preserved c).In-loop-here) (placed_sheet.row p link alike)
+    ≡ map (line_of (view c.args.image.now (stretches_in c.args.s.now)) k)
+    (keep (stays_at (view c.args.image.now (stretches_in c.args.s.now)) k c.args.at) (one p)) = λ k. known-lines
+    (view c.args.image.now (stretches_in c.args.s.now)) c.args.rules c.args.library.now c.args.segments.now c.args.n
     c.args.references.now c.args.placed.now c.args.positions.now c.args.noted.now c.args.goals.now k c.args.at in
     let a = c.args in
     let l = c.loop-here in
@@ -127,7 +143,7 @@ loop-here-preserved c =
           walked-turn placed_sheet a.library.now placed-reads none k.ps k.sought.placings refl a.at
           (stays_at (view a.image.now (stretches_in a.s.now)) k a.at) (within k small) (line_of (view a.image.now (stretches_in a.s.now)) k) lines before
           l.here l.m l.b (l.invariant.walked k lines before small long h) c.loop-here-test.true
-          (λ r. r.link) (λ x link alike. refl) (lines_of) (are k) c.placed_at-row.result c.placed_at-row.ensures
+          (λ r. r.link) (λ x link alike. refl) (lines_of (goal.at.loop-here-preserved c).In-loop-here) (are k) c.placed_at-row.result c.placed_at-row.ensures
           a.from c.take_placed-b.new.m c.take_placed-b.result long c.take_placed-b.ensures;
     }
 
@@ -135,7 +151,8 @@ pub returns : goal.returns
 returns c =
     let Known-at : Type 0 = Known c.args.rules c.args.library.now c.args.segments.now c.args.references.now c.args.n c.args.placed.now
     c.args.positions.now c.args.noted.now c.args.goals.now in
-    let within : (k : Known-at) → c.args.at < key_buckets → (p : Placing) → stays_at (view c.args.image.now (stretches_in c.args.s.now)) k c.args.at p ≡ true → key_bucket p.position ≡ c.args.at = λ k small. known-within (view c.args.image.now (stretches_in c.args.s.now)) c.args.rules c.args.library.now c.args.segments.now
+    let within : (k : Known-at) → c.args.at < key_buckets → (p : Placing) → stays_at (view c.args.image.now (stretches_in c.args.s.now)) k c.args.at
+    p ≡ true → key_bucket p.position ≡ c.args.at = λ k small. known-within (view c.args.image.now (stretches_in c.args.s.now)) c.args.rules c.args.library.now c.args.segments.now
     c.args.n c.args.references.now c.args.placed.now c.args.positions.now c.args.noted.now c.args.goals.now k c.args.at small in
     let a = c.args in
     let l = c.loop-here in

@@ -23,6 +23,7 @@ use Rattle.module_index.specs.gather.GatherLaws.{none-gathered, gather-turn, all
 use Rattle.module_index.specs.gather.PublicLaws.{not-public-passed, keyed-gathered, apart-passed, none_kept, read_again}
 use Rattle.module_index.specs.gather.Publics.{key_by, publics_by}
 use Rattle.module_index.proofs.gather.publics.gather_publics.Goals as goal
+use Rattle.module_index.proofs.gather.publics.gather_publics.Goals.{In-Public}
 use Rattle.module_index.proofs.gather.publics.gather_publics.Invariants.{Inv, Some-held}
 
 abbrev Read : List ℕ → ℕ → Definition → Type 0
@@ -32,6 +33,10 @@ not-public : (d : Definition) → ((id : ModuleId) (offset : ℕ) (name : Part) 
 not-public (Segment id info relocation size name) never = refl
 not-public (Public id offset name) never = absurd (never id offset name refl)
 not-public (External id info name) never = refl
+
+abbrev this : (c : In-Public) → Definition
+this c =
+    Public c.in-Public.id c.in-Public.offset c.in-Public.name
 
 pub loop-definition-init : goal.loop-definition-init
 loop-definition-init c =
@@ -50,8 +55,7 @@ loop-definition-init c =
 pub key_by-requires : goal.key_by-requires
 key_by-requires c =
     let step : next_definition c.args.library.now c.loop-definition.c ≡ Item c.in-Item.definition c.in-Item.rest = sym c.next_definition.ensures ∙ c.in-Item.is in
-    let this : Definition = Public c.in-Public.id c.in-Public.offset c.in-Public.name in
-    let step-public : next_definition c.args.library.now c.loop-definition.c ≡ Item (this) c.in-Item.rest = step ∙ ap (λ d. Item d c.in-Item.rest) c.in-Public.is in
+    let step-public : next_definition c.args.library.now c.loop-definition.c ≡ Item (this c) c.in-Item.rest = step ∙ ap (λ d. Item d c.in-Item.rest) c.in-Public.is in
     let again : PublicAgain c.args.library.now c.in-Public.offset c.in-Public.name = public-again c.args.library.now c.loop-definition.c (step-public) in
     omega (
       arith,
@@ -63,16 +67,16 @@ key_by-requires c =
 pub overflow_sub-name : goal.overflow_sub-name
 overflow_sub-name c =
     let step : next_definition c.args.library.now c.loop-definition.c ≡ Item c.in-Item.definition c.in-Item.rest = sym c.next_definition.ensures ∙ c.in-Item.is in
-    let this : Definition = Public c.in-Public.id c.in-Public.offset c.in-Public.name in
-    let step-public : next_definition c.args.library.now c.loop-definition.c ≡ Item (this) c.in-Item.rest = step ∙ ap (λ d. Item d c.in-Item.rest) c.in-Public.is in
+    let step-public : next_definition c.args.library.now c.loop-definition.c ≡ Item (this (goal.at.overflow_sub-name c).In-Public) c.in-Item.rest =
+    step ∙ ap (λ d. Item d c.in-Item.rest) c.in-Public.is in
     let again : PublicAgain c.args.library.now c.in-Public.offset c.in-Public.name = public-again c.args.library.now c.loop-definition.c (step-public) in
     omega (arith, (again).front)
 
 pub thing-requires : goal.thing-requires
 thing-requires c =
     let step : next_definition c.args.library.now c.loop-definition.c ≡ Item c.in-Item.definition c.in-Item.rest = sym c.next_definition.ensures ∙ c.in-Item.is in
-    let this : Definition = Public c.in-Public.id c.in-Public.offset c.in-Public.name in
-    let step-public : next_definition c.args.library.now c.loop-definition.c ≡ Item (this) c.in-Item.rest = step ∙ ap (λ d. Item d c.in-Item.rest) c.in-Public.is in
+    let step-public : next_definition c.args.library.now c.loop-definition.c ≡ Item (this (goal.at.thing-requires c).In-Public) c.in-Item.rest = step
+    ∙ ap (λ d. Item d c.in-Item.rest) c.in-Public.is in
     let again : PublicAgain c.args.library.now c.in-Public.offset c.in-Public.name = public-again c.args.library.now c.loop-definition.c (step-public) in
     let early : c.in-Public.name.at - 4 < 1048576 = omega (arith, (again).front, (again).inside, c.requires.short) in
     early
@@ -80,8 +84,8 @@ thing-requires c =
 pub offset_bounds-things-n : goal.offset_bounds-things-n
 offset_bounds-things-n c =
     let step : next_definition c.args.library.now c.loop-definition.c ≡ Item c.in-Item.definition c.in-Item.rest = sym c.next_definition.ensures ∙ c.in-Item.is in
-    let this : Definition = Public c.in-Public.id c.in-Public.offset c.in-Public.name in
-    let step-public : next_definition c.args.library.now c.loop-definition.c ≡ Item (this) c.in-Item.rest = step ∙ ap (λ d. Item d c.in-Item.rest) c.in-Public.is in
+    let step-public : next_definition c.args.library.now c.loop-definition.c ≡ Item (this (goal.at.offset_bounds-things-n c).In-Public)
+    c.in-Item.rest = step ∙ ap (λ d. Item d c.in-Item.rest) c.in-Public.is in
     let sized : Sized c.args.library.now 6 c.loop-definition.c c.in-Item.rest = public-sized c.args.library.now c.loop-definition.c c.loop-definition.invariant.ordered (step-public) in
     let below : 6 * c.loop-definition.n + 6 ≤ 1048576 = omega (arith, c.loop-definition.invariant.few, (sized).size-later, (sized).forward.inside, c.requires.short) in
     omega (arith, below)
@@ -89,8 +93,8 @@ offset_bounds-things-n c =
 pub bounds-things-n : goal.bounds-things-n
 bounds-things-n c =
     let step : next_definition c.args.library.now c.loop-definition.c ≡ Item c.in-Item.definition c.in-Item.rest = sym c.next_definition.ensures ∙ c.in-Item.is in
-    let this : Definition = Public c.in-Public.id c.in-Public.offset c.in-Public.name in
-    let step-public : next_definition c.args.library.now c.loop-definition.c ≡ Item (this) c.in-Item.rest = step ∙ ap (λ d. Item d c.in-Item.rest) c.in-Public.is in
+    let step-public : next_definition c.args.library.now c.loop-definition.c ≡ Item (this (goal.at.bounds-things-n c).In-Public) c.in-Item.rest =
+    step ∙ ap (λ d. Item d c.in-Item.rest) c.in-Public.is in
     let sized : Sized c.args.library.now 6 c.loop-definition.c c.in-Item.rest = public-sized c.args.library.now c.loop-definition.c c.loop-definition.invariant.ordered (step-public) in
     let room : c.loop-definition.n < length c.loop-definition.things = let i = c.loop-definition.invariant in
     let g = sized in
@@ -100,8 +104,8 @@ bounds-things-n c =
 pub overflow_add-n : goal.overflow_add-n
 overflow_add-n c =
     let step : next_definition c.args.library.now c.loop-definition.c ≡ Item c.in-Item.definition c.in-Item.rest = sym c.next_definition.ensures ∙ c.in-Item.is in
-    let this : Definition = Public c.in-Public.id c.in-Public.offset c.in-Public.name in
-    let step-public : next_definition c.args.library.now c.loop-definition.c ≡ Item (this) c.in-Item.rest = step ∙ ap (λ d. Item d c.in-Item.rest) c.in-Public.is in
+    let step-public : next_definition c.args.library.now c.loop-definition.c ≡ Item (this (goal.at.overflow_add-n c).In-Public) c.in-Item.rest = step
+    ∙ ap (λ d. Item d c.in-Item.rest) c.in-Public.is in
     let sized : Sized c.args.library.now 6 c.loop-definition.c c.in-Item.rest = public-sized c.args.library.now c.loop-definition.c c.loop-definition.invariant.ordered (step-public) in
     let below : 6 * c.loop-definition.n + 6 ≤ 1048576 = omega (arith, c.loop-definition.invariant.few, (sized).size-later, (sized).forward.inside, c.requires.short) in
     omega (arith, below)
@@ -109,15 +113,17 @@ overflow_add-n c =
 pub loop-definition-smaller-in-By : goal.loop-definition-smaller-in-By
 loop-definition-smaller-in-By c =
     let step : next_definition c.args.library.now c.loop-definition.c ≡ Item c.in-Item.definition c.in-Item.rest = sym c.next_definition.ensures ∙ c.in-Item.is in
-    let this : Definition = Public c.in-Public.id c.in-Public.offset c.in-Public.name in
-    let step-public : next_definition c.args.library.now c.loop-definition.c ≡ Item (this) c.in-Item.rest = step ∙ ap (λ d. Item d c.in-Item.rest) c.in-Public.is in
+    let step-public : next_definition c.args.library.now c.loop-definition.c ≡ Item (this (goal.at.loop-definition-smaller-in-By c).In-Public)
+    c.in-Item.rest = step ∙ ap (λ d. Item d c.in-Item.rest) c.in-Public.is in
     fewer-definitions c.args.library.now c.loop-definition.c (step-public)
 
 pub loop-definition-preserved-in-By : goal.loop-definition-preserved-in-By
 loop-definition-preserved-in-By c =
     let step : next_definition c.args.library.now c.loop-definition.c ≡ Item c.in-Item.definition c.in-Item.rest = sym c.next_definition.ensures ∙ c.in-Item.is in
     let goes : Sized c.args.library.now 5 c.loop-definition.c c.in-Item.rest = definition-sized c.args.library.now c.loop-definition.c c.loop-definition.invariant.ordered (step) in
-    let goes_on : (n : ℕ) (things : List ℕ) (d : Definition) → d ≡ c.in-Item.definition → length things ≡ length c.args.things.now → 6 * n ≤ c.in-Item.rest.at → Some-held c.args.by c.args.library.now (c.loop-definition.invariant.done ++ one d) things n → Inv c.args.library.now c.args.from c.args.by c.args.things.now things c.in-Item.rest n = λ n things d e k few held. let lib = c.args.library.now in
+    let goes_on : (n : ℕ) (things : List ℕ) (d : Definition) → d ≡ c.in-Item.definition → length things ≡ length c.args.things.now → 6 * n ≤
+    c.in-Item.rest.at → Some-held c.args.by c.args.library.now (c.loop-definition.invariant.done ++ one d) things n → Inv c.args.library.now
+    c.args.from c.args.by c.args.things.now things c.in-Item.rest n = λ n things d e k few held. let lib = c.args.library.now in
     let l = c.loop-definition in
     let same : next_definition lib l.c ≡ Item d c.in-Item.rest = step ∙ ap (λ x. Item x c.in-Item.rest) (sym e) in
     record {
@@ -128,8 +134,8 @@ loop-definition-preserved-in-By c =
       few = few;
       ordered = (goes).forward.ordered;
     } in
-    let this : Definition = Public c.in-Public.id c.in-Public.offset c.in-Public.name in
-    let step-public : next_definition c.args.library.now c.loop-definition.c ≡ Item (this) c.in-Item.rest = step ∙ ap (λ d. Item d c.in-Item.rest) c.in-Public.is in
+    let step-public : next_definition c.args.library.now c.loop-definition.c ≡ Item (this (goal.at.loop-definition-preserved-in-By c).In-Public)
+    c.in-Item.rest = step ∙ ap (λ d. Item d c.in-Item.rest) c.in-Public.is in
     let again : PublicAgain c.args.library.now c.in-Public.offset c.in-Public.name = public-again c.args.library.now c.loop-definition.c (step-public) in
     let sized : Sized c.args.library.now 6 c.loop-definition.c c.in-Item.rest = public-sized c.args.library.now c.loop-definition.c c.loop-definition.invariant.ordered (step-public) in
     let room : c.loop-definition.n < length c.loop-definition.things = let i = c.loop-definition.invariant in
@@ -139,7 +145,7 @@ loop-definition-preserved-in-By c =
     let a = c.args in
     let lib = a.library.now in
     let l = c.loop-definition in
-    let d : Definition = this in
+    let d : Definition = (this (goal.at.loop-definition-preserved-in-By c).In-Public) in
     let name = c.in-Public.name in
     let k = keyed-gathered a.by l.invariant.done _ _ name (sym c.key_by.ensures ∙ c.in-By.is) in
     goes_on (l.n + 1) _ d (sym c.in-Public.is) (length-set l.things l.n _ ∙ l.invariant.long)
@@ -152,15 +158,17 @@ loop-definition-preserved-in-By c =
 pub loop-definition-smaller-in_default-key_by : goal.loop-definition-smaller-in_default-key_by
 loop-definition-smaller-in_default-key_by c =
     let step : next_definition c.args.library.now c.loop-definition.c ≡ Item c.in-Item.definition c.in-Item.rest = sym c.next_definition.ensures ∙ c.in-Item.is in
-    let this : Definition = Public c.in-Public.id c.in-Public.offset c.in-Public.name in
-    let step-public : next_definition c.args.library.now c.loop-definition.c ≡ Item (this) c.in-Item.rest = step ∙ ap (λ d. Item d c.in-Item.rest) c.in-Public.is in
+    let step-public : next_definition c.args.library.now c.loop-definition.c ≡ Item
+    (this (goal.at.loop-definition-smaller-in_default-key_by c).In-Public) c.in-Item.rest = step ∙ ap (λ d. Item d c.in-Item.rest) c.in-Public.is in
     fewer-definitions c.args.library.now c.loop-definition.c (step-public)
 
 pub loop-definition-preserved-in_default-key_by : goal.loop-definition-preserved-in_default-key_by
 loop-definition-preserved-in_default-key_by c =
     let step : next_definition c.args.library.now c.loop-definition.c ≡ Item c.in-Item.definition c.in-Item.rest = sym c.next_definition.ensures ∙ c.in-Item.is in
     let goes : Sized c.args.library.now 5 c.loop-definition.c c.in-Item.rest = definition-sized c.args.library.now c.loop-definition.c c.loop-definition.invariant.ordered (step) in
-    let goes_on : (n : ℕ) (things : List ℕ) (d : Definition) → d ≡ c.in-Item.definition → length things ≡ length c.args.things.now → 6 * n ≤ c.in-Item.rest.at → Some-held c.args.by c.args.library.now (c.loop-definition.invariant.done ++ one d) things n → Inv c.args.library.now c.args.from c.args.by c.args.things.now things c.in-Item.rest n = λ n things d e k few held. let lib = c.args.library.now in
+    let goes_on : (n : ℕ) (things : List ℕ) (d : Definition) → d ≡ c.in-Item.definition → length things ≡ length c.args.things.now → 6 * n ≤
+    c.in-Item.rest.at → Some-held c.args.by c.args.library.now (c.loop-definition.invariant.done ++ one d) things n → Inv c.args.library.now
+    c.args.from c.args.by c.args.things.now things c.in-Item.rest n = λ n things d e k few held. let lib = c.args.library.now in
     let l = c.loop-definition in
     let same : next_definition lib l.c ≡ Item d c.in-Item.rest = step ∙ ap (λ x. Item x c.in-Item.rest) (sym e) in
     record {
@@ -171,11 +179,11 @@ loop-definition-preserved-in_default-key_by c =
       few = few;
       ordered = (goes).forward.ordered;
     } in
-    let this : Definition = Public c.in-Public.id c.in-Public.offset c.in-Public.name in
-    let step-public : next_definition c.args.library.now c.loop-definition.c ≡ Item (this) c.in-Item.rest = step ∙ ap (λ d. Item d c.in-Item.rest) c.in-Public.is in
+    let step-public : next_definition c.args.library.now c.loop-definition.c ≡ Item
+    (this (goal.at.loop-definition-preserved-in_default-key_by c).In-Public) c.in-Item.rest = step ∙ ap (λ d. Item d c.in-Item.rest) c.in-Public.is in
     let sized : Sized c.args.library.now 6 c.loop-definition.c c.in-Item.rest = public-sized c.args.library.now c.loop-definition.c c.loop-definition.invariant.ordered (step-public) in
     let l = c.loop-definition in
-    goes_on l.n l.things (this)
+    goes_on l.n l.things (this (goal.at.loop-definition-preserved-in_default-key_by c).In-Public)
     (sym c.in-Public.is) l.invariant.long (omega (arith, l.invariant.few, (sized).size-later))
     (rw (apart-passed c.args.by
     l.invariant.done _ _ _ (sym c.key_by.ensures ∙ c.in_default-key_by.is)) l.invariant.gathered)
@@ -189,7 +197,9 @@ pub loop-definition-preserved : goal.loop-definition-preserved
 loop-definition-preserved c =
     let step : next_definition c.args.library.now c.loop-definition.c ≡ Item c.in-Item.definition c.in-Item.rest = sym c.next_definition.ensures ∙ c.in-Item.is in
     let goes : Sized c.args.library.now 5 c.loop-definition.c c.in-Item.rest = definition-sized c.args.library.now c.loop-definition.c c.loop-definition.invariant.ordered (step) in
-    let goes_on : (n : ℕ) (things : List ℕ) (d : Definition) → d ≡ c.in-Item.definition → length things ≡ length c.args.things.now → 6 * n ≤ c.in-Item.rest.at → Some-held c.args.by c.args.library.now (c.loop-definition.invariant.done ++ one d) things n → Inv c.args.library.now c.args.from c.args.by c.args.things.now things c.in-Item.rest n = λ n things d e k few held. let lib = c.args.library.now in
+    let goes_on : (n : ℕ) (things : List ℕ) (d : Definition) → d ≡ c.in-Item.definition → length things ≡ length c.args.things.now → 6 * n ≤
+    c.in-Item.rest.at → Some-held c.args.by c.args.library.now (c.loop-definition.invariant.done ++ one d) things n → Inv c.args.library.now
+    c.args.from c.args.by c.args.things.now things c.in-Item.rest n = λ n things d e k few held. let lib = c.args.library.now in
     let l = c.loop-definition in
     let same : next_definition lib l.c ≡ Item d c.in-Item.rest = step ∙ ap (λ x. Item x c.in-Item.rest) (sym e) in
     record {

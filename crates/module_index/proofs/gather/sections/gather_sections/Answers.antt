@@ -15,9 +15,30 @@ use Rattle.module_index.specs.gather.Places.{section_in, SectionIs, section_key,
 use Rattle.module_index.specs.gather.Into.{Held}
 use Rattle.module_index.specs.gather.GatherLaws.{none-gathered, gather-turn, all_done}
 use Rattle.module_index.proofs.gather.sections.gather_sections.Goals as goal
+use Rattle.module_index.proofs.gather.sections.gather_sections.Goals.{In-Item}
 
 abbrev Read : List ℕ → ℕ → Section → Type 0
 Read library p s = section_in library (next_content library p) ≡ one s
+
+step : (c : In-Item) → next_content c.args.library.now c.loop-content.at ≡ Item c.in-Item.content c.in-Item.fixups c.in-Item.rest
+step c =
+    sym c.next_content.ensures ∙ c.in-Item.is
+
+goes : (c : In-Item) → ContentGoes c.args.library.now c.loop-content.at c.in-Item.content c.in-Item.rest
+goes c =
+    content-goes c.args.library.now c.loop-content.at (step c)
+
+early : (c : In-Item) → c.loop-content.at < 1048576
+early c =
+    omega (arith, ((goes c)).later, ((goes c)).inside, c.requires.short)
+
+below : (c : In-Item) → 7 * c.loop-content.n + 7 ≤ 1048576
+below c =
+    omega (arith, c.loop-content.invariant.few, ((goes c)).later, ((goes c)).inside, c.requires.short)
+
+room : (c : In-Item) → c.loop-content.n < length c.loop-content.things
+room c =
+    let i = c.loop-content.invariant in let g = (goes c) in omega (arith, i.few, g.later, g.inside, c.requires.room, i.long)
 
 pub loop-content-init : goal.loop-content-init
 loop-content-init c =
@@ -31,47 +52,26 @@ loop-content-init c =
 
 pub thing-requires : goal.thing-requires
 thing-requires c =
-    let step : next_content c.args.library.now c.loop-content.at ≡ Item c.in-Item.content c.in-Item.fixups c.in-Item.rest = sym c.next_content.ensures ∙ c.in-Item.is in
-    let goes : ContentGoes c.args.library.now c.loop-content.at c.in-Item.content c.in-Item.rest = content-goes c.args.library.now c.loop-content.at (step) in
-    let early : c.loop-content.at < 1048576 = omega (arith, (goes).later, (goes).inside, c.requires.short) in
-    early
+    (early c)
 
 pub offset_bounds-things-n : goal.offset_bounds-things-n
 offset_bounds-things-n c =
-    let step : next_content c.args.library.now c.loop-content.at ≡ Item c.in-Item.content c.in-Item.fixups c.in-Item.rest = sym c.next_content.ensures ∙ c.in-Item.is in
-    let goes : ContentGoes c.args.library.now c.loop-content.at c.in-Item.content c.in-Item.rest = content-goes c.args.library.now c.loop-content.at (step) in
-    let below : 7 * c.loop-content.n + 7 ≤ 1048576 = omega (arith, c.loop-content.invariant.few, (goes).later, (goes).inside, c.requires.short) in
-    omega (arith, below)
+    omega (arith, below (goal.at.offset_bounds-things-n c).In-Item)
 
 pub bounds-things-n : goal.bounds-things-n
 bounds-things-n c =
-    let step : next_content c.args.library.now c.loop-content.at ≡ Item c.in-Item.content c.in-Item.fixups c.in-Item.rest = sym c.next_content.ensures ∙ c.in-Item.is in
-    let goes : ContentGoes c.args.library.now c.loop-content.at c.in-Item.content c.in-Item.rest = content-goes c.args.library.now c.loop-content.at (step) in
-    let room : c.loop-content.n < length c.loop-content.things = let i = c.loop-content.invariant in
-    let g = goes in
-    omega (arith, i.few, g.later, g.inside, c.requires.room, i.long) in
-    room
+    (room (goal.at.bounds-things-n c).In-Item)
 
 pub overflow_add-n : goal.overflow_add-n
 overflow_add-n c =
-    let step : next_content c.args.library.now c.loop-content.at ≡ Item c.in-Item.content c.in-Item.fixups c.in-Item.rest = sym c.next_content.ensures ∙ c.in-Item.is in
-    let goes : ContentGoes c.args.library.now c.loop-content.at c.in-Item.content c.in-Item.rest = content-goes c.args.library.now c.loop-content.at (step) in
-    let below : 7 * c.loop-content.n + 7 ≤ 1048576 = omega (arith, c.loop-content.invariant.few, (goes).later, (goes).inside, c.requires.short) in
-    omega (arith, below)
+    omega (arith, below (goal.at.overflow_add-n c).In-Item)
 
 pub loop-content-smaller : goal.loop-content-smaller
 loop-content-smaller c =
-    let step : next_content c.args.library.now c.loop-content.at ≡ Item c.in-Item.content c.in-Item.fixups c.in-Item.rest = sym c.next_content.ensures ∙ c.in-Item.is in
-    fewer-sections c.args.library.now c.loop-content.at (step)
+    fewer-sections c.args.library.now c.loop-content.at (step (goal.at.loop-content-smaller c).In-Item)
 
 pub loop-content-preserved : goal.loop-content-preserved
 loop-content-preserved c =
-    let step : next_content c.args.library.now c.loop-content.at ≡ Item c.in-Item.content c.in-Item.fixups c.in-Item.rest = sym c.next_content.ensures ∙ c.in-Item.is in
-    let goes : ContentGoes c.args.library.now c.loop-content.at c.in-Item.content c.in-Item.rest = content-goes c.args.library.now c.loop-content.at (step) in
-    let room : c.loop-content.n < length c.loop-content.things = let i = c.loop-content.invariant in
-    let g = goes in
-    omega (arith, i.few, g.later, g.inside, c.requires.room, i.long) in
-    let early : c.loop-content.at < 1048576 = omega (arith, (goes).later, (goes).inside, c.requires.short) in
     let lib = c.args.library.now in
     let l = c.loop-content in
     let i = l.invariant in
@@ -79,12 +79,12 @@ loop-content-preserved c =
     record {
       long = length-set l.things l.n _ ∙ i.long;
       done = i.done ++ one s;
-      whole = append_assoc i.done (one s) _ ∙ ap (λ xs. i.done ++ xs) (sym (next-content-yields lib l.at ∙ ap (sections_after lib) (step))) ∙ i.whole;
+      whole = append_assoc i.done (one s) _ ∙ ap (λ xs. i.done ++ xs) (sym (next-content-yields lib l.at ∙ ap (sections_after lib) (step (goal.at.loop-content-preserved c).In-Item))) ∙ i.whole;
       gathered = rw
           c.thing.ensures.0
-          (gather-turn section_key (Read lib) no_section i.done l.things l.n s l.at (room) c.thing.ensures.1
-          (early) (ap (section_in lib) (step)) i.gathered);
-      few = omega (arith, i.few, (goes).later);
+          (gather-turn section_key (Read lib) no_section i.done l.things l.n s l.at (room (goal.at.loop-content-preserved c).In-Item) c.thing.ensures.1
+          (early (goal.at.loop-content-preserved c).In-Item) (ap (section_in lib) (step (goal.at.loop-content-preserved c).In-Item)) i.gathered);
+      few = omega (arith, i.few, ((goes (goal.at.loop-content-preserved c).In-Item)).later);
     }
 
 pub returns-in-Done : goal.returns-in-Done
