@@ -49,7 +49,3 @@ returns c =
 pub bounds-pairs-i-in-loop-i-3 : goal.bounds-pairs-i-in-loop-i-3
 bounds-pairs-i-in-loop-i-3 c =
     let l = c.loop-i in omega (arith, there (goal.at.bounds-pairs-i-in-loop-i-3 c).After-place-first, l.invariant.long, length-set l.pairs l.i c.place-first.result)
-
-pub shape_of-pairs : goal.shape_of-pairs
-shape_of-pairs c =
-    c.loop-i.invariant.long

@@ -1,5 +1,4 @@
 -- `collect` clears what is lent, stores, and concludes; a library that is too long is refused. Assumes nothing.
-use mathlib.Core.Path.{◌∙◌}
 use native.Mathlib.Omega.{arith}
 use Rattle.omf51.specs.Module.{module_at}
 use Rattle.library.specs.Gathered.{items_at}
@@ -27,16 +26,6 @@ conclude-requires c =
       clear = c.store-stored.ensures.tells;
     }
 
-pub shape_of-references : goal.shape_of-references
-shape_of-references c =
-    c.references-3-1.given ∙ c.references-2-1.given ∙
-    c.references-1.given
-
-pub shape_of-symbols : goal.shape_of-symbols
-shape_of-symbols c =
-    c.symbols-3-1.given ∙ c.symbols-2-1.given ∙
-    c.symbols-1.given
-
 pub returns : goal.returns
 returns c =
     let a = c.args in
@@ -46,15 +35,3 @@ returns c =
     let begun = lists z.new.segments z.new.references z.new.symbols z.new.bytes z.new.masks in
     let after = lists s.new.segments s.new.references s.new.symbols s.new.bytes s.new.masks in
     c.conclude.ensures.concludes a.rules l (lengths-on {a = l} {b = begun} {c = after} (zeroed-lengths l {after = begun} z.ensures) s.ensures.long) s.ensures.stored
-
-pub shape_of-segments : goal.shape_of-segments
-shape_of-segments c =
-    c.segments-3-1.given ∙ c.segments-2-1.given ∙ c.segments-1.given
-
-pub shape_of-bytes : goal.shape_of-bytes
-shape_of-bytes c =
-    c.bytes-3-1.given ∙ c.bytes-2-1.given ∙ c.bytes-1.given
-
-pub shape_of-masks : goal.shape_of-masks
-shape_of-masks c =
-    c.masks-3-1.given ∙ c.masks-2-1.given ∙ c.masks-1.given

@@ -38,7 +38,3 @@ returns c =
       ends = ap (λ n. a.at + n) (sym (length-say a.s.at a.s.len));
       stored = puts-all a.at a.s.at a.s.len l.out l.j (omega arith) ∙ l.invariant.2;
     }
-
-pub shape_of-out : goal.shape_of-out
-shape_of-out c =
-    c.loop-j.invariant.1

@@ -39,7 +39,3 @@ pub returns : goal.returns
 returns c =
     let a = c.args in let l = c.loop-i in
     (omega (arith, l.invariant.summed, total-done (λ byte. byte) a.bytes.now l.i c.loop-i-test.false), digits-all a.bytes.now l.out l.to l.i c.loop-i-test.false ∙ l.invariant.same)
-
-pub shape_of-out : goal.shape_of-out
-shape_of-out c =
-    c.loop-i.invariant.long

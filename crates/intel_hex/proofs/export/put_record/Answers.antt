@@ -28,16 +28,6 @@ bounds-out-at-2 c =
       c.requires.0,
     )
 
-pub shape_of-out : goal.shape_of-out
-shape_of-out c =
-    simp length-set (omega (
-      arith,
-      c.put_byte.auto,
-      c.put_bytes-second.auto,
-      c.put_bytes-first.auto,
-      length-set c.args.out.now c.args.at 58,
-    ))
-
 pub returns : goal.returns
 returns c =
     let a = c.args in

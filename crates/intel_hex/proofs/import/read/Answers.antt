@@ -47,11 +47,6 @@ pub loop-r-init : goal.loop-r-init
 loop-r-init c =
     record { long = search rules; within = omega arith; fuel = length c.args.text.now + 1; enough = omega arith; same = refl }
 
-pub shape_of-cells-in-Bad : goal.shape_of-cells-in-Bad
-shape_of-cells-in-Bad c =
-    let l = c.loop-r in
-    omega (arith, l.invariant.long, c.requires)
-
 pub returns-in-Bad : goal.returns-in-Bad
 returns-in-Bad c =
     let a = c.args in
@@ -61,11 +56,6 @@ returns-in-Bad c =
           (sym c.record_at.ensures ∙ c.in-Bad.is)) ∙ l.invariant.same;
       within = omega arith;
     }
-
-pub shape_of-cells-in-End : goal.shape_of-cells-in-End
-shape_of-cells-in-End c =
-    let l = c.loop-r in
-    omega (arith, l.invariant.long, c.requires)
 
 pub returns-in-End : goal.returns-in-End
 returns-in-End c =

@@ -21,7 +21,3 @@ loop-i-preserved c =
 pub returns : goal.returns
 returns c =
     let a = c.args in let l = c.loop-i in fill-all a.cells.now a.end l.out l.i c.loop-i-test.false ∙ l.invariant.same
-
-pub shape_of-out : goal.shape_of-out
-shape_of-out c =
-    c.loop-i.invariant.long

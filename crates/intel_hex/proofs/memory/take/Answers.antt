@@ -39,7 +39,3 @@ pub returns : goal.returns
 returns c =
     let a = c.args in let l = c.loop-to in taken-all a.text.now l.cells l.seen l.k
     l.to (a.address + a.size - l.to) (omega arith) ∙ l.invariant.same
-
-pub shape_of-cells : goal.shape_of-cells
-shape_of-cells c =
-    c.loop-to.invariant.long

@@ -35,10 +35,6 @@ loop-j-preserved c =
       copied = copy_more a.m.now a.i a.cells.now l.invariant.fits l.m l.j (omega arith) l.invariant.copied;
     }
 
-pub shape_of-m : goal.shape_of-m
-shape_of-m c =
-    c.loop-j.invariant.long
-
 pub returns-after-loop-j : goal.returns-after-loop-j
 returns-after-loop-j c =
     let a = c.args in

@@ -30,35 +30,3 @@ returns-in-Refused c =
     (ap (λ pairs. view a.image.now (stretches_in pairs)) (c.first_pairs-s.ensures ∙ ap (take (2 * min a.settings.withheld.count 16)) c.pairs_of-pairs.ensures))
     c.asked_of-asked.ensures
     (search.ensures blank blank₂) c.in-Refused.is c.clear.ensures
-
-pub shape_of-segments-in-Done : goal.shape_of-segments-in-Done
-shape_of-segments-in-Done c =
-    c.segments-in-Done-1.given ∙ c.segments-1.given
-
-pub shape_of-references-in-Done : goal.shape_of-references-in-Done
-shape_of-references-in-Done c =
-    c.references-in-Done-1.given ∙ c.references-1.given
-
-pub shape_of-symbols-in-Done : goal.shape_of-symbols-in-Done
-shape_of-symbols-in-Done c =
-    c.symbols-in-Done-1.given ∙ c.symbols-1.given
-
-pub shape_of-bytes-in-Done : goal.shape_of-bytes-in-Done
-shape_of-bytes-in-Done c =
-    c.bytes-in-Done-1.given ∙ c.bytes-1.given
-
-pub shape_of-masks-in-Done : goal.shape_of-masks-in-Done
-shape_of-masks-in-Done c =
-    c.masks-in-Done-1.given ∙ c.masks-1.given
-
-pub shape_of-placed-in-Done : goal.shape_of-placed-in-Done
-shape_of-placed-in-Done c =
-    c.placed-in-Done-1.given ∙ c.placed-1.given
-
-pub shape_of-noted-in-Done : goal.shape_of-noted-in-Done
-shape_of-noted-in-Done c =
-    c.noted-in-Done-1.given ∙ c.noted-1.given
-
-pub shape_of-positions-in-Done : goal.shape_of-positions-in-Done
-shape_of-positions-in-Done c =
-    c.positions-1.given

@@ -21,35 +21,3 @@ returns-in-Refused c =
     c.begin.ensures ∙ ap (λ o. beginning o (length a.image.now) a.library.now a.settings) (own_is (too_long (length a.image.now)) c.single.ensures) in
     let a = c.args in refused-early a.image.now a.library.now a.settings (lent)
     (never-begun (too_long (length a.image.now)) (length a.image.now) a.library.now a.settings (sym c.in-Refused.is ∙ begins))
-
-pub shape_of-segments : goal.shape_of-segments
-shape_of-segments c =
-    c.segments-1.given
-
-pub shape_of-references : goal.shape_of-references
-shape_of-references c =
-    c.references-1.given
-
-pub shape_of-symbols : goal.shape_of-symbols
-shape_of-symbols c =
-    c.symbols-1.given
-
-pub shape_of-bytes : goal.shape_of-bytes
-shape_of-bytes c =
-    c.bytes-1.given
-
-pub shape_of-masks : goal.shape_of-masks
-shape_of-masks c =
-    c.masks-1.given
-
-pub shape_of-placed : goal.shape_of-placed
-shape_of-placed c =
-    c.placed-1.given
-
-pub shape_of-noted : goal.shape_of-noted
-shape_of-noted c =
-    c.noted-1.given
-
-pub shape_of-lines : goal.shape_of-lines
-shape_of-lines c =
-    c.lines-1.given

@@ -6,10 +6,6 @@ use Rattle.image.proofs.ViewLaws.{view-length}
 use Rattle.listing.specs.ListedLaws.{names-tabled, all_listed}
 use Rattle.listing.proofs.all_rows.list_rows.Goals as goal
 
-pub shape_of-lines : goal.shape_of-lines
-shape_of-lines c =
-    c.leave.auto.m ∙ c.list_beyond-all.auto.lines ∙ c.list_inside-inside.auto.m
-
 pub returns : goal.returns
 returns c =
     let a = c.args in

@@ -43,35 +43,3 @@ returns c =
     f.new.lines f.result
     (lines-found cells a.asked a.library.now a.n l short a.skip a.rows (lent) done a.positions.now a.goals.now sought a.lines.now
     f.new.lines f.result f.ensures) c.if-f.false
-
-pub shape_of-segments-then-f : goal.shape_of-segments-then-f
-shape_of-segments-then-f c =
-    c.clear_all.auto.segments
-
-pub shape_of-references-then-f : goal.shape_of-references-then-f
-shape_of-references-then-f c =
-    c.clear_all.auto.references
-
-pub shape_of-symbols-then-f : goal.shape_of-symbols-then-f
-shape_of-symbols-then-f c =
-    c.clear_all.auto.symbols
-
-pub shape_of-bytes-then-f : goal.shape_of-bytes-then-f
-shape_of-bytes-then-f c =
-    c.clear_all.auto.bytes
-
-pub shape_of-masks-then-f : goal.shape_of-masks-then-f
-shape_of-masks-then-f c =
-    c.clear_all.auto.masks
-
-pub shape_of-placed-then-f : goal.shape_of-placed-then-f
-shape_of-placed-then-f c =
-    c.clear_all.auto.placed
-
-pub shape_of-noted-then-f : goal.shape_of-noted-then-f
-shape_of-noted-then-f c =
-    c.clear_all.auto.noted
-
-pub shape_of-lines-then-f : goal.shape_of-lines-then-f
-shape_of-lines-then-f c =
-    c.clear.auto.rows ∙ c.list_rows-f.auto.lines

@@ -51,7 +51,3 @@ returns c =
     let cells = view a.image.now (stretches_in a.s.now) in
     λ k small. inside-last cells k a.skip (length cells) a.m.now a.before l.at l.m l.f
     (omega (arith, c.loop-at-test.false, view-length a.image.now (stretches_in a.s.now))) (l.invariant.leads k small)
-
-pub shape_of-m : goal.shape_of-m
-shape_of-m c =
-    c.loop-at.invariant.long

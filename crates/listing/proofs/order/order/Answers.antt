@@ -31,7 +31,3 @@ loop-gap-preserved c =
 pub returns : goal.returns
 returns c =
     λ r h. stands-last r c.loop-gap.m c.loop-gap.gap (c.loop-gap.invariant.passed r h) (omega (arith, c.loop-gap-test.false)) c.loop-gap.invariant.some
-
-pub shape_of-m : goal.shape_of-m
-shape_of-m c =
-    c.loop-gap.invariant.long

@@ -22,7 +22,3 @@ returns c =
     λ r s.
     let t = c.loop-i.invariant.passed r s in
     record { now = t.now; rising = λ g p h. t.rising g p (omega (arith, h, c.loop-i-test.false)) }
-
-pub shape_of-m : goal.shape_of-m
-shape_of-m c =
-    c.loop-i.invariant.long

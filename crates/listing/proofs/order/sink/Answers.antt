@@ -62,7 +62,3 @@ returns c =
           ∙ w.if-not-before.true
     ])
     c.put_line-2.ensures
-
-pub shape_of-m : goal.shape_of-m
-shape_of-m c =
-    c.put_line-2.auto.m ∙ c.loop-j.invariant.long

@@ -48,15 +48,3 @@ returns c =
     let l = c.loop-bound in
     leaves_none a.noted.now a.n a.goals.now a.end a.skip a.lines.now a.before l.lines l.f l.bound l.invariant.leaves
     c.highest-top.result c.highest-top.ensures (omega (arith, c.loop-bound-test.false))
-
-pub shape_of-lines-then-f : goal.shape_of-lines-then-f
-shape_of-lines-then-f c =
-    c.loop-bound.invariant.long
-
-pub shape_of-lines-then-top-last : goal.shape_of-lines-then-top-last
-shape_of-lines-then-top-last c =
-    c.list_span-f.auto.lines ∙ c.loop-bound.invariant.long
-
-pub shape_of-lines : goal.shape_of-lines
-shape_of-lines c =
-    c.loop-bound.invariant.long

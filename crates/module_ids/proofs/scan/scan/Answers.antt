@@ -73,7 +73,3 @@ loop-places-preserved c =
       same = ap (λ o. or_else o (collect_refusal (items_at lib (module_at lib) p.next))) (sym e) ∙ sym
           (module-fault (module_of One lib p) (items_at lib (module_at lib) p.next)) ∙ ap collect_refusal (sym (modules-step One lib l.at (stands))) ∙ l.invariant.same;
     }
-
-pub shape_of-table-in_default : goal.shape_of-table-in_default
-shape_of-table-in_default c =
-    c.loop-places.invariant.long

@@ -46,7 +46,3 @@ returns-in-Done c =
     let lib = c.args.library.now in
     let e = next-definition-yields lib l.c ∙ ap (definitions_after lib) (sym c.next_definition.ensures ∙ c.in-Done.is) in
     cleared l.table (subst (λ xs. Clearing xs l.table) e l.invariant.clearing)
-
-pub shape_of-table-in-Done : goal.shape_of-table-in-Done
-shape_of-table-in-Done c =
-    c.loop-definition.invariant.long

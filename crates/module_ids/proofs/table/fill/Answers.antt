@@ -77,7 +77,3 @@ returns-in-Done c =
     let lib = c.args.library.now in
     let e = next-definition-yields lib l.c ∙ ap (definitions_after lib) (sym c.next_definition.ensures ∙ c.in-Done.is) in
     all_noted l.table l.invariant.whole e l.invariant.tells l.invariant.number
-
-pub shape_of-table-in-Done : goal.shape_of-table-in-Done
-shape_of-table-in-Done c =
-    c.loop-definition.invariant.long

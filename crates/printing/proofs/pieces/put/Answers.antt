@@ -19,7 +19,3 @@ returns c =
     let a = c.args in
     let l = c.loop-j in
     record { ends = refl; stored = text-all a.at a.text.now l.out l.j (omega arith) ∙ l.invariant.same }
-
-pub shape_of-out : goal.shape_of-out
-shape_of-out c =
-    c.loop-j.invariant.long

@@ -20,7 +20,3 @@ returns c =
     let a = c.args in
     let l = c.loop-j in
     record { ends = ap (λ k. a.at + k) (sym (length-replicate a.n 0x20)); stored = blanks-all a.at a.n l.out l.j (omega arith) ∙ l.invariant.same }
-
-pub shape_of-out : goal.shape_of-out
-shape_of-out c =
-    c.loop-j.invariant.long

@@ -27,7 +27,3 @@ returns c =
     let a = c.args in
     let l = c.loop-j in
     record { ends = ap (λ k. a.at + k) (sym (digits-length a.n a.number)); stored = digits-all a.at l.j l.rest l.out (omega arith) ∙ l.invariant.same }
-
-pub shape_of-out : goal.shape_of-out
-shape_of-out c =
-    c.loop-j.invariant.long

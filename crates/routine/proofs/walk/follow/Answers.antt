@@ -2,7 +2,6 @@ use Prim.Native.Nat.{ℕ, ◌<◌}
 use mathlib.Core.Path.{◌≡◌, refl, sym, ap, ◌∙◌}
 use mathlib.Core.Bool.{Bool, true, false}
 use mathlib.Core.List.{List}
-use native.Mathlib.Omega.{arith}
 use lib.ListN.{length, length-replicate}
 use Rattle.lent.specs.Rows.{has_row, put_row}
 use Rattle.image.specs.View.{stretches_in, view}
@@ -12,7 +11,7 @@ use Rattle.routine.specs.declared.step.Step.TheVariants.{Shown}
 use Rattle.routine.specs.Step.{step_at}
 use Rattle.routine.specs.Outcome.{numbers_in, laid}
 use Rattle.routine.specs.Walk.{walked}
-use Rattle.routine.proofs.WalkLaws.{begun, long, at-limit, at-stop, no_room, going_on, at_return}
+use Rattle.routine.proofs.WalkLaws.{begun, at-limit, at-stop, no_room, going_on, at_return}
 use Rattle.routine.proofs.walk.follow.Goals as goal
 use Rattle.routine.proofs.walk.follow.Goals.{Else-not-store, In-loop-i}
 
@@ -88,31 +87,3 @@ returns c =
     let whole : (o : Walked × List ℕ) → o ≡ laid (walked (cells) c.args.start) (room) → o ≡ laid (walked (cells) c.args.start) (length c.args.rows.now) = λ _ e. e ∙ ap (laid (walked (cells) c.args.start)) c.clear.auto.rows in
     let l = c.loop-i in
     whole _ (at-limit (cells) c.args.start (room) l.rows l.at l.i l.invariant c.loop-i-test.false)
-
-pub shape_of-rows-in-Stopped : goal.shape_of-rows-in-Stopped
-shape_of-rows-in-Stopped c =
-    let cells : List ℕ = let a = c.args in view a.image.now (stretches_in a.s.now) in
-    let room : ℕ = length c.clear.new.rows in
-    let kept : length c.loop-i.rows ≡ length c.args.rows.now = long (cells) c.args.start (room) c.loop-i.rows c.loop-i.at c.loop-i.i c.loop-i.invariant ∙ c.clear.auto.rows in
-    kept
-
-pub shape_of-rows-then-not-store : goal.shape_of-rows-then-not-store
-shape_of-rows-then-not-store c =
-    let cells : List ℕ = let a = c.args in view a.image.now (stretches_in a.s.now) in
-    let room : ℕ = length c.clear.new.rows in
-    let kept : length c.loop-i.rows ≡ length c.args.rows.now = long (cells) c.args.start (room) c.loop-i.rows c.loop-i.at c.loop-i.i c.loop-i.invariant ∙ c.clear.auto.rows in
-    omega (arith, c.clear-then-not-store.auto, c.store.auto, kept)
-
-pub shape_of-rows-then-last : goal.shape_of-rows-then-last
-shape_of-rows-then-last c =
-    let cells : List ℕ = let a = c.args in view a.image.now (stretches_in a.s.now) in
-    let room : ℕ = length c.clear.new.rows in
-    let kept : length c.loop-i.rows ≡ length c.args.rows.now = long (cells) c.args.start (room) c.loop-i.rows c.loop-i.at c.loop-i.i c.loop-i.invariant ∙ c.clear.auto.rows in
-    omega (arith, c.store.auto, kept)
-
-pub shape_of-rows : goal.shape_of-rows
-shape_of-rows c =
-    let cells : List ℕ = let a = c.args in view a.image.now (stretches_in a.s.now) in
-    let room : ℕ = length c.clear.new.rows in
-    let kept : length c.loop-i.rows ≡ length c.args.rows.now = long (cells) c.args.start (room) c.loop-i.rows c.loop-i.at c.loop-i.i c.loop-i.invariant ∙ c.clear.auto.rows in
-    kept

@@ -1,5 +1,4 @@
 -- `fill_along`: rows are cleared, the image is indexed, and all segments are searched. Assumes nothing.
-use Rattle.std.proofs.Common.{◌∙◌}
 use Rattle.image.specs.View.{stretches_in, view}
 use Rattle.search.specs.visit.Visits.{stored}
 use Rattle.search.specs.FillLaws.{rows-filled, zeros-ready}
@@ -13,10 +12,6 @@ pub search_all-requires : goal.search_all-requires
 search_all-requires c =
     (c.index.ensures, c.requires.2)
 
-pub shape_of-noted : goal.shape_of-noted
-shape_of-noted c =
-    c.search_all.auto.noted ∙ c.clear-2.auto.rows
-
 pub returns : goal.returns
 returns c =
     let a = c.args in
@@ -27,7 +22,3 @@ returns c =
     v.new.placed v.new.positions
     v.new.noted v.new.goals v.result
     c.clear.ensures c.clear-2.ensures c.search_all.auto.placed c.search_all.auto.noted v.ensures
-
-pub shape_of-placed : goal.shape_of-placed
-shape_of-placed c =
-    c.search_all.auto.placed ∙ c.clear.auto.rows

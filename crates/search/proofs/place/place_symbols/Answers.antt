@@ -78,11 +78,3 @@ returns c =
     (all-taken placed_sheet a.library.now (place a.library.now a.end) (left a.number a.base a.valid a.symbols.now a.part 0)
     {t₀ = table a.placed.now a.heads.now a.before} {t = table l.placed l.heads l.f}
     (ap (map (placing_of a.number a.base a.valid)) (rows_end symbol_layout a.symbols.now a.part l.k (omega (arith, c.loop-k-test.false)))) l.invariant.leads)
-
-pub shape_of-placed : goal.shape_of-placed
-shape_of-placed c =
-    c.loop-k.invariant.long
-
-pub shape_of-heads : goal.shape_of-heads
-shape_of-heads c =
-    c.loop-k.invariant.heads-long

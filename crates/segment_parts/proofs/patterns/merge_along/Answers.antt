@@ -109,27 +109,3 @@ returns c =
       masks-are = λ ss f. merging-ends is (next_of a.contents.now) ss a.masks.now (merged_one a.start a.size (data_masks a.library.now)) l.last
           l.here l.masks (omega arith) (l.invariant.masks-go ss f);
     }
-
-pub shape_of-bytes-in_default : goal.shape_of-bytes-in_default
-shape_of-bytes-in_default c =
-    c.loop-last.invariant.bytes-long
-
-pub shape_of-masks-in_default : goal.shape_of-masks-in_default
-shape_of-masks-in_default c =
-    c.loop-last.invariant.masks-long
-
-pub shape_of-apart-in_default : goal.shape_of-apart-in_default
-shape_of-apart-in_default c =
-    c.loop-last.invariant.apart-long
-
-pub shape_of-bytes : goal.shape_of-bytes
-shape_of-bytes c =
-    c.loop-last.invariant.bytes-long
-
-pub shape_of-masks : goal.shape_of-masks
-shape_of-masks c =
-    c.loop-last.invariant.masks-long
-
-pub shape_of-apart : goal.shape_of-apart
-shape_of-apart c =
-    c.loop-last.invariant.apart-long

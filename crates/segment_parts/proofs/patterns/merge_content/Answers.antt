@@ -21,7 +21,3 @@ returns c =
       bytes-are = c.merge_at.ensures ∙ ap (merged_in a.spot a.bytes.now) c.name-data.ensures;
       masks-are = c.merge_masks.ensures.0 ∙ ap (λ xs. merged_in a.spot a.masks.now (masks_of (length xs) (fixups_left a.library.now a.fixups))) c.name-data.ensures;
     }
-
-pub shape_of-apart : goal.shape_of-apart
-shape_of-apart c =
-    c.merge_masks.ensures.1

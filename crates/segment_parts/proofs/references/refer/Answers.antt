@@ -48,7 +48,3 @@ returns-in-Done c =
     let l = c.loop-fixup in
     let e = next-fixup-yields a.library.now l.c ∙ ap (fixups_after a.library.now) (sym c.next_fixup.ensures ∙ c.in-Done.is) in
     record { long = l.invariant.long; adds = λ ds t. all-added reference_layout (joined_end (leaves_in ds a.number a.base) e) (l.invariant.leads ds t) }
-
-pub shape_of-m-in-Done : goal.shape_of-m-in-Done
-shape_of-m-in-Done c =
-    c.loop-fixup.invariant.long

@@ -75,11 +75,3 @@ returns c =
       adds = λ ds ss t f. adding-ends (SectionIs a.library.now (places_of a.contents.now)) (next_of a.contents.now) ss a.m.now reference_layout
           (section_leaves ds a.number) a.before l.last l.here l.m l.f (omega arith) (l.invariant.adding ds ss t f);
     }
-
-pub shape_of-m-in_default : goal.shape_of-m-in_default
-shape_of-m-in_default c =
-    c.loop-last.invariant.long
-
-pub shape_of-m : goal.shape_of-m
-shape_of-m c =
-    c.loop-last.invariant.long

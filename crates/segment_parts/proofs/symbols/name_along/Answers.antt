@@ -54,7 +54,3 @@ returns c =
       adds = λ publics f. adding-ends (PublicIs a.library.now (places_of a.publics.now)) (next_of a.publics.now) publics a.m.now symbol_layout (symbol_by a.c)
           a.before l.last l.here l.m l.f (omega arith) (l.invariant.adding publics f);
     }
-
-pub shape_of-m : goal.shape_of-m
-shape_of-m c =
-    c.loop-last.invariant.long

@@ -79,11 +79,3 @@ returns c =
     let l = c.loop-i in
     let end : l.i ≡ 0 = omega arith in
     subst (λ i. LinkedThings a.things.now a.n i l.things l.first) end l.invariant.linked
-
-pub shape_of-things : goal.shape_of-things
-shape_of-things c =
-    c.loop-i.invariant.things-long
-
-pub shape_of-first : goal.shape_of-first
-shape_of-first c =
-    c.loop-i.invariant.heads-long

@@ -48,7 +48,3 @@ returns c =
     let keys = take c.args.n (keys_of c.args.things.now) in
     let many = length-take c.args.n (keys_of c.args.things.now) in
     all-cleared keys c.args.first.now l.first l.i (omega (arith, l.invariant.within, many, keys-long c.args.things.now, c.requires.0)) l.invariant.cleared
-
-pub shape_of-first : goal.shape_of-first
-shape_of-first c =
-    c.loop-i.invariant.cleared.long

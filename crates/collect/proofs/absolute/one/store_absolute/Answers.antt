@@ -68,17 +68,6 @@ overflow_add-c c =
       c.well_formed.1.1.1.1.1.1.1.1.1.1.0,
     )
 
-pub shape_of-bytes : goal.shape_of-bytes
-shape_of-bytes c =
-    ap length c.merge_content.ensures.bytes-are ∙ merged-at-length c.args.bytes.now
-    c.args.c.pattern c.args.from.content.part.len 0 (bytes_of c.args.library.now c.args.from.content.part)
-
-pub shape_of-masks : goal.shape_of-masks
-shape_of-masks c =
-    ap length c.merge_content.ensures.masks-are ∙ merged-at-length c.args.masks.now
-    c.args.c.pattern c.args.from.content.part.len 0
-    (masks_of (length (bytes_of c.args.library.now c.args.from.content.part)) (fixups_left c.args.library.now c.args.from.fixups))
-
 pub returns : goal.returns
 returns c =
     let a = c.args in
@@ -122,11 +111,3 @@ returns c =
           (sym c.fits-2.ensures ∙ c.if-not-fits-2.false))
           (masks_of (length new) fixups) (even ∙ wide) m.ensures.masks-are));
     }
-
-pub shape_of-apart : goal.shape_of-apart
-shape_of-apart c =
-    c.merge_content.ensures.long
-
-pub shape_of-flags : goal.shape_of-flags
-shape_of-flags c =
-    c.name_inside-y.ensures.flags_long

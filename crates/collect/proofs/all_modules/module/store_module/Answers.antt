@@ -1,5 +1,5 @@
 -- `store_module` makes the tables, stores, and leaves the tables blank. Assumes nothing.
-use mathlib.Core.Path.{refl, ◌∙◌}
+use mathlib.Core.Path.{refl}
 use native.Mathlib.Omega.{arith}
 use Rattle.omf51.specs.declared.Edition.TheVariants.{One}
 use Rattle.library.specs.WholeLaws.{module_of}
@@ -41,47 +41,3 @@ returns c =
       apart-long = b.apart-long;
       extends = λ rules o. b.extends rules (module_of One a.library.now a.task.at) o (record { defined = refl; tells = c.fill.ensures.tells; sections = i.meets });
     }
-
-pub shape_of-table : goal.shape_of-table
-shape_of-table c =
-    c.table-2-1.given ∙ c.table-1.given
-
-pub shape_of-contents : goal.shape_of-contents
-shape_of-contents c =
-    c.contents-1.given
-
-pub shape_of-first : goal.shape_of-first
-shape_of-first c =
-    c.first-2-1.given ∙ c.first-1.given
-
-pub shape_of-publics : goal.shape_of-publics
-shape_of-publics c =
-    c.publics-1.given
-
-pub shape_of-heads : goal.shape_of-heads
-shape_of-heads c =
-    c.heads-1.given
-
-pub shape_of-segments : goal.shape_of-segments
-shape_of-segments c =
-    c.segments-1.given
-
-pub shape_of-references : goal.shape_of-references
-shape_of-references c =
-    c.references-1.given
-
-pub shape_of-symbols : goal.shape_of-symbols
-shape_of-symbols c =
-    c.symbols-1.given
-
-pub shape_of-bytes : goal.shape_of-bytes
-shape_of-bytes c =
-    c.bytes-1.given
-
-pub shape_of-masks : goal.shape_of-masks
-shape_of-masks c =
-    c.masks-1.given
-
-pub shape_of-apart : goal.shape_of-apart
-shape_of-apart c =
-    c.apart-1.given

@@ -92,11 +92,3 @@ returns c =
           (leb-true end (length a.masks.now)
           (sym c.fits-2.ensures ∙ c.if-not-fits-2.false)) (data_masks lib) ss (m.ensures.masks-are ss f)));
     }
-
-pub shape_of-bytes : goal.shape_of-bytes
-shape_of-bytes c =
-    c.merge_along.ensures.bytes-long
-
-pub shape_of-masks : goal.shape_of-masks
-shape_of-masks c =
-    c.merge_along.ensures.masks-long

@@ -1,5 +1,5 @@
 -- `first_part` indexes the public definitions, stores, and unlinks them again. Assumes nothing.
-use mathlib.Core.Path.{sym, subst, ◌∙◌}
+use mathlib.Core.Path.{sym, subst}
 use native.Mathlib.Omega.{arith}
 use Rattle.lent.specs.Lists.{keep}
 use Rattle.module_index.specs.gather.Places.{PublicIs, public_key, is_public_definition}
@@ -33,35 +33,3 @@ returns c =
             i.new.first (next_of i.new.things)) (sym k.defined) i.ensures.meets;
       }) gs t;
     }
-
-pub shape_of-publics : goal.shape_of-publics
-shape_of-publics c =
-    c.publics-1.given
-
-pub shape_of-heads : goal.shape_of-heads
-shape_of-heads c =
-    c.heads-2-1.given ∙ c.heads-1.given
-
-pub shape_of-segments : goal.shape_of-segments
-shape_of-segments c =
-    c.segments-1.given
-
-pub shape_of-references : goal.shape_of-references
-shape_of-references c =
-    c.references-1.given
-
-pub shape_of-symbols : goal.shape_of-symbols
-shape_of-symbols c =
-    c.symbols-1.given
-
-pub shape_of-bytes : goal.shape_of-bytes
-shape_of-bytes c =
-    c.bytes-1.given
-
-pub shape_of-masks : goal.shape_of-masks
-shape_of-masks c =
-    c.masks-1.given
-
-pub shape_of-apart : goal.shape_of-apart
-shape_of-apart c =
-    c.apart-1.given

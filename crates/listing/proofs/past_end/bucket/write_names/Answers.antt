@@ -26,7 +26,3 @@ pub returns : goal.returns
 returns c =
     let a = c.args in writing-last a.noted.now a.head a.t a.end a.lines.now c.loop-here.lines
     c.loop-here.k c.loop-here.here c.loop-here.invariant c.loop-here-test.false
-
-pub shape_of-lines : goal.shape_of-lines
-shape_of-lines c =
-    c.loop-here.invariant.long

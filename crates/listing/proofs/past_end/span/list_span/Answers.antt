@@ -34,7 +34,3 @@ returns c =
     let l = c.loop-t in
     spans_all a.noted.now a.goals.now a.first a.last a.skip a.lines.now a.before l.lines l.f l.t l.invariant.spans
     c.list_target.new.lines c.list_target.result c.list_target.ensures (omega (arith, c.loop-t-test.false))
-
-pub shape_of-lines : goal.shape_of-lines
-shape_of-lines c =
-    c.list_target.auto.lines ∙ c.loop-t.invariant.long

@@ -1,5 +1,5 @@
 -- `list_position`: the noted names are met, then the placed symbols, and then the best are put in order. Assumes nothing.
-use mathlib.Core.Path.{sym, subst, ◌∙◌}
+use mathlib.Core.Path.{sym, subst}
 use mathlib.Core.List.{◌++◌, map}
 use native.Mathlib.Nat.{le-div_iff_mul-le}
 use native.Mathlib.Omega.{arith}
@@ -54,7 +54,3 @@ returns c =
     subst (λ ls. Front (lines ++ ls) c.finish.new.m c.finish.result) (met-listed cells k a.at a.skip)
     (c.finish.ensures lines (map (line_of cells k) (keep (stays_at cells k a.at) k.ps) ++ map noted_line
     (keep (noted_at_it a.at) k.ns)) long met (met-apart cells k a.at) (met-small cells k a.at))
-
-pub shape_of-m : goal.shape_of-m
-shape_of-m c =
-    c.finish.auto.m ∙ c.walk_placed-best.auto.m ∙ c.walk_noted-heard.auto.m

@@ -110,11 +110,3 @@ returns c =
           (walked-last noted_sheet library noted-reads none ns tabled refl a.at (noted_at_it a.at) (noted-within a.at small) noted_line lines []
           l.here l.m l.b c.loop-here-test.false (l.invariant.walked library ns lines tabled small long front));
     }
-
-pub shape_of-m-then-here-next : goal.shape_of-m-then-here-next
-shape_of-m-then-here-next c =
-    c.take_noted-b.auto.m ∙ c.loop-here.invariant.long
-
-pub shape_of-m : goal.shape_of-m
-shape_of-m c =
-    c.loop-here.invariant.long

@@ -163,11 +163,3 @@ returns c =
           (stays_at (view a.image.now (stretches_in a.s.now)) k a.at) (within k small) (line_of (view a.image.now (stretches_in a.s.now)) k) lines before
           l.here l.m l.b c.loop-here-test.false (l.invariant.walked k lines before small long h);
     }
-
-pub shape_of-m-then-here-next : goal.shape_of-m-then-here-next
-shape_of-m-then-here-next c =
-    c.take_placed-b.auto.m ∙ c.loop-here.invariant.long
-
-pub shape_of-m : goal.shape_of-m
-shape_of-m c =
-    c.loop-here.invariant.long

@@ -224,7 +224,3 @@ returns-in-Done c =
       gathered = subst (λ ds. Some-held c.args.by lib ds l.things l.n) (all_done l.invariant.whole none) l.invariant.gathered;
       long = l.invariant.long;
     }
-
-pub shape_of-things-in-Done : goal.shape_of-things-in-Done
-shape_of-things-in-Done c =
-    c.loop-definition.invariant.long

@@ -96,7 +96,3 @@ returns-in-Done c =
       gathered = subst (λ xs. Held section_key (SectionIs lib) no_section xs l.things l.n) (all_done l.invariant.whole none) l.invariant.gathered;
       long = l.invariant.long;
     }
-
-pub shape_of-things-in-Done : goal.shape_of-things-in-Done
-shape_of-things-in-Done c =
-    c.loop-content.invariant.long

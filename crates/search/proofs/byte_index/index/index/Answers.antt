@@ -88,11 +88,3 @@ loop-i-preserved c =
 pub returns : goal.returns
 returns c =
     all-indexed (omega (arith, c.loop-i.invariant.heads-long, c.requires.heads)) (linked-at c.loop-i.invariant.linked (omega arith))
-
-pub shape_of-first : goal.shape_of-first
-shape_of-first c =
-    c.loop-i.invariant.heads-long
-
-pub shape_of-next : goal.shape_of-next
-shape_of-next c =
-    c.loop-i.invariant.next-long

@@ -96,11 +96,3 @@ returns c =
     (referring-ends (view a.image.now (stretches_in a.s.now)) a.rules a.position a.valid a.library.now a.segments.now a.n a.bytes.now a.masks.now
     (rows_from reference_layout a.references.now a.part 0) a.noted.now a.heads.now a.before
     l.k l.noted l.heads l.f l.failed l.invariant.refers (rows_end reference_layout a.references.now a.part l.k (omega (arith, c.loop-k-test.false))))
-
-pub shape_of-noted : goal.shape_of-noted
-shape_of-noted c =
-    c.loop-k.invariant.long
-
-pub shape_of-heads : goal.shape_of-heads
-shape_of-heads c =
-    c.loop-k.invariant.heads-long

@@ -74,23 +74,3 @@ returns c =
     (joined (matches_by (seen) (rows)) (from 0 (a.n - 0))) a.placed.now a.positions.now a.noted.now a.goals.now
     a.before {left = joined (matches_by (seen) (rows)) (from l.i (a.n - l.i))} l.placed l.positions l.noted l.goals l.f l.invariant.leads
     (no_number (seen) (rows) l.i a.n (omega (arith, c.loop-i-test.false))))
-
-pub shape_of-told : goal.shape_of-told
-shape_of-told c =
-    c.loop-i.invariant.told-long
-
-pub shape_of-placed : goal.shape_of-placed
-shape_of-placed c =
-    c.loop-i.invariant.placed-long
-
-pub shape_of-positions : goal.shape_of-positions
-shape_of-positions c =
-    c.loop-i.invariant.positions-long
-
-pub shape_of-noted : goal.shape_of-noted
-shape_of-noted c =
-    c.loop-i.invariant.noted-long
-
-pub shape_of-goals : goal.shape_of-goals
-shape_of-goals c =
-    c.loop-i.invariant.goals-long

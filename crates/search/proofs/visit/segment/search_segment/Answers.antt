@@ -137,23 +137,3 @@ loop-at-preserved c =
           (v.ensures (known-valid (seen) a.asked a.library.now t a.n a.i row b.result.now m.result.now b.ensures
           m.ensures c.reaches-valid.result c.reaches-valid.ensures) (decided).0);
     }
-
-pub shape_of-told-in_default : goal.shape_of-told-in_default
-shape_of-told-in_default c =
-    c.loop-at.invariant.told-long
-
-pub shape_of-placed-in_default : goal.shape_of-placed-in_default
-shape_of-placed-in_default c =
-    c.loop-at.invariant.placed-long
-
-pub shape_of-positions-in_default : goal.shape_of-positions-in_default
-shape_of-positions-in_default c =
-    c.loop-at.invariant.positions-long
-
-pub shape_of-noted-in_default : goal.shape_of-noted-in_default
-shape_of-noted-in_default c =
-    c.loop-at.invariant.noted-long
-
-pub shape_of-goals-in_default : goal.shape_of-goals-in_default
-shape_of-goals-in_default c =
-    c.loop-at.invariant.goals-long

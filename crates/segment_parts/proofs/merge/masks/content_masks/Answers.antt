@@ -1,7 +1,7 @@
 use native.Mathlib.Omega.{arith}
 use mathlib.Core.Path.{◌≡◌, refl, sym, ap, ◌∙◌}
 use mathlib.Core.List.{◌∷◌}
-use lib.ListN.{length, length-replicate}
+use lib.ListN.{length}
 use Rattle.library.specs.items.Left.{fixups_left}
 use Rattle.library.specs.items.Yields.{fixups_after, next-fixup-yields}
 use Rattle.segments.proofs.MaskLaws.{mask-length}
@@ -36,7 +36,3 @@ returns-in-Done c =
     let lib = c.args.library.now in
     let e = next-fixup-yields lib l.c ∙ ap (fixups_after lib) (sym c.next_fixup.ensures ∙ c.in-Done.is) in
     masks-done _ _ l.invariant.whole e c.set_all.ensures
-
-pub shape_of-masks-in-Done : goal.shape_of-masks-in-Done
-shape_of-masks-in-Done c =
-    c.loop-fixup.invariant.long ∙ ap length c.set_all.ensures ∙ length-replicate _ 0xff

@@ -31,11 +31,3 @@ returns c =
     let l = c.loop-i in
     let a = c.args in
     l.invariant.in_place ∙ or-over a.old.now a.new.now l.i (omega arith)
-
-pub shape_of-old-then-i-new : goal.shape_of-old-then-i-new
-shape_of-old-then-i-new c =
-    c.loop-i.invariant.long
-
-pub shape_of-old : goal.shape_of-old
-shape_of-old c =
-    c.loop-i.invariant.long

@@ -19,7 +19,3 @@ loop-b-preserved c =
 pub returns : goal.returns
 returns c =
     record { long = c.loop-b.invariant.long; clear = λ k. clear-all c.args.s c.loop-b.flags c.loop-b.b (c.loop-b.invariant.clear k) (omega arith) }
-
-pub shape_of-flags : goal.shape_of-flags
-shape_of-flags c =
-    c.loop-b.invariant.long

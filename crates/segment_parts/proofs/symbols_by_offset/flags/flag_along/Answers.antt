@@ -36,7 +36,3 @@ pub returns : goal.returns
 returns c =
     let l = c.loop-last in
     record { grows = l.invariant.grows; met = λ keys first v k w e. way-ends keys v l.last l.here (l.invariant.way keys first v k w e) (omega arith) }
-
-pub shape_of-flags : goal.shape_of-flags
-shape_of-flags c =
-    c.loop-last.invariant.grows.long

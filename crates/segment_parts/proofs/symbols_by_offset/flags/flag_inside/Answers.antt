@@ -26,7 +26,3 @@ pub returns : goal.returns
 returns c =
     let l = c.loop-i in
     record { grows = l.invariant.grows; met = λ keys k w z j h a b. l.invariant.covers keys k w z j h a (omega (arith, l.invariant.within)) }
-
-pub shape_of-flags : goal.shape_of-flags
-shape_of-flags c =
-    c.loop-i.invariant.grows.long

@@ -68,11 +68,3 @@ returns c =
       adds = λ p t k. left-none a.library.now (keys_of a.publics.now) a.n (places_of a.publics.now) p t a.at a.len a.own a.s a.flags.now k
           a.m.now a.before l.j l.m l.f (omega arith) (l.invariant.left p t k);
     }
-
-pub shape_of-m-then-s-b : goal.shape_of-m-then-s-b
-shape_of-m-then-s-b c =
-    c.loop-j.invariant.long
-
-pub shape_of-m : goal.shape_of-m
-shape_of-m c =
-    c.loop-j.invariant.long

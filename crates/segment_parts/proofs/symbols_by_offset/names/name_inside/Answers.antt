@@ -27,11 +27,3 @@ returns c =
           (f.met (take a.n (keys_of a.publics.now)) o.linked o.wide
           (words-taken (keys_of a.publics.now) a.n (key-small a.publics.now)));
     }
-
-pub shape_of-flags : goal.shape_of-flags
-shape_of-flags c =
-    c.clear_blocks.ensures.long ∙ c.flag_inside-s.ensures.grows.long
-
-pub shape_of-m : goal.shape_of-m
-shape_of-m c =
-    c.name_blocks-f.ensures.long
