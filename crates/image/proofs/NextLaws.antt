@@ -7,7 +7,7 @@ use Rattle.std.proofs.Math.Nat.{sub-zero}
 use Rattle.lent.specs.Lists.{one, keep, from}
 use Rattle.lent.specs.ListLaws.{from-turn}
 use Rattle.lent.specs.Members.{◌among◌, to-keep, to-from}
-use Rattle.image.specs.declared.FirstPlace.TheVariants.{At, Nothing}
+use Rattle.std.specs.declared.option.Option.TheVariants.{Some, None}
 use Rattle.image.specs.declared.Seat.TheVariants.{Anywhere, Only}
 use Rattle.image.specs.Match.{matches_at, matches}
 use Rattle.image.proofs.MatchLaws.{match-past, matches-at}
@@ -37,7 +37,7 @@ module _ (cells bytes masks : List ℕ) where
       go (suc n) k l = rw (match-past cells bytes masks k l) (go n (k + 1) (omega arith))
 
   -- the first of them, where it stands or does not
-  pub next-match : (at : ℕ) → at ≤ length cells → matches_at cells bytes masks at ≡ true → next_match cells bytes masks at ≡ At at
+  pub next-match : (at : ℕ) → at ≤ length cells → matches_at cells bytes masks at ≡ true → next_match cells bytes masks at ≡ Some at
   unfolding next_match
   next-match at l e = rw (from-match at l e)
 
@@ -45,7 +45,7 @@ module _ (cells bytes masks : List ℕ) where
   unfolding next_match
   next-other at l e = rw (from-other at l e)
 
-  pub next_past : (at : ℕ) → length cells < at + length bytes → next_match cells bytes masks at ≡ Nothing
+  pub next_past : (at : ℕ) → length cells < at + length bytes → next_match cells bytes masks at ≡ None
   unfolding next_match
   next_past at h = rw (from_past at h)
 

@@ -1,8 +1,8 @@
 -- The next match of a pattern at or after a place: a step through all matches.
 use Rattle.std.specs.Prelude.{ℕ, ◌+◌, ◌-◌, List, [], ◌∷◌, length}
 use Rattle.lent.specs.Lists.{keep, from}
-use Rattle.image.specs.declared.FirstPlace.{FirstPlace}
-use Rattle.image.specs.declared.FirstPlace.TheVariants.{At, Nothing}
+use Rattle.std.specs.declared.option.Option.{Option}
+use Rattle.std.specs.declared.option.Option.TheVariants.{Some, None}
 use Rattle.image.specs.Match.{matches_at}
 
 -- all matches of a pattern at or after the place `at`, ascending
@@ -10,10 +10,10 @@ unfoldable pub matches_from : List ℕ → List ℕ → List ℕ → ℕ → Lis
 matches_from cells bytes masks at = keep (matches_at cells bytes masks) (from at (length cells + 1 - at))
 
 -- the first place of a list, if there is one
-abbrev pub first_found : List ℕ → FirstPlace
-first_found [] = Nothing
-first_found (at ∷ rest) = At at
+abbrev pub first_found : List ℕ → Option ℕ
+first_found [] = None
+first_found (at ∷ rest) = Some at
 
 -- the first match of a pattern at or after the place `at`
-unfoldable pub next_match : List ℕ → List ℕ → List ℕ → ℕ → FirstPlace
+unfoldable pub next_match : List ℕ → List ℕ → List ℕ → ℕ → Option ℕ
 next_match cells bytes masks at = first_found (matches_from cells bytes masks at)

@@ -16,25 +16,11 @@ pub struct Stretches {
     pub pairs: [u64; 32],
 }
 
-// How many numbers of the pairs say what is withheld.
-fn numbers(count: usize) -> usize
-    ensures { result ≡ 2 * min count 16 }
-{
-    if MOST_STRETCHES < count {
-        return 32;
-    }
-    2 * count
-}
-
 // The numbers of the pairs that say what is withheld: those of the first `count` pairs, of which there are 16.
 pub fn first_pairs<'a>(pairs: &'a [u64], count: usize) -> &'a [u64]
     ensures { result.now ≡ take (2 * min count 16) pairs.now }
 {
-    let n = numbers(count);
-    if pairs.len() < n {
-        return pairs;
-    }
-    &pairs[0..n]
+    pairs.get(..2 * count.min(MOST_STRETCHES)).unwrap_or(pairs)
 }
 
 // No stretch.
@@ -70,37 +56,34 @@ pub fn gather(numbers: &[u64]) -> Stretches
     ensures { result ≡ gathered no_stretches numbers.now }
 {
     let mut w = no_stretches();
-    let mut i = 0;
-    while i < numbers.len() {
-        if i + 1 == numbers.len() {
-            return one_more(w, numbers[i], 0xffff_ffff_ffff_ffff);
-        }
-        w = one_more(w, numbers[i], numbers[i + 1]);
-        i += 2;
+    let mut rest = numbers;
+    while let [start, len, others @ ..] = rest {
+        w = one_more(w, *start, *len);
+        rest = others;
     }
-    w
+    match rest {
+        [start, ..] => one_more(w, *start, u64::MAX),
+        [] => w,
+    }
 }
 
 // Whether a stretch passes the end of an image of this length. No sum is taken that could be too large.
 fn ends_past(s: Stretch, len: usize) -> bool
     ensures { result ≡ ends_past len s }
 {
-    if len < s.start {
-        return true;
-    }
-    len - s.start < s.len
+    len < s.start || len - s.start < s.len
 }
 
 // Whether some stretch of a cover does.
 pub fn passes_end(s: &[u64], len: usize) -> bool
     ensures { result ≡ passes_end len (stretches_in s.now) }
 {
-    let mut i = 0;
-    while i + 1 < s.len() {
-        if ends_past(stretch_at(s, i), len) {
+    let mut rest = s;
+    while let [_, _, others @ ..] = rest {
+        if ends_past(stretch_at(rest, 0), len) {
             return true;
         }
-        i += 2;
+        rest = others;
     }
     false
 }

@@ -4,14 +4,14 @@ ghost use Rattle.image.specs.View.{stretches_in, view, cell_at};
 ghost use Rattle.image.specs.fixup.Target.{signed as signed_of, top_bits, addr16 as addr16Of, reads, leads_to, counted as counted_by, target, page11};
 
 // The two rule sets: 0, as found, and 1, as documented.
-#[derive(Clone, Copy)]
+#[derive(Clone, Copy, Debug, PartialEq, Eq)]
 pub enum Rules {
     AsFound,
     Documented,
 }
 
 // The three kinds of fixup that leave a reference.
-#[derive(Clone, Copy)]
+#[derive(Clone, Copy, Debug, PartialEq, Eq)]
 pub enum Kind {
     Relative,
     Word,
@@ -19,19 +19,12 @@ pub enum Kind {
 }
 
 // The target of a reference: an address; or none, since its bytes pass the image's end, or, where they do not, since one
-// of them is withheld.
-#[derive(Clone, Copy)]
+// of them is withheld. It is no `Result`, since nobody hands a missing target on: each caller tells the two reasons apart.
+#[derive(Clone, Copy, Debug, PartialEq, Eq)]
 pub enum Target {
     At(u64),
     PastEnd,
     Withheld,
-}
-
-// A byte as a number of 64 bits.
-fn wide(x: u8) -> u64
-    ensures { (result ≡ x) × (result < 256) }
-{
-    x as u64
 }
 
 // How many bytes a reference of a kind reads.
@@ -50,16 +43,17 @@ fn signed(a: u8) -> u64
     ensures { result ≡ signed_of a }
 {
     if a < 128 {
-        return wide(a);
+        u64::from(a)
+    } else {
+        u64::from(a) + 0xffff_ffff_ffff_ff00
     }
-    wide(a) + 0xffff_ffff_ffff_ff00
 }
 
 // The address of two bytes, high byte first.
 fn addr16(a: u8, b: u8) -> u64
     ensures { result ≡ addr16Of a b }
 {
-    256 * wide(a) + wide(b)
+    256 * u64::from(a) + u64::from(b)
 }
 
 // The three bits of the first byte of an AJMP or ACALL that belong to the address; under rule set 0, as found, they count as 0.
@@ -68,7 +62,7 @@ fn top_bits(rules: Rules, a: u8) -> u64
 {
     match rules {
         Rules::AsFound => 0,
-        Rules::Documented => wide(a >> 5),
+        Rules::Documented => u64::from(a >> 5),
     }
 }
 
@@ -78,7 +72,7 @@ fn addr11(rules: Rules, next: u64, a: u8, b: u8) -> u64
     ensures { result ≡ page11 next (top_bits rules a) b }
 {
     let page = (next >> 11) & 31;
-    let low = (top_bits(rules, a) << 8) | wide(b);
+    let low = (top_bits(rules, a) << 8) | u64::from(b);
     (page << 11) | low
 }
 
@@ -86,23 +80,14 @@ fn addr11(rules: Rules, next: u64, a: u8, b: u8) -> u64
 fn passes(end: usize, pos: usize, n: usize) -> bool
     ensures { result ≡ nat_lt end (pos + n) }
 {
-    if end < n {
-        return true;
-    }
-    if end - n < pos {
-        return true;
-    }
-    false
+    end < n || end - n < pos
 }
 
 // The byte of the image at a place, 0 past the end.
 fn byte_at(image: &[u8], at: usize) -> u8
     ensures { result ≡ cell_at image.now at }
 {
-    if at < image.len() {
-        return image[at];
-    }
-    0
+    image.get(at).copied().unwrap_or(0)
 }
 
 // The address to which the bytes a and b at `pos` lead. All sums wrap at 64 bits, as document 01 says.
@@ -110,15 +95,9 @@ fn leads_to(rules: Rules, pos: u64, kind: Kind, a: u8, b: u8) -> u64
     ensures { result ≡ leads_to rules pos kind a b }
 {
     match kind {
-        Kind::Relative => {
-            let next = std::num::wrapping_add_u64(pos, 1);
-            std::num::wrapping_add_u64(next, signed(a))
-        }
+        Kind::Relative => { pos.wrapping_add(1).wrapping_add(signed(a)) }
         Kind::Word => addr16(a, b),
-        Kind::Inblock => {
-            let next = std::num::wrapping_add_u64(pos, 2);
-            addr11(rules, next, a, b)
-        }
+        Kind::Inblock => { addr11(rules, pos.wrapping_add(2), a, b) }
     }
 }
 
@@ -155,6 +134,5 @@ pub fn find_target(
     let a = byte_at(image, pos);
     let b = byte_at(image, pos + 1);
     let led = leads_to(rules, pos as u64, kind, a, b);
-    let t = std::num::wrapping_sub_u64(led, offset);
-    Target::At(counted(rules, t))
+    Target::At(counted(rules, led.wrapping_sub(offset)))
 }

@@ -3,7 +3,7 @@
 // pairs of numbers, a start and a length each.
 #![tactic(auto)]
 
-ghost use Rattle.std.specs.Prelude.{◌≡◌, ◌+◌, ◌<◌, ◌≤◌, min, length};
+ghost use Rattle.std.specs.Prelude.{◌≡◌, ◌+◌, ◌<◌, ◌≤◌, length};
 ghost use Rattle.image.specs.View.{stretches_in, view, pair_at};
 ghost use Rattle.image.specs.Match.{matches_at, part_agrees, Reaches, Agreeing};
 ghost use Rattle.image.specs.Window.{is_beside, is_apart};
@@ -16,38 +16,17 @@ pub mod fixup;
 pub const LONGEST_IMAGE: usize = 65536;
 
 // A stretch of the image that is withheld: `len` bytes from `start` on.
-#[derive(Clone, Copy)]
+#[derive(Clone, Copy, Debug, PartialEq, Eq)]
 pub struct Stretch {
     pub start: usize,
     pub len: usize,
 }
 
 // Where a pattern may stand: that of a kept segment anywhere, that of an absolute content only at its address.
-#[derive(Clone, Copy)]
+#[derive(Clone, Copy, Debug, PartialEq, Eq)]
 pub enum Seat {
     Anywhere,
     Only(usize),
-}
-
-// The first place at which a pattern matches, if there is one.
-#[derive(Clone, Copy)]
-pub enum FirstPlace {
-    At(usize),
-    Nothing,
-}
-
-// The lesser of two lengths.
-fn shorter(a: usize, b: usize) -> usize
-    ensures { result ≡ min a b }
-{
-    if a < b { a } else { b }
-}
-
-// A number of 64 bits as a place.
-fn place(x: u64) -> usize
-    ensures { result ≡ x }
-{
-    x as usize
 }
 
 // The stretch of a cover whose start is number i of the list.
@@ -56,8 +35,8 @@ fn stretch_at(s: &[u64], i: usize) -> Stretch
     ensures { result ≡ pair_at s.now i }
 {
     Stretch {
-        start: place(s[i]),
-        len: place(s[i + 1]),
+        start: s[i] as usize,
+        len: s[i + 1] as usize,
     }
 }
 
@@ -67,10 +46,7 @@ fn is_beside(s: Stretch, at: usize, n: usize) -> bool
 {
     let start = s.start;
     let len = s.len;
-    if n == 0 {
-        return true;
-    }
-    if len == 0 {
+    if n == 0 || len == 0 {
         return true;
     }
     if at < start {
@@ -88,10 +64,7 @@ fn apart_from_all(s: &[u64], at: usize, n: usize) -> bool
     if s.len() < 2 {
         return true;
     }
-    if is_beside(stretch_at(s, 0), at, n) {
-        return apart_from_all(&s[2..s.len()], at, n);
-    }
-    false
+    is_beside(stretch_at(s, 0), at, n) && apart_from_all(&s[2..], at, n)
 }
 
 // The same, where most covers have no stretch.
@@ -110,12 +83,10 @@ fn rest_agrees(image: &[u8], bytes: &[u8], masks: &[u8], at: usize, from: usize,
     requires { Agreeing image.now bytes.now masks.now at n from × Reaches image.now bytes.now masks.now at n }
     ensures { result ≡ part_agrees image.now bytes.now masks.now at 0 n }
 {
-    let mut i = from;
-    while i < n {
+    for i in from..n {
         if (image[at + i] ^ bytes[i]) & masks[i] != 0 {
             return false;
         }
-        i += 1;
     }
     true
 }
@@ -127,10 +98,8 @@ fn part_agrees(image: &[u8], bytes: &[u8], masks: &[u8], at: usize, i: usize) ->
     ensures { result ≡ part_agrees image.now bytes.now masks.now at i 32 }
 {
     let mut differ = 0;
-    let mut j = 0;
-    while j < 32 {
-        differ = differ | (image[at + (i + j)] ^ bytes[i + j]) & masks[i + j];
-        j += 1;
+    for j in 0..32 {
+        differ |= (image[at + (i + j)] ^ bytes[i + j]) & masks[i + j];
     }
     differ == 0
 }
@@ -144,7 +113,7 @@ fn parts_agreeing(image: &[u8], bytes: &[u8], masks: &[u8], at: usize, n: usize)
     let last = n - 32;
     let mut i = 0;
     while i < n {
-        i = shorter(i, last);
+        i = i.min(last);
         if !part_agrees(image, bytes, masks, at, i) {
             return i;
         }
@@ -159,13 +128,10 @@ fn parts_agreeing(image: &[u8], bytes: &[u8], masks: &[u8], at: usize, n: usize)
 pub fn stands_at(image: &[u8], bytes: &[u8], masks: &[u8], at: usize) -> bool
     ensures { result ≡ matches_at image.now bytes.now masks.now at }
 {
-    if image.len() < at {
+    if image.len() < at || image.len() - at < bytes.len() {
         return false;
     }
-    if image.len() - at < bytes.len() {
-        return false;
-    }
-    let n = shorter(bytes.len(), masks.len());
+    let n = bytes.len().min(masks.len());
     if n < 32 {
         return rest_agrees(image, bytes, masks, at, 0, n);
     }
@@ -181,29 +147,18 @@ pub fn stands_at(image: &[u8], bytes: &[u8], masks: &[u8], at: usize) -> bool
 pub fn match_at(image: &[u8], s: &[u64], bytes: &[u8], masks: &[u8], at: usize) -> bool
     ensures { result ≡ matches_at (view image.now (stretches_in s.now)) bytes.now masks.now at }
 {
-    if stands_at(image, bytes, masks, at) {
-        return is_apart(s, at, bytes.len());
-    }
-    false
+    stands_at(image, bytes, masks, at) && is_apart(s, at, bytes.len())
 }
 
 // The first match of a pattern at or after the place `from`.
-pub fn next_match(image: &[u8], s: &[u64], bytes: &[u8], masks: &[u8], from: usize) -> FirstPlace
+pub fn next_match(image: &[u8], s: &[u64], bytes: &[u8], masks: &[u8], from: usize) -> Option<usize>
     ensures { result ≡ next_match (view image.now (stretches_in s.now)) bytes.now masks.now from }
 {
-    if image.len() < bytes.len() {
-        return FirstPlace::Nothing;
-    }
-    let last = image.len() - bytes.len();
-    let mut at = from;
-    while at <= last {
+    let end = (image.len() + 1).saturating_sub(bytes.len());
+    for at in from..end {
         if match_at(image, s, bytes, masks, at) {
-            return FirstPlace::At(at);
+            return Some(at);
         }
-        if at == last {
-            return FirstPlace::Nothing;
-        }
-        at += 1;
     }
-    FirstPlace::Nothing
+    None
 }

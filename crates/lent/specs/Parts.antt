@@ -1,6 +1,5 @@
 -- Bytes of the library: single bytes, numbers of two bytes, parts, and names, which are parts.
-use Rattle.std.specs.Prelude.{ℕ, ◌+◌, ◌*◌, ◌≤◌, ◌≡◌, Bool, true, false, ◌&&◌, ◌||◌, List, [], ◌∷◌, eqb, leb, ltb, length, get_or, take, drop, if◌then◌else◌}
-use Rattle.lent.specs.Lists.{all, from}
+use Rattle.std.specs.Prelude.{ℕ, ◌+◌, ◌*◌, Bool, true, false, ◌&&◌, ◌||◌, List, [], ◌∷◌, eqb, leb, ltb, length, get_or, take, drop, if◌then◌else◌}
 use Rattle.lent.specs.declared.part.Part.{Part}
 
 -- the byte at a place, 0 past the library's end
@@ -28,15 +27,6 @@ before [] [] = false
 before [] (y ∷ ys) = true
 before (x ∷ xs) [] = false
 before (x ∷ xs) (y ∷ ys) = ltb x y || (eqb x y && before xs ys)
-
--- n bytes of two strings from place i on are alike
-abbrev pub part_alike : List ℕ → List ℕ → ℕ → ℕ → Bool
-part_alike a b i n = all (λ k. eqb (get_or a k 0) (get_or b k 0)) (from i n)
-
--- r is at most n, and the first r bytes of two strings are alike
-pub record AlikeUpTo (a b : List ℕ) (n r : ℕ) : Type 0 where
-  pub inside : r ≤ n
-  pub alike : part_alike a b 0 r ≡ true
 
 -- two names have the same bytes, wherever they stand
 abbrev pub same_name : List ℕ → Part → Part → Bool

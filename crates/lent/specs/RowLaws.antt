@@ -1,14 +1,14 @@
 -- Laws of lent memory. Assumes nothing.
-use Rattle.std.specs.Prelude.{ℕ, suc, ◌+◌, ◌-◌, ◌*◌, ◌/◌, ◌≤◌, ◌<◌, ◌≡◌, refl, Bool, true, false, List, [], ◌∷◌, ◌++◌, eqb, length, get_or, take, drop, set}
-use Rattle.std.proofs.Common.{sym, ap, ◌∙◌, append_assoc, append-nil, suc-mul, mul-le-mul_right, le-div_iff_mul-le, arith, add-one, length-append}
+use Rattle.std.specs.Prelude.{ℕ, suc, ◌+◌, ◌-◌, ◌*◌, ◌/◌, ◌≤◌, ◌<◌, ◌≡◌, refl, Bool, true, false, List, [], ◌∷◌, ◌++◌, eqb, length, get_or, set}
+use Rattle.std.proofs.Common.{sym, ap, ◌∙◌, append_assoc, append-nil, suc-mul, mul-le-mul_right, le-div_iff_mul-le, arith, length-append}
 use Rattle.std.proofs.Math.Path.{fun_ext}
 use Rattle.std.proofs.Math.Decide.{dec_lt}
 use Rattle.std.proofs.Math.Nat.{sub-zero}
 use borrow.Author.Tests.{lt-ltb, le-ltb, le-leb, lt-leb}
 use Rattle.std.proofs.lemmas.List.{length-replicate, set_at}
 use Rattle.std.proofs.Math.ListN.{get_or-append, get_or-eq_default}
-use Rattle.std.proofs.lemmas.List.Edits.{sets, sets-eq}
-use Rattle.std.proofs.Math.Seq.{length-sets, paste, paste-suc, take-length}
+use Rattle.std.proofs.lemmas.List.Edits.{sets}
+use Rattle.std.proofs.Math.Seq.{length-sets}
 use Rattle.lent.specs.Lists.{one, joined}
 use Rattle.lent.specs.ListLaws.{rows-length, joined_snoc, joined_at, sets-before, sets-in, sets-after}
 use Rattle.lent.specs.Rows.{zeros, padded, flag, cell_of, put_row, Layout, row_at}
@@ -84,24 +84,11 @@ module _ (width : ℕ) (m : List ℕ) (i : ℕ) where
       go (yes h) = ap length (put-lacks cells h)
       go (no h) = ap length (put-there cells (omega arith)) ∙ length-sets m (i * width) cells
 
--- a row of no numbers; and a row that is copied number by number: none yet, one more, all
+-- a row of no numbers
 pub put-none : (m : List ℕ) (i : ℕ) (cells : List ℕ) → length cells ≡ 0 → m ≡ put_row (length cells) m i cells
 unfolding put_row
 put-none m i [] e = simp (le-leb (i * 0 + 0) (length m) (omega arith))
 put-none m i (x ∷ cells) e = absurd (omega arith)
-
-module _ (m : List ℕ) (i : ℕ) (cells : List ℕ) (fits : i * length cells + length cells ≤ length m) where
-  pub copy_more : (q : List ℕ) (j : ℕ) → j < length cells → q ≡ paste m (i * length cells) cells j
-      → set q (i * length cells + j) (get_or cells j 0) ≡ paste m (i * length cells) cells (j + 1)
-  copy_more q j h e = rw (e, add-one j) (paste-suc m (i * length cells) cells j 0 (omega arith) h)
-
-  pub copy-end : (q : List ℕ) (j : ℕ) → j ≡ length cells → q ≡ paste m (i * length cells) cells j → q ≡ put_row (length cells) m i cells
-  copy-end q j h e =
-      e
-      ∙ ap (paste m (i * length cells) cells) h
-      ∙ ap (λ xs. take (i * length cells) m ++ xs ++ drop (i * length cells + length cells) m) (take-length cells)
-      ∙ sym (sets-eq cells m (i * length cells) fits)
-      ∙ sym (put-there (length cells) m i cells fits)
 
 -- a row that was put is there
 pub cell-put : (width : ℕ) (m : List ℕ) (i : ℕ) (cells : List ℕ) (j : ℕ) → length cells ≡ width → i * width + width ≤ length m

@@ -3,7 +3,7 @@ use Rattle.std.specs.Prelude.{ℕ, ◌≡◌, Bool, List, length}
 use Rattle.lent.specs.OneOutcome.{Determines, by-equation}
 use Rattle.lent.specs.Rows.{zeros, flag, cell_of, numbers_of, put_row}
 
--- `clear` and `clear_bytes`
+-- `fill(0)` on lent memory
 pub clear-one : (m : List ℕ) → Determines (λ exit. exit ≡ zeros (length m))
 clear-one m = by-equation (zeros (length m))
 

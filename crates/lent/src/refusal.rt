@@ -3,53 +3,34 @@
 ghost use Rattle.std.specs.Prelude.{◌≡◌};
 ghost use Rattle.lent.specs.Refusals.{refusal_number};
 
-// The refusals, in the order of their numbers.
-#[derive(Clone, Copy)]
+// The refusals, each with the number that the caller gets for it.
+#[derive(Clone, Copy, Debug, PartialEq, Eq)]
 pub enum Refusal {
-    RuleSet,
-    ImageTooLong,
-    LibraryTooLong,
-    StretchPastEnd,
-    NoModule,
-    BodyPastEnd,
-    LengthZero,
-    NamesDiffer,
-    TooFewRows,
-    UnknownKind,
-    UnknownBlock,
-    ContentPastSegment,
-    NoKeptSegment,
-    WrongSum,
-    LeftOver,
-    TooManyStretches,
-    TooDeep,
-    NotBanked,
-    OtherEdition,
+    RuleSet = 1,
+    ImageTooLong = 2,
+    LibraryTooLong = 3,
+    StretchPastEnd = 4,
+    NoModule = 5,
+    BodyPastEnd = 6,
+    LengthZero = 7,
+    NamesDiffer = 8,
+    TooFewRows = 9,
+    UnknownKind = 10,
+    UnknownBlock = 11,
+    ContentPastSegment = 12,
+    NoKeptSegment = 13,
+    WrongSum = 14,
+    LeftOver = 15,
+    TooManyStretches = 16,
+    TooDeep = 17,
+    NotBanked = 18,
+    OtherEdition = 30,
 }
 
-// The number that the caller gets for a refusal.
-pub fn number(r: Refusal) -> u8
-    ensures { result ≡ refusal_number r }
-{
-    match r {
-        Refusal::RuleSet => 1,
-        Refusal::ImageTooLong => 2,
-        Refusal::LibraryTooLong => 3,
-        Refusal::StretchPastEnd => 4,
-        Refusal::NoModule => 5,
-        Refusal::BodyPastEnd => 6,
-        Refusal::LengthZero => 7,
-        Refusal::NamesDiffer => 8,
-        Refusal::TooFewRows => 9,
-        Refusal::UnknownKind => 10,
-        Refusal::UnknownBlock => 11,
-        Refusal::ContentPastSegment => 12,
-        Refusal::NoKeptSegment => 13,
-        Refusal::WrongSum => 14,
-        Refusal::LeftOver => 15,
-        Refusal::TooManyStretches => 16,
-        Refusal::TooDeep => 17,
-        Refusal::NotBanked => 18,
-        Refusal::OtherEdition => 30,
+impl From<Refusal> for u8 {
+    ghost from_gives = { λ r n. n ≡ refusal_number r };
+
+    fn from(r: Refusal) -> u8 {
+        r as u8
     }
 }

@@ -1,7 +1,6 @@
 // Segments that the search looks for, as the collection makes them from the modules.
 #![tactic(auto)]
 
-pub mod append;
 pub mod masks;
 pub mod put;
 pub mod recalled;
@@ -12,11 +11,11 @@ use image::fixup::Kind;
 use lent::part::Part;
 
 // The number of a segment in the whole file.
-#[derive(Clone, Copy)]
+#[derive(Clone, Copy, Debug, PartialEq, Eq)]
 pub struct SegmentNumber(pub usize);
 
 // The goal of a reference: a segment of the same module, or the name of an external.
-#[derive(Clone, Copy)]
+#[derive(Clone, Copy, Debug, PartialEq, Eq)]
 pub enum Goal {
     Segment(SegmentNumber),
     Name(Part),
@@ -24,7 +23,7 @@ pub enum Goal {
 
 // A reference out of a pattern: its place in the pattern, its kind, the fixup's offset, which is
 // added to the goal's address, and the goal.
-#[derive(Clone, Copy)]
+#[derive(Clone, Copy, Debug, PartialEq, Eq)]
 pub struct Reference {
     pub place: usize,
     pub kind: Kind,
@@ -33,7 +32,7 @@ pub struct Reference {
 }
 
 // A symbol of a segment: a match of the segment places the name at match position + offset.
-#[derive(Clone, Copy)]
+#[derive(Clone, Copy, Debug, PartialEq, Eq)]
 pub struct Symbol {
     pub name: Part,
     pub offset: usize,
@@ -41,7 +40,7 @@ pub struct Symbol {
 
 // A segment in lent memory: where it may stand, and which parts of the pattern memory, of the
 // references and of the symbols are its own.
-#[derive(Clone, Copy)]
+#[derive(Clone, Copy, Debug, PartialEq, Eq)]
 pub struct SegmentRow {
     pub seat: Seat,
     pub pattern: Part,

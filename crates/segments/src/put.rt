@@ -1,8 +1,6 @@
 // The rows of the collection in lent memory are written by number: segments, references and symbols.
 ghost use Rattle.std.specs.Prelude.{◌≡◌};
-ghost use Rattle.lent.specs.Rows.{put_row};
-ghost use Rattle.segments.specs.SegmentRows.{segment_width, reference_width, symbol_width, segment_cells, reference_cells, symbol_cells};
-ghost use Rattle.segments.specs.SegmentLayouts.{seat_pair, goal_triple};
+ghost use Rattle.segments.specs.SegmentLayouts.{seat_pair, goal_triple, segment_layout, reference_layout, symbol_layout};
 ghost use Rattle.image.specs.fixup.Target.{kind_number};
 
 use crate::rows::{Pair, REFERENCE_WIDTH, SEGMENT_WIDTH, SYMBOL_WIDTH, Triple};
@@ -10,8 +8,10 @@ use crate::{Goal, Reference, SegmentRow, Symbol};
 use image::Seat;
 use image::fixup::Kind;
 use lent::rows;
+use lent::rows::Row;
 
-// Where a segment may stand, as two numbers: 0 and 0 for anywhere, 1 and the address for an absolute content.
+// Where a segment may stand, as two numbers: 0 and 0 for anywhere, 1 and the address for an absolute content. These are
+// functions and no `From`, here and in rows.rt: `Seat` and `Kind` are of another crate.
 fn seat_pair(seat: Seat) -> Pair
     ensures { result ≡ seat_pair seat }
 {
@@ -53,48 +53,64 @@ fn kind_number(kind: Kind) -> u64
     }
 }
 
-// Puts a segment into row i; without such a row the memory stays as it was.
-pub fn put_segment(m: &mut [u64], i: usize, row: SegmentRow)
-    ensures { m.new ≡ put_row segment_width m.old i (segment_cells row) }
-{
-    let seat = row.seat;
-    let pair = seat_pair(seat);
-    let cells = [
-        pair.tag,
-        pair.held,
-        row.pattern.at as u64,
-        row.pattern.len as u64,
-        row.references.at as u64,
-        row.references.len as u64,
-        row.symbols.at as u64,
-        row.symbols.len as u64,
-    ];
-    rows::put(m, i, &cells);
+impl Row for SegmentRow {
+    ghost layout = { segment_layout };
+
+    fn width() -> usize {
+        SEGMENT_WIDTH
+    }
+
+    fn put(self, m: &mut [u64], i: usize) {
+        let pair = seat_pair(self.seat);
+        let cells = [
+            pair.tag,
+            pair.held,
+            self.pattern.at as u64,
+            self.pattern.len as u64,
+            self.references.at as u64,
+            self.references.len as u64,
+            self.symbols.at as u64,
+            self.symbols.len as u64,
+        ];
+        rows::put(m, i, &cells);
+    }
 }
 
-// Puts a reference into row i; without such a row the memory stays as it was.
-pub fn put_reference(m: &mut [u64], i: usize, row: Reference)
-    ensures { m.new ≡ put_row reference_width m.old i (reference_cells row) }
-{
-    let kind = row.kind;
-    let goal = row.goal;
-    let number = kind_number(kind);
-    let triple = goal_triple(goal);
-    let cells = [
-        row.place as u64,
-        number,
-        row.offset as u64,
-        triple.tag,
-        triple.first,
-        triple.second,
-    ];
-    rows::put(m, i, &cells);
+impl Row for Reference {
+    ghost layout = { reference_layout };
+
+    fn width() -> usize {
+        REFERENCE_WIDTH
+    }
+
+    fn put(self, m: &mut [u64], i: usize) {
+        let number = kind_number(self.kind);
+        let triple = goal_triple(self.goal);
+        let cells = [
+            self.place as u64,
+            number,
+            self.offset as u64,
+            triple.tag,
+            triple.first,
+            triple.second,
+        ];
+        rows::put(m, i, &cells);
+    }
 }
 
-// Puts a symbol into row i; without such a row the memory stays as it was.
-pub fn put_symbol(m: &mut [u64], i: usize, row: Symbol)
-    ensures { m.new ≡ put_row symbol_width m.old i (symbol_cells row) }
-{
-    let cells = [row.name.at as u64, row.name.len as u64, row.offset as u64];
-    rows::put(m, i, &cells);
+impl Row for Symbol {
+    ghost layout = { symbol_layout };
+
+    fn width() -> usize {
+        SYMBOL_WIDTH
+    }
+
+    fn put(self, m: &mut [u64], i: usize) {
+        let cells = [
+            self.name.at as u64,
+            self.name.len as u64,
+            self.offset as u64,
+        ];
+        rows::put(m, i, &cells);
+    }
 }

@@ -7,10 +7,5 @@ use lent::part::Part;
 pub fn lies_within(p: Part, n: usize) -> bool
     ensures { result ≡ leb (p.at + p.len) n }
 {
-    let at = p.at;
-    let len = p.len;
-    if n < at {
-        return false;
-    }
-    len <= n - at
+    p.at <= n && p.len <= n - p.at
 }

@@ -18,14 +18,14 @@ pub const REFERENCE_WIDTH: usize = 6;
 pub const SYMBOL_WIDTH: usize = 3;
 
 // A case of an enum as two numbers: its tag, and what it holds.
-#[derive(Clone, Copy)]
+#[derive(Clone, Copy, Debug, PartialEq, Eq)]
 pub struct Pair {
     pub tag: u64,
     pub held: u64,
 }
 
 // A case of an enum as three numbers: its tag, and the two numbers that it holds.
-#[derive(Clone, Copy)]
+#[derive(Clone, Copy, Debug, PartialEq, Eq)]
 pub struct Triple {
     pub tag: u64,
     pub first: u64,

@@ -17,10 +17,13 @@ use std::num::wrapping_sub_usize;
 pub const KEYS: usize = 65536;
 
 // The same number as 64 bits, for sums of keys and name bytes.
-pub const BUCKETS: u64 = 65536;
+pub const BUCKETS: u64 = KEYS as u64;
 
-// How many heads there are of both kinds. A table may have as many numbers again behind them, for links of more than 31 bits.
-const HEADS: usize = 131072;
+// How many heads there are of both kinds: of the buckets of keys, and of those of key and name together.
+pub const HEADS: usize = 2 * KEYS;
+
+// The same with as many numbers behind the heads, for links of more than 31 bits.
+pub const WIDE_HEADS: usize = 2 * HEADS;
 
 // A link below this stands in its head by itself.
 pub const NEAR: usize = 2147483648;
@@ -68,10 +71,7 @@ fn tag_at(m: &[u64], width: usize, i: usize) -> Tag
 fn is_tagged(library: &[u8], tag: Tag, key: u64, bytes: &[u8]) -> bool
     ensures { result ≡ (tag.key == key && same_bytes (bytes_of library.now tag.name) bytes.now) }
 {
-    if tag.key != key {
-        return false;
-    }
-    names::same(names::name(library, tag.name), bytes)
+    tag.key == key && names::same(names::name(library, tag.name), bytes)
 }
 
 // Whether the length of a row's name alone rules out the bytes wanted. No length rules out the empty name, since a name
@@ -79,10 +79,7 @@ fn is_tagged(library: &[u8], tag: Tag, key: u64, bytes: &[u8]) -> bool
 fn is_other_length(len: usize, wanted: usize) -> bool
     ensures { result ≡ other_length len wanted }
 {
-    if wanted == 0 {
-        return false;
-    }
-    len != wanted
+    wanted != 0 && len != wanted
 }
 
 // Whether the row at a place has this key, and a name whose length does not rule out a name of `wanted` bytes. The length
@@ -91,10 +88,7 @@ fn may_be(m: &[u64], at: usize, key: u64, wanted: usize) -> bool
     requires { at + 2 < length m.now }
     ensures { result ≡ may_be m.now at key wanted }
 {
-    if is_other_length(m[at + 2] as usize, wanted) {
-        return false;
-    }
-    m[at] == key
+    !is_other_length(m[at + 2] as usize, wanted) && m[at] == key
 }
 
 // The name of the row at a place.
@@ -205,10 +199,8 @@ fn spread(from: u64, bytes: &[u8]) -> u64
     ensures { result ≡ spread_bytes from bytes.now }
 {
     let mut h = from;
-    let mut i = 0;
-    while i < bytes.len() {
-        h = (h + bytes[i] as u64) * 2654435761 % 4294967296;
-        i += 1;
+    for b in bytes {
+        h = (h + u64::from(*b)) * 2654435761 % 4294967296;
     }
     h
 }
@@ -222,9 +214,8 @@ fn spread_ends(from: u64, bytes: &[u8]) -> u64
     if len <= 16 {
         return spread(from, bytes);
     }
-    let back = len - 8;
-    let front = spread(from, &bytes[0..8]);
-    spread(front, &bytes[back..len])
+    let front = spread(from, &bytes[..8]);
+    spread(front, &bytes[len - 8..])
 }
 
 // The bucket of a key and a name together: a number made of the key's low 16 bits, and of the name's length and ends.
@@ -240,10 +231,7 @@ pub fn bucket(library: &[u8], key: u64, name: Part) -> usize
 pub fn head_at(heads: &[u32], i: usize) -> usize
     ensures { result ≡ head_at heads.now i }
 {
-    if heads.len() <= i {
-        return 0;
-    }
-    let low = heads[i] as usize;
+    let low = number_at(heads, i) as usize;
     if low < NEAR {
         return low;
     }

@@ -11,7 +11,7 @@ pub fn thing(key: u16, place: usize) -> u64
     requires { place < 1048576 }
     ensures { (result ≡ thing_of key place) × (key < 65536) }
 {
-    key as u64 + 65536 * place as u64
+    u64::from(key) + 65536 * place as u64
 }
 
 // The thing with this link in the place of its own.
@@ -19,7 +19,7 @@ fn linked_to(thing: u64, link: u32) -> u64
     requires { link < 268435456 }
     ensures { result ≡ linked_to thing link }
 {
-    thing % 68719476736 + 68719476736 * link as u64
+    thing % 68719476736 + 68719476736 * u64::from(link)
 }
 
 // The key of a thing.
@@ -33,10 +33,7 @@ fn key_in(thing: u64) -> usize
 fn thing_at(things: &[u64], i: usize) -> u64
     ensures { result ≡ slice_index things.now i }
 {
-    if i < things.len() {
-        return things[i];
-    }
-    0
+    things.get(i).copied().unwrap_or(0)
 }
 
 // The key of thing i, 0 past the end of the table.
@@ -66,9 +63,7 @@ pub fn link(things: &mut [u64], n: usize, first: &mut [u32])
     requires { Ready things.old n first.old }
     ensures { LinkedThings things.old n 0 things.new first.new }
 {
-    let mut i = n;
-    while 0 < i {
-        i -= 1;
+    for i in (0..n).rev() {
         let thing = things[i];
         let key = key_in(thing);
         things[i] = linked_to(thing, first[key]);
@@ -82,11 +77,8 @@ pub fn unlink(things: &[u64], n: usize, first: &mut [u32])
     requires { (n ≤ length things.now) × (65536 ≤ length first.old) }
     ensures { Cleared (take n (keys_of things.now)) first.old first.new }
 {
-    let mut i = 0;
-    while i < n {
-        let key = key_in(things[i]);
-        first[key] = 0;
-        i += 1;
+    for thing in &things[..n] {
+        first[key_in(*thing)] = 0;
     }
 }
 
@@ -94,8 +86,5 @@ pub fn unlink(things: &[u64], n: usize, first: &mut [u32])
 pub fn number_at(numbers: &[u32], i: usize) -> u32
     ensures { result ≡ slice_index numbers.now i }
 {
-    if i < numbers.len() {
-        return numbers[i];
-    }
-    0
+    numbers.get(i).copied().unwrap_or(0)
 }

@@ -11,8 +11,8 @@ returns-then-is_beside t c =
     c.apart_from_all.ensures ∙ sym (first-turn a.s.now a.at a.n true (omega (arith, c.if-s-lt2.false))
     (rw (sym c.stretch_at.ensures) (sym c.is_beside.ensures ∙ c.if-is_beside.true)))
 
-pub returns : goal.returns
-returns t c =
+pub returns-else-is_beside : goal.returns-else-is_beside
+returns-else-is_beside t c =
     let a = c.args in
-    sym (first-turn a.s.now a.at a.n false (omega (arith, c.if-s-lt2.false))
+    c.if-is_beside.false ∙ sym (first-turn a.s.now a.at a.n false (omega (arith, c.if-s-lt2.false))
     (rw (sym c.stretch_at.ensures) (sym c.is_beside.ensures ∙ c.if-is_beside.false)))

@@ -13,9 +13,10 @@ returns-then-stands_at c =
     ∙ sym (seen-both a.image.now s a.bytes.now a.masks.now a.at
     ∙ ap (λ t. t && is_apart s a.at (length a.bytes.now)) (sym c.stands_at.ensures ∙ c.if-stands_at.true))
 
-pub returns : goal.returns
-returns c =
+pub returns-else-stands_at : goal.returns-else-stands_at
+returns-else-stands_at c =
     let a = c.args in
     let s = stretches_in a.s.now in
-    sym (seen-both a.image.now s a.bytes.now a.masks.now a.at
+    c.if-stands_at.false
+    ∙ sym (seen-both a.image.now s a.bytes.now a.masks.now a.at
     ∙ ap (λ t. t && is_apart s a.at (length a.bytes.now)) (sym c.stands_at.ensures ∙ c.if-stands_at.false))

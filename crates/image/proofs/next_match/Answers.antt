@@ -1,19 +1,8 @@
-use Rattle.std.proofs.Common.{◌+◌, sym, refl, ◌∙◌, arith}
+use Rattle.std.proofs.Common.{sym, ◌∙◌, arith}
 use Rattle.image.specs.View.{stretches_in, view}
 use Rattle.image.proofs.ViewLaws.{view-length}
 use Rattle.image.proofs.NextLaws.{next-match, next-other, next_past}
 use Rattle.image.proofs.next_match.Goals as goal
-
-pub returns-then-image-bytes : goal.returns-then-image-bytes
-returns-then-image-bytes c =
-    let a = c.args in
-    let cells = view a.image.now (stretches_in a.s.now) in
-    let long = view-length a.image.now (stretches_in a.s.now) in
-    sym (next_past cells a.bytes.now a.masks.now a.from (omega (arith, long)))
-
-pub loop-at-init : goal.loop-at-init
-loop-at-init c =
-    record { last-is = omega arith; same = refl }
 
 pub returns-then-match_at : goal.returns-then-match_at
 returns-then-match_at c =
@@ -21,17 +10,7 @@ returns-then-match_at c =
     let l = c.loop-at in
     let cells = view a.image.now (stretches_in a.s.now) in
     let long = view-length a.image.now (stretches_in a.s.now) in
-    sym (next-match cells a.bytes.now a.masks.now l.at (omega (arith, long)) (sym c.match_at.ensures ∙ c.if-match_at.true)) ∙ l.invariant.same
-
-pub returns-then-at-last : goal.returns-then-at-last
-returns-then-at-last c =
-    let a = c.args in
-    let l = c.loop-at in
-    let cells = view a.image.now (stretches_in a.s.now) in
-    let long = view-length a.image.now (stretches_in a.s.now) in
-    sym (next_past cells a.bytes.now a.masks.now (l.at + 1) (omega (arith, long)))
-    ∙ sym (next-other cells a.bytes.now a.masks.now l.at (omega (arith, long)) (sym c.match_at.ensures ∙ c.if-match_at.false))
-    ∙ l.invariant.same
+    sym (next-match cells a.bytes.now a.masks.now l.at (omega (arith, long)) (sym c.match_at.ensures ∙ c.if-match_at.true)) ∙ l.invariant
 
 pub loop-at-preserved : goal.loop-at-preserved
 loop-at-preserved c =
@@ -40,10 +19,7 @@ loop-at-preserved c =
     let cells = view a.image.now (stretches_in a.s.now) in
     let long = view-length a.image.now (stretches_in a.s.now) in
     let missed = sym c.match_at.ensures ∙ c.if-match_at.false in
-    record {
-      last-is = l.invariant.last-is;
-      same = sym (next-other cells a.bytes.now a.masks.now l.at (omega (arith, long)) missed) ∙ l.invariant.same;
-    }
+    sym (next-other cells a.bytes.now a.masks.now l.at (omega (arith, long)) missed) ∙ l.invariant
 
 pub returns : goal.returns
 returns c =
@@ -51,4 +27,4 @@ returns c =
     let l = c.loop-at in
     let cells = view a.image.now (stretches_in a.s.now) in
     let long = view-length a.image.now (stretches_in a.s.now) in
-    sym (next_past cells a.bytes.now a.masks.now l.at (omega (arith, long))) ∙ l.invariant.same
+    sym (next_past cells a.bytes.now a.masks.now l.at (omega (arith, long))) ∙ l.invariant

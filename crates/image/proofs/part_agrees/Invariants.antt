@@ -1,5 +1,5 @@
 -- `part_agrees` puts together what differs. The invariant: it is nothing exactly if all bytes so far agree. Assumes nothing.
-use Rattle.std.proofs.Common.{◌≡◌, ℕ, ◌-◌, ◌≤◌, eqb, List}
+use Rattle.std.proofs.Common.{◌≡◌, ℕ, ◌≤◌, eqb, List}
 use Rattle.image.specs.Match.{part_agrees}
 use Rattle.image.proofs.part_agrees.Given as goal
 
@@ -10,7 +10,3 @@ pub record Inv (image bytes masks : List ℕ) (at i differ j : ℕ) : Type 0 whe
 abbrev pub invariant-loop-j : goal.invariant-loop-j
 invariant-loop-j l =
     Inv l.image l.bytes l.masks l.at l.i l.differ l.j
-
-abbrev pub decreases-loop-j : goal.decreases-loop-j
-decreases-loop-j l =
-    32 - l.j

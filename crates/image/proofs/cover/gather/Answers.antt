@@ -1,34 +1,26 @@
-use Rattle.std.proofs.Common.{◌+◌, drop, sym, ap, ◌∙◌, arith}
+use Rattle.std.proofs.Common.{◌-◌, length, drop, sym, ap, ◌∙◌, arith, length-drop, take_all}
 use Rattle.image.specs.Cover.{gathered}
 use Rattle.image.proofs.CoverLaws.{gathered-turn, gathered-last, gathered-end}
 use Rattle.image.proofs.cover.gather.Goals as goal
 
-pub loop-i-init : goal.loop-i-init
-loop-i-init c =
-    record { inside = omega arith; same = ap (λ w. gathered w c.args.numbers.now) c.no_stretches-w.ensures }
+pub loop-rest-preserved : goal.loop-rest-preserved
+loop-rest-preserved c =
+    let l = c.loop-rest in
+    let r = l.rest.now in
+    let two = c.in-len2-up.len_at_least in
+    ap (gathered c.one_more-w.result) (take_all (length r - 2) (drop 2 r) (omega (arith, length-drop 2 r)))
+    ∙ ap (λ w. gathered w (drop 2 r)) c.one_more-w.ensures
+    ∙ sym (gathered-turn l.w r 0 (omega (arith, two)))
+    ∙ l.invariant
 
-pub returns-then-i-numbers : goal.returns-then-i-numbers
-returns-then-i-numbers c =
-    let a = c.args in
-    let l = c.loop-i in
-    c.one_more.ensures ∙ sym (gathered-last l.w a.numbers.now l.i c.if-i-numbers.true) ∙ l.invariant.same
+pub returns-in-empty : goal.returns-in-empty
+returns-in-empty c =
+    let l = c.loop-rest in
+    sym (gathered-end l.w l.rest.now 0 (omega (arith, c.in-empty.len_below))) ∙ l.invariant
 
-pub loop-i-preserved : goal.loop-i-preserved
-loop-i-preserved c =
-    let a = c.args in
-    let l = c.loop-i in
-    let more = c.loop-i-test.true in
-    let not_last = c.if-i-numbers.false in
-    record {
-      inside = omega (arith, more, not_last);
-      same =
-          ap (λ w. gathered w (drop (l.i + 2) a.numbers.now)) c.one_more-w.ensures
-          ∙ sym (gathered-turn l.w a.numbers.now l.i (omega (arith, more, not_last)))
-          ∙ l.invariant.same;
-    }
-
-pub returns : goal.returns
-returns c =
-    let a = c.args in
-    let l = c.loop-i in
-    sym (gathered-end l.w a.numbers.now l.i (omega (arith, c.loop-i-test.false))) ∙ l.invariant.same
+pub returns-in-len1-up : goal.returns-in-len1-up
+returns-in-len1-up c =
+    let l = c.loop-rest in
+    c.one_more.ensures
+    ∙ sym (gathered-last l.w l.rest.now 0 (omega (arith, c.in_default.len_below, c.in-len1-up.len_at_least)))
+    ∙ l.invariant

@@ -1,33 +1,29 @@
-use Rattle.std.proofs.Common.{true, false, sym, refl, ap, ◌∙◌, arith}
-use Rattle.image.specs.Cover.{ends_past}
+use Rattle.std.proofs.Common.{◌-◌, true, false, length, drop, sym, ap, ◌∙◌, arith, length-drop, take_all}
+use Rattle.image.specs.View.{stretches_in}
+use Rattle.image.specs.Cover.{ends_past, passes_end}
 use Rattle.image.proofs.CoverLaws.{ends-turn, ends-none}
 use Rattle.image.proofs.cover.passes_end.Goals as goal
-
-pub loop-i-init : goal.loop-i-init
-loop-i-init c =
-    record { inside = omega arith; same = refl }
 
 pub returns-then-ends_past : goal.returns-then-ends_past
 returns-then-ends_past c =
     let a = c.args in
-    let l = c.loop-i in
-    sym (ends-turn a.len a.s.now l.i true (omega (arith, c.loop-i-test.true))
+    let l = c.loop-rest in
+    sym (ends-turn a.len l.rest.now 0 true (omega (arith, c.in-len2-up.len_at_least))
     (ap (ends_past a.len) (sym c.stretch_at.ensures) ∙ sym c.ends_past.ensures ∙ c.if-ends_past.true))
-    ∙ l.invariant.same
+    ∙ l.invariant
 
-pub loop-i-preserved : goal.loop-i-preserved
-loop-i-preserved c =
+pub loop-rest-preserved : goal.loop-rest-preserved
+loop-rest-preserved c =
     let a = c.args in
-    let l = c.loop-i in
-    record {
-      inside = omega (arith, c.loop-i-test.true);
-      same =
-          sym (ends-turn a.len a.s.now l.i false (omega (arith, c.loop-i-test.true))
-          (ap (ends_past a.len) (sym c.stretch_at.ensures) ∙ sym c.ends_past.ensures ∙ c.if-ends_past.false))
-          ∙ l.invariant.same;
-    }
+    let l = c.loop-rest in
+    let r = l.rest.now in
+    ap (λ others. passes_end a.len (stretches_in others)) (take_all (length r - 2) (drop 2 r) (omega (arith, length-drop 2 r)))
+    ∙ sym (ends-turn a.len r 0 false (omega (arith, c.in-len2-up.len_at_least))
+    (ap (ends_past a.len) (sym c.stretch_at.ensures) ∙ sym c.ends_past.ensures ∙ c.if-ends_past.false))
+    ∙ l.invariant
 
 pub returns : goal.returns
 returns c =
     let a = c.args in
-    sym (ends-none a.len a.s.now c.loop-i.i (omega arith)) ∙ c.loop-i.invariant.same
+    let l = c.loop-rest in
+    sym (ends-none a.len l.rest.now 0 (omega (arith, c.in_default.len_below))) ∙ l.invariant

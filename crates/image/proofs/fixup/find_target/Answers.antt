@@ -1,5 +1,5 @@
 -- `find_target`: bytes past the end, withheld ones, and those that can be read, which are the image's. Assumes nothing.
-use Rattle.std.proofs.Common.{◌≡◌, ◌+◌, ◌≤◌, ltb, length, sym, ap, ◌∙◌, arith, ltb-false, ltb-true}
+use Rattle.std.proofs.Common.{ℕ, ◌≡◌, ◌+◌, ◌-◌, ◌%◌, ◌^◌, ◌<◌, ◌≤◌, ltb, length, sym, ap, ◌∙◌, arith, ltb-false, ltb-true}
 use Rattle.image.specs.View.{stretches_in}
 use Rattle.image.specs.Window.{is_apart}
 use Rattle.image.specs.fixup.Target.{reads}
@@ -8,6 +8,13 @@ use Rattle.image.proofs.fixup.AddressLaws.{reads-some, target_at}
 use Rattle.image.specs.declared.fixup.Target.TheVariants.{At}
 use Rattle.image.proofs.fixup.find_target.Goals as goal
 use Rattle.image.proofs.fixup.find_target.Goals.{Else-passes}
+
+-- a difference that wraps at 64 bits, and what it comes from
+abbrev less : ℕ → ℕ → ℕ
+less led offset = (led + (2 ^ 64 - offset)) % 2 ^ 64
+
+less-more : (led offset : ℕ) → led < 2 ^ 64 → offset < 2 ^ 64 → (less led offset + offset) % 2 ^ 64 ≡ led
+less-more led offset h g = omega arith
 
 bytes : (c : Else-passes) → Bytes c.args.image.now
 bytes c =
@@ -43,6 +50,6 @@ returns c =
     let a = c.args in
     ap At c.counted.ensures
     ∙ target_at a.image.now (stretches_in a.s.now) (bytes (goal.at.returns c).Else-passes) a.rules a.pos a.offset a.kind
-    c.byte_at-a.result c.byte_at-b.result c.leads_to-led.result c.wrapping_sub_u64-t.result
+    c.byte_at-a.result c.byte_at-b.result c.leads_to-led.result (less c.leads_to-led.result a.offset)
     (fitting) (windowed ∙ c.if-not-is_apart.false)
-    c.byte_at-a.ensures c.byte_at-b.ensures c.leads_to-led.ensures (omega arith) (omega (arith, c.ranges.offset)) c.wrapping_sub_u64-t.ensures.value
+    c.byte_at-a.ensures c.byte_at-b.ensures c.leads_to-led.ensures (omega arith) (omega (arith, c.ranges.offset)) (less-more c.leads_to-led.result a.offset (omega arith) (omega (arith, c.ranges.offset)))

@@ -1,48 +1,26 @@
-use Prim.Native.Nat.{◌+◌, ◌*◌, ◌≤◌}
-use mathlib.Core.Path.{refl, sym}
-use native.Mathlib.Omega.{arith}
-use lib.ListN.{length, length-set}
-use lib.Seq.{paste-zero}
-use Rattle.lent.specs.RowLaws.{row_fits, row-lacks, put-none, put-lacks, copy_more, copy-end}
+-- `put` leaves what the definition says: a row that is whole is within memory. Assumes nothing.
+use Rattle.std.proofs.Common.{sym, ◌∙◌, ◌*◌, ◌+◌, ◌≤◌, length, append_assoc, arith}
+use Rattle.std.proofs.Math.Nat.{add-sub_cancel_left}
+use Rattle.std.proofs.lemmas.List.{drop-drop}
+use Rattle.std.proofs.lemmas.List.Edits.{sets-eq}
+use Rattle.lent.specs.RowLaws.{row_fits, row-lacks, put-none, put-lacks, put-there}
 use Rattle.lent.proofs.rows.put.Goals as goal
-use Rattle.lent.proofs.rows.put.Goals.{Then-i-m}
+use Rattle.lent.proofs.rows.put.Goals.{else-width-ne0-via-then-width-ne0+else-i-m, else-width-ne0-via-else-width-ne0}
 
-whole : (c : Then-i-m) → let a = c.args in a.i * length a.cells.now + length a.cells.now ≤ length a.m.now
-whole c =
-    let a = c.args in row_fits (length a.m.now) (length a.cells.now) a.i (omega arith) c.if-i-m.true
+pub returns-then-i-m : goal.returns-then-i-m
+returns-then-i-m c =
+    let m = c.args.m.now in
+    let i = c.args.i in
+    let cells = c.args.cells.now in
+    let n = length cells in
+    let fits : i * n + n ≤ length m = row_fits (length m) n i (omega arith) c.if-i-m.true in
+    rw (add-sub_cancel_left (i * n) n, c.copy_from_slice.ensures.after, drop-drop n (i * n) m, ← append_assoc) (sym (sets-eq cells m (i * n) fits) ∙ sym (put-there n m i cells fits))
 
-pub returns-then-width-eq0 : goal.returns-then-width-eq0
-returns-then-width-eq0 c =
-    let a = c.args in put-none a.m.now a.i a.cells.now c.if-width-eq0.true
-
-pub overflow_mul-at : goal.overflow_mul-at
-overflow_mul-at c =
-    omega (arith, whole (goal.at.overflow_mul-at c).Then-i-m)
-
-pub loop-j-init : goal.loop-j-init
-loop-j-init c =
-    let a = c.args in
-    record { fits = whole (goal.at.loop-j-init c).Then-i-m; within = omega arith; long = refl; copied = paste-zero a.m.now (a.i * length a.cells.now) a.cells.now }
-
-pub loop-j-preserved : goal.loop-j-preserved
-loop-j-preserved c =
-    let a = c.args in
-    let l = c.loop-j in
-    record {
-      fits = l.invariant.fits;
-      within = omega arith;
-      long = simp length-set l.invariant.long;
-      copied = copy_more a.m.now a.i a.cells.now l.invariant.fits l.m l.j (omega arith) l.invariant.copied;
-    }
-
-pub returns-after-loop-j : goal.returns-after-loop-j
-returns-after-loop-j c =
-    let a = c.args in
-    let l = c.loop-j in
-    copy-end a.m.now a.i a.cells.now l.invariant.fits l.m l.j (omega arith) l.invariant.copied
-
-pub returns-else-i-m : goal.returns-else-i-m
-returns-else-i-m c =
+pub returns-else-width-ne0 : goal.returns-else-width-ne0
+returns-else-width-ne0 c =
     let a = c.args in
     let n = length a.cells.now in
-    sym (put-lacks n a.m.now a.i a.cells.now (row-lacks (length a.m.now) n a.i (omega arith) c.if-i-m.false))
+    elim c.else-width-ne0.branch [
+      | else-width-ne0-via-then-width-ne0+else-i-m w ↦ sym (put-lacks n a.m.now a.i a.cells.now (row-lacks (length a.m.now) n a.i (omega arith) w.if-i-m.false))
+      | else-width-ne0-via-else-width-ne0 w ↦ put-none a.m.now a.i a.cells.now (omega arith)
+    ]

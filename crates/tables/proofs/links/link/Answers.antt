@@ -16,14 +16,6 @@ pub loop-i-init : goal.loop-i-init
 loop-i-init c =
     record { within = omega arith; things-long = refl; heads-long = refl; linked = none_yet c.args.things.now c.args.n c.requires.within c.args.first.now c.requires }
 
-pub offset_bounds-things-i : goal.offset_bounds-things-i
-offset_bounds-things-i c =
-    omega (arith, c.loop-i.invariant.within, c.requires.few)
-
-pub bounds-things-i : goal.bounds-things-i
-bounds-things-i c =
-    omega (arith, c.loop-i.invariant.within, c.loop-i.invariant.things-long, c.requires.within)
-
 pub offset_bounds-first-key : goal.offset_bounds-first-key
 offset_bounds-first-key c =
     omega (arith, key c)
@@ -36,22 +28,6 @@ pub linked_to-requires : goal.linked_to-requires
 linked_to-requires c =
     rw c.key_in-key.ensures (small-link c.args.things.now c.args.n c.requires.within (c.loop-i.i - 1)
     (omega (arith, c.loop-i.invariant.within)) ((so_far (goal.at.linked_to-requires c).After-key_in-key) (omega arith)) c.requires.few)
-
-pub offset_bounds-things-i-in-loop-i : goal.offset_bounds-things-i-in-loop-i
-offset_bounds-things-i-in-loop-i c =
-    omega (arith, c.loop-i.invariant.within, c.requires.few)
-
-pub bounds-things-i-in-loop-i : goal.bounds-things-i-in-loop-i
-bounds-things-i-in-loop-i c =
-    omega (arith, c.loop-i.invariant.within, c.loop-i.invariant.things-long, c.requires.within)
-
-pub overflow_add-first : goal.overflow_add-first
-overflow_add-first c =
-    omega (arith, c.loop-i.invariant.within, c.requires.few)
-
-pub overflow_cast-first : goal.overflow_cast-first
-overflow_cast-first c =
-    omega (arith, c.loop-i.invariant.within, c.requires.few)
 
 pub offset_bounds-first-key-in-loop-i : goal.offset_bounds-first-key-in-loop-i
 offset_bounds-first-key-in-loop-i c =

@@ -12,7 +12,3 @@ pub record Inv (things₀ : List ℕ) (n : ℕ) (first₀ things first : List �
 abbrev pub invariant-loop-i : goal.invariant-loop-i
 invariant-loop-i l =
     Inv l.initial.things l.n l.initial.first l.things l.first l.i
-
-abbrev pub decreases-loop-i : goal.decreases-loop-i
-decreases-loop-i l =
-    l.i

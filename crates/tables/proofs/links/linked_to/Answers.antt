@@ -1,9 +1,8 @@
 -- `linked_to` puts the link above key and place. Assumes nothing.
-use Rattle.std.proofs.Common.{refl}
 use Rattle.tables.specs.links.Things.{linked_to}
 use Rattle.tables.proofs.links.linked_to.Goals as goal
 
 pub returns : goal.returns
 unfolding linked_to
 returns c =
-    refl
+    rw c.from.ensures

@@ -1,6 +1,0 @@
--- `reference_at` meets its contract: each field is what the definition makes of the row's numbers. Assumes nothing.
-use Rattle.segments.proofs.rows.reference_at.Goals as goal
-
-pub returns : goal.returns
-returns c =
-    rw (c.goal_from.ensures, c.kind_from.ensures, c.numbers-n.ensures)

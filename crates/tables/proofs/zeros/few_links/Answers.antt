@@ -1,9 +1,0 @@
--- `few_links` makes zeros. Assumes nothing.
-use Rattle.std.proofs.Common.{refl}
-use Rattle.tables.specs.zeros.Zeros.{zero_list}
-use Rattle.tables.proofs.zeros.few_links.Goals as goal
-
-pub returns : goal.returns
-unfolding zero_list
-returns c =
-    refl
