@@ -8,36 +8,26 @@ ghost use Rattle.intel_hex.specs.Import.{imported};
 ghost use Rattle.intel_hex.specs.Export.{exported};
 ghost use Rattle.hex_c.specs.Exported.{number_of, size_of, handed};
 
-use intel_hex::Answer;
+use intel_hex::HexRefusal;
 use intel_hex::export::export_image;
 use intel_hex::import::import_text;
 
 // The number of an answer: 0, or that of the refusal.
-fn number_of(answer: Answer) -> u8
+fn number_of(answer: Result<usize, HexRefusal>) -> u8
     ensures { result ≡ number_of answer }
 {
     match answer {
-        Answer::Done(n) => 0,
-        Answer::Refused(r) => intel_hex::number(r),
+        Ok(_) => 0,
+        Err(refusal) => u8::from(refusal),
     }
 }
 
-// How many bytes were written; none with a refusal.
-fn size_of(answer: Answer) -> usize
-    ensures { result ≡ size_of answer }
+// Puts how many bytes were written at the front of `counts`, if there is room for it; 0 with a refusal.
+fn put_size(answer: Result<usize, HexRefusal>, counts: &mut [u64])
+    ensures { counts.new ≡ set counts.old 0 (size_of answer) }
 {
-    match answer {
-        Answer::Done(n) => n,
-        Answer::Refused(r) => 0,
-    }
-}
-
-// Puts a size at the front of `counts`, if there is room for it.
-fn put_size(size: usize, counts: &mut [u64])
-    ensures { counts.new ≡ set counts.old 0 size }
-{
-    if 0 < counts.len() {
-        counts[0] = size as u64;
+    if !counts.is_empty() {
+        counts[0] = answer.unwrap_or(0) as u64;
     }
 }
 
@@ -47,7 +37,7 @@ pub extern "C" fn sillmarble_hex_import(text: &[u8], out: &mut [u8], counts: &mu
     ensures { record { number = result; out = out.new; counts = counts.new } ≡ handed (stored (imported text.now) out.old) counts.old }
 {
     let answer = import_text(text, out);
-    put_size(size_of(answer), counts);
+    put_size(answer, counts);
     number_of(answer)
 }
 
@@ -57,6 +47,6 @@ pub extern "C" fn sillmarble_hex_export(image: &[u8], out: &mut [u8], counts: &m
     ensures { record { number = result; out = out.new; counts = counts.new } ≡ handed (stored (exported image.now) out.old) counts.old }
 {
     let answer = export_image(image, out);
-    put_size(size_of(answer), counts);
+    put_size(answer, counts);
     number_of(answer)
 }

@@ -1,12 +1,10 @@
 -- What an answer tells: 2 and 9 exactly in their cases, a refusal by its number, and the buffer untouched by every refusal.
 -- Assumes nothing.
-use Rattle.std.specs.Prelude.{ℕ, ◌<◌, ◌≡◌, refl, ◌↔◌, Bool, true, false, List, ◌++◌, leb, eqb, length, drop, if◌then◌else◌}
+use Rattle.std.specs.Prelude.{ℕ, ◌<◌, ◌≡◌, refl, ◌↔◌, Bool, true, false, Result, Ok, Err, List, ◌++◌, leb, eqb, length, drop, if◌then◌else◌}
 use Rattle.std.proofs.Common.{sym, ap, ◌∙◌, arith, le-leb}
 use Rattle.std.proofs.Math.Decide.{dec_lt}
 use Rattle.intel_hex.specs.declared.HexRefusal.{HexRefusal}
 use Rattle.intel_hex.specs.declared.HexRefusal.TheVariants.{ImageTooLong, NoRoom, BadText, WrongSum, OtherType, PastEnd, GivenTwice, NoEndRecord}
-use Rattle.intel_hex.specs.declared.Answer.{Answer}
-use Rattle.intel_hex.specs.declared.Answer.TheVariants.{Done, Refused}
 use Rattle.intel_hex.specs.Outcome.{hex_number, Made, made, refused, stored}
 use Rattle.intel_hex.specs.Export.{exported}
 use Rattle.intel_hex.proofs.ExportLaws.{exports, exports-not}
@@ -38,27 +36,27 @@ pub number-tells : (a b : HexRefusal) → hex_number a ≡ hex_number b → a �
 number-tells a b e = sym (number-back a) ∙ ap of_number e ∙ number-back b
 
 -- every refusal leaves the buffer as it was
-pub untouched : (m : Made) (out : List ℕ) {r : HexRefusal} {left : List ℕ} → ◌≡◌ {A = Answer × List ℕ} (stored m out) (Refused r, left) → left ≡ out
-untouched (refused s) out e = sym (ap (λ (p : Answer × List ℕ). p.1) e)
+pub untouched : (m : Made) (out : List ℕ) {r : HexRefusal} {left : List ℕ} → ◌≡◌ {A = Result ℕ HexRefusal × List ℕ} (stored m out) (Err r, left) → left ≡ out
+untouched (refused s) out e = sym (ap (λ (p : Result ℕ HexRefusal × List ℕ). p.1) e)
 untouched (made bytes) out {r} {left} e = go (leb (length bytes) (length out)) e
   where
-    go : (t : Bool) → ◌≡◌ {A = Answer × List ℕ} (if t then (Done (length bytes), bytes ++ drop (length bytes) out) else (Refused NoRoom, out)) (Refused r, left) → left ≡ out
-    go true q = let d = ap (λ (p : Answer × List ℕ). p.0) q in let z : ◌≡◌ {A = ℕ} 0 1 = cc in absurd (omega arith)
-    go false q = sym (ap (λ (p : Answer × List ℕ). p.1) q)
+    go : (t : Bool) → ◌≡◌ {A = Result ℕ HexRefusal × List ℕ} (if t then (Ok (length bytes), bytes ++ drop (length bytes) out) else (Err NoRoom, out)) (Err r, left) → left ≡ out
+    go true q = let d = ap (λ (p : Result ℕ HexRefusal × List ℕ). p.0) q in let z : ◌≡◌ {A = ℕ} 0 1 = cc in absurd (omega arith)
+    go false q = sym (ap (λ (p : Result ℕ HexRefusal × List ℕ). p.1) q)
 
 -- 9 exactly if there is something to write and the buffer is shorter
-pub nine : (bytes out : List ℕ) → (◌≡◌ {A = Answer × List ℕ} (stored (made bytes) out) (Refused NoRoom, out)) ↔ (length out < length bytes)
+pub nine : (bytes out : List ℕ) → (◌≡◌ {A = Result ℕ HexRefusal × List ℕ} (stored (made bytes) out) (Err NoRoom, out)) ↔ (length out < length bytes)
 nine bytes out = (
   (λ e. go e (dec_lt (length out) (length bytes))),
   (λ h. sym (no_room bytes out h)),
 )
   where
-    go : ◌≡◌ {A = Answer × List ℕ} (stored (made bytes) out) (Refused NoRoom, out) → Dec (length out < length bytes) → length out < length bytes
+    go : ◌≡◌ {A = Result ℕ HexRefusal × List ℕ} (stored (made bytes) out) (Err NoRoom, out) → Dec (length out < length bytes) → length out < length bytes
     go e (yes h) = h
     go e (no h) =
-        let w : ◌≡◌ {A = Answer × List ℕ} (stored (made bytes) out) (Done (length bytes), bytes ++ drop (length bytes) out) =
+        let w : ◌≡◌ {A = Result ℕ HexRefusal × List ℕ} (stored (made bytes) out) (Ok (length bytes), bytes ++ drop (length bytes) out) =
         rw (le-leb (length bytes) (length out) (omega arith)) in
-        let q = ap (λ (p : Answer × List ℕ). p.0) (sym w ∙ e) in
+        let q = ap (λ (p : Result ℕ HexRefusal × List ℕ). p.0) (sym w ∙ e) in
         let z : ◌≡◌ {A = ℕ} 0 1 = cc in
         absurd (omega arith)
 

@@ -1,17 +1,15 @@
 -- Cells and the memory that they stand for. Assumes nothing.
-use Prim.Native.Nat.{ℕ, zero, suc, ◌+◌, ◌-◌, ◌%◌, ◌≤◌, ◌<◌}
+use Prim.Native.Nat.{ℕ, zero, suc, ◌+◌, ◌-◌, ◌*◌, ◌%◌, ◌≤◌, ◌<◌}
 use Rattle.std.specs.Prelude.{◌≡◌, Bool, ◌&&◌, ◌||◌, not, List, [], ◌∷◌, map, leb, eqb, get_or, set, replicate, if◌then◌else◌}
 use Rattle.std.proofs.Math.Path.{refl, fun_ext}
 use Rattle.std.proofs.Common.{sym, ap, subst, ◌∙◌, add-one, length-set, get_or-set_same, get_or-set_other}
 use Rattle.std.proofs.Math.Bool.{true, false}
 use Rattle.std.proofs.Math.Option.{none, some}
 use Rattle.std.proofs.Math.Decide.{dec_lt}
-use Rattle.std.proofs.Math.Numerals.{sub-one}
 use native.Mathlib.Omega.{arith}
 use borrow.Author.Tests.{not-true, not-false, ne_eqb, lt-ltb, le-ltb, le-leb, lt-leb}
 use Rattle.std.specs.Int.Bits.{bit_or}
 use Rattle.std.proofs.Math.ListN.{length}
-use Rattle.std.proofs.lemmas.List.{length-replicate}
 use Rattle.std.proofs.lemmas.List.Edits.{sets}
 use Rattle.lent.specs.Lists.{one, any, from}
 use Rattle.lent.specs.ListLaws.{from-turn}
@@ -22,17 +20,20 @@ use Rattle.intel_hex.specs.Import.{Memory, nothing, given, is_given, any_given}
 use Rattle.intel_hex.specs.Cells.{no_cells, byte_in, memory_in, image_in, taken}
 
 -- one byte more is noted; no byte is left
-module _ (text cells : List ℕ) (seen k to : ℕ) where
-  pub taken_more : (n : ℕ) → 0 < n
-      → taken (bit_or seen (get_or cells to 0)) (set cells to (256 + byte_at text k)) (to + 1) (bytes_at text (k + 2) (n - 1)) ≡ taken seen cells to (bytes_at text k n)
+module _ (text cells : List ℕ) (seen at address size i : ℕ) where
+  pub taken_more : i < size
+      → taken (bit_or seen (get_or cells (address + i) 0)) (set cells (address + i) (256 + byte_at text (at + 2 * i))) (address + (i + 1)) (bytes_at text (at + 2 * (i + 1)) (size - (i + 1)))
+      ≡ taken seen cells (address + i) (bytes_at text (at + 2 * i) (size - i))
   unfolding taken bytes_at
-  taken_more zero h = absurd (omega arith)
-  taken_more (suc n) h = rw sub-one
+  taken_more h =
+      let left : size - i ≡ suc (size - (i + 1)) = omega arith in
+      let place : address + (i + 1) ≡ address + i + 1 = omega arith in
+      let digits : at + 2 * (i + 1) ≡ at + 2 * i + 2 = omega arith in
+      rw (left, place, digits)
 
-  pub taken-all : (n : ℕ) → n ≤ 0 → ◌≡◌ {A = Bool × List ℕ} (eqb seen 0, cells) (taken seen cells to (bytes_at text k n))
+  pub taken-all : size ≤ i → ◌≡◌ {A = Bool × List ℕ} (eqb seen 0, cells) (taken seen cells (address + i) (bytes_at text (at + 2 * i) (size - i)))
   unfolding taken bytes_at
-  taken-all zero h = refl
-  taken-all (suc n) h = absurd (omega arith)
+  taken-all h = let none : size - i ≡ 0 = omega arith in rw none
 
 -- the image, byte by byte
 module _ (cells : List ℕ) (end : ℕ) where
@@ -59,10 +60,6 @@ zero-at (suc n) (suc k) = zero-at n k
 pub no-memory : memory_in no_cells ≡ nothing
 unfolding memory_in no_cells
 no-memory = fun_ext (λ k. rw (zero-at 65536 k))
-
-pub no_length : length no_cells ≡ 65536
-unfolding no_cells
-no_length = length-replicate {A = ℕ} 65536 0
 
 -- what is given: within the bytes, and outside of them
 module _ (address : ℕ) (bytes : List ℕ) (memory : Memory) (k : ℕ) where

@@ -2,11 +2,12 @@
 use Prim.Native.Nat.{ℕ, zero, suc, ◌+◌, ◌-◌, ◌*◌, ◌/◌, ◌%◌, ◌≤◌, ◌<◌, min}
 use Rattle.std.specs.Prelude.{◌≡◌, refl, List, [], ◌∷◌, ◌++◌, length, get_or, set, take, drop}
 use Rattle.std.proofs.Math.Path.{sym, ap}
-use Rattle.std.proofs.Common.{◌∙◌, append_assoc, add-zero, add-suc, suc-add, le-leb, drop_of_length-le, length-take, length-drop, take_all}
+use Rattle.std.proofs.Common.{◌∙◌, drop-drop, append_assoc, add-zero, add-suc, suc-add, le-leb, drop_of_length-le, length-take, length-drop, take_all}
 use Rattle.std.proofs.Math.Decide.{dec_lt}
 use native.Mathlib.Omega.{arith}
 use Rattle.std.proofs.lemmas.Bool.{lt-leb}
 use Rattle.std.proofs.Math.ListN.{length-append}
+use Rattle.std.proofs.Math.Seq.{take-append_seam, drop-append_seam}
 use Rattle.std.proofs.lemmas.List.Edits.{sets}
 use Rattle.lent.specs.Lists.{one, joined, from, total}
 use Rattle.lent.specs.ListLaws.{from-turn, joined-turn, joined-append}
@@ -119,15 +120,23 @@ module _ (image : List ℕ) where
       length-append (lines_from image 0 (records (length image))) end_line
       ∙ omega (arith, lines-length (records (length image)) 0 (omega arith), line-length 1 0 [])
 
-  -- the bytes of record i, as the code takes them out of the image
-  pub part-is : (i : ℕ) {end : ℕ} → end ≡ min (16 * i + 16) (length image) → take (end - 16 * i) (drop (16 * i) image) ≡ take 16 (drop (16 * i) image)
-  part-is i {end} e = go (dec_lt (length image) (16 * i + 16))
-    where
-      go : Dec (length image < 16 * i + 16) → take (end - 16 * i) (drop (16 * i) image) ≡ take 16 (drop (16 * i) image)
-      go (yes h) =
-          take_all (end - 16 * i) (drop (16 * i) image) (omega (arith, length-drop (16 * i) image))
-          ∙ sym (take_all 16 (drop (16 * i) image) (omega (arith, length-drop (16 * i) image)))
-      go (no h) = let all : end - 16 * i ≡ 16 = omega arith in rw all
+  -- the bytes of record i, as the first of the pieces that are left of the image; and the pieces behind them
+  module _ (i : ℕ) (part rest : List ℕ) (e : drop (16 * i) image ≡ part ++ rest) (size : length part ≡ min 16 (length (drop (16 * i) image))) where
+    pub part-is : part ≡ take 16 (drop (16 * i) image)
+    part-is = rw (← e) at (sym (take-append_seam part rest)) ∙ go (dec_lt (length (drop (16 * i) image)) 16)
+      where
+        go : Dec (length (drop (16 * i) image) < 16) → take (length part) (drop (16 * i) image) ≡ take 16 (drop (16 * i) image)
+        go (yes h) = take_all (length part) (drop (16 * i) image) (omega (arith, size)) ∙ sym (take_all 16 (drop (16 * i) image) (omega arith))
+        go (no h) = let all : length part ≡ 16 = omega (arith, size) in rw all
+
+    pub part-behind : rest ≡ drop (16 * (i + 1)) image
+    part-behind = rw (← e) at (sym (drop-append_seam part rest)) ∙ drop-drop (length part) (16 * i) image ∙ go (dec_lt (length (drop (16 * i) image)) 16)
+      where
+        go : Dec (length (drop (16 * i) image) < 16) → drop (16 * i + length part) image ≡ drop (16 * (i + 1)) image
+        go (yes h) =
+            drop_of_length-le image (omega (arith, size, length-drop (16 * i) image))
+            ∙ sym (drop_of_length-le image (omega (arith, size, length-drop (16 * i) image)))
+        go (no h) = let all : 16 * i + length part ≡ 16 * (i + 1) = omega (arith, size) in rw all
 
   -- the lines that are left, stored: one more, all
   pub lines_more : (i n at : ℕ) (out : List ℕ) {b : ℕ} → i < n → b ≡ at + length (line_of image i)
@@ -151,14 +160,14 @@ module _ (image : List ℕ) where
   exports-not h = rw (lt-leb (length image) 0x10000 h)
 
 -- room for the lines that are left, after one more
-pub room-more : (n i at room : ℕ) {end left : ℕ} → i < records n → end ≡ min (16 * i + 16) n → left ≡ room
+pub room-more : (n i at room : ℕ) {size left : ℕ} → i < records n → size ≡ min 16 (n - 16 * i) → left ≡ room
     → at + 12 * (records n - i) + 2 * (n - 16 * i) + 12 ≤ room
-    → at + 12 + 2 * (end - 16 * i) + 12 * (records n - (i + 1)) + 2 * (n - 16 * (i + 1)) + 12 ≤ left
-room-more n i at room {end} {left} l e f h = bytes (omega arith) (omega arith)
+    → at + (12 + 2 * size) + 12 * (records n - (i + 1)) + 2 * (n - 16 * (i + 1)) + 12 ≤ left
+room-more n i at room {size} {left} l e f h = bytes (omega arith) (omega arith)
   where
-    bytes : end - 16 * i + (n - 16 * (i + 1)) ≡ n - 16 * i → records n - i ≡ records n - (i + 1) + 1
-        → at + 12 + 2 * (end - 16 * i) + 12 * (records n - (i + 1)) + 2 * (n - 16 * (i + 1)) + 12 ≤ left
-    bytes a b = go (end - 16 * i) (n - 16 * (i + 1)) (n - 16 * i) (records n - i) (records n - (i + 1)) a b h
+    bytes : size + (n - 16 * (i + 1)) ≡ n - 16 * i → records n - i ≡ records n - (i + 1) + 1
+        → at + (12 + 2 * size) + 12 * (records n - (i + 1)) + 2 * (n - 16 * (i + 1)) + 12 ≤ left
+    bytes a b = go size (n - 16 * (i + 1)) (n - 16 * i) (records n - i) (records n - (i + 1)) a b h
       where
-        go : (x y z c d : ℕ) → x + y ≡ z → c ≡ d + 1 → at + 12 * c + 2 * z + 12 ≤ room → at + 12 + 2 * x + 12 * d + 2 * y + 12 ≤ left
+        go : (x y z c d : ℕ) → x + y ≡ z → c ≡ d + 1 → at + 12 * c + 2 * z + 12 ≤ room → at + (12 + 2 * x) + 12 * d + 2 * y + 12 ≤ left
         go x y z c d p q g = omega (arith, f, g)

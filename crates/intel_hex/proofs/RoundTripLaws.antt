@@ -1,6 +1,6 @@
 -- A line that was exported is read as the record that it was made of. Assumes nothing.
 use Prim.Native.Nat.{ℕ, zero, suc, ◌+◌, ◌*◌, ◌/◌, ◌%◌, ◌≤◌, ◌<◌}
-use Rattle.std.specs.Prelude.{◌≡◌, List, [], ◌∷◌, ◌++◌, drop}
+use Rattle.std.specs.Prelude.{◌≡◌, Some, None, Ok, is_some, unwrap_or, List, [], ◌∷◌, ◌++◌, drop}
 use Rattle.std.proofs.Common.{sym, ◌∙◌, append_assoc, length-drop}
 use Rattle.std.proofs.Math.Path.{ap}
 use native.Mathlib.Omega.{arith}
@@ -9,12 +9,11 @@ use Rattle.std.proofs.Math.ListN.{length, get_or, length-append}
 use Rattle.lent.specs.Lists.{one, joined, total}
 use Rattle.intel_hex.specs.Digits.{byte_at, bytes_at, are_digits, sum, two_digits, all_digits}
 use Rattle.intel_hex.proofs.DigitLaws.{Bytes, Fronted, fronted, Read, digits-read}
-use Rattle.intel_hex.specs.Record.{size_at, address_at, kind_at, sum_at, digits_end, ending_at, step_of, record_at}
+use Rattle.intel_hex.specs.Record.{size_at, address_at, kind_at, sum_at, digits_end, ending_at, next_at, read_line, Step, data_record, step_of, record_at}
 use Rattle.intel_hex.proofs.RecordLaws.{Parts, line-whole, of-line}
 use Rattle.intel_hex.specs.Export.{body, checksum, record_line}
 use Rattle.intel_hex.proofs.ExportLaws.{first, whole, pieces}
-use Rattle.intel_hex.specs.declared.line.Line.TheVariants as Line
-use Rattle.intel_hex.specs.declared.record.Step.{Step}
+use Rattle.intel_hex.specs.declared.line.Line.{Line}
 
 -- a text that goes on has not ended
 goes_on : (text : List ℕ) (at x : ℕ) (rest : List ℕ) → drop at text ≡ x ∷ rest → at < length text
@@ -130,7 +129,7 @@ module _ (text : List ℕ) (at kind address : ℕ) (bytes rest : List ℕ) (e : 
   end_is : digits_end text at ≡ at + 11 + 2 * length bytes
   end_is = omega (arith, size_back)
 
-  ending-back : ending_at text (digits_end text at) ≡ 1
+  ending-back : ending_at text (digits_end text at) ≡ Some 1
   unfolding ending_at
   ending-back = ap (ending_at text) end_is
       ∙ rw (lt-leb (length text) (at + 11 + 2 * length bytes) (goes_on text (at + 11 + 2 * length bytes) 0x0A rest line-end), eq-eqb (get_or text (at + 11 + 2 * length bytes) 0) 0x0A feeds.here)
@@ -140,7 +139,7 @@ module _ (text : List ℕ) (at kind address : ℕ) (bytes rest : List ℕ) (e : 
     colon = starts.here;
     room = omega (arith, end_is, goes_on text (at + 11 + 2 * length bytes) 0x0A rest line-end);
     digits = ap (are_digits text (at + 1)) count ∙ all.digits;
-    ends = omega (arith, ending-back);
+    ends = ap is_some ending-back;
     sound = λ k. omega (arith, size_back, sound (sym kind-back ∙ k));
   }
 
@@ -148,18 +147,19 @@ module _ (text : List ℕ) (at kind address : ℕ) (bytes rest : List ℕ) (e : 
   next-back = moved (at + 12 + 2 * length bytes) (at + 11 + 2 * length bytes + 1) (omega arith) feeds.next
 
   -- what stands there: data, or the end record
-  line-back : (kind ≡ 1 → length bytes ≡ 0) → {t : Step} → step_of text at (Line.Whole (length bytes) (sum_at text at) (at + 12 + 2 * length bytes)) ≡ t → record_at text at ≡ t
+  line-back : (kind ≡ 1 → length bytes ≡ 0) → {t : Step} → step_of text at (Some (record { size = length bytes; sum = sum_at text at; next = at + 12 + 2 * length bytes })) ≡ t → record_at text at ≡ t
   line-back sound q =
-      let next : digits_end text at + ending_at text (digits_end text at) ≡ at + 12 + 2 * length bytes = omega (arith, end_is, ending-back) in
+      let next : next_at text at ≡ at + 12 + 2 * length bytes = omega (arith, end_is, ap (λ n. unwrap_or n 0) ending-back) in
+      let same : ◌≡◌ {A = Line} (read_line text at) (record { size = length bytes; sum = sum_at text at; next = at + 12 + 2 * length bytes }) =
+      rw (next, size_back) in
       of-line text at (omega (arith, goes_on text (at + 11 + 2 * length bytes) 0x0A rest line-end))
-      (line-whole text at (parts-back sound) ∙ ap (λ n. Line.Whole n (sum_at text at) (digits_end text at + ending_at text (digits_end text at)))
-      size_back ∙ ap (Line.Whole (length bytes) (sum_at text at)) next)
+      (line-whole text at (parts-back sound) ∙ ap Some same)
       ∙ q
 
-  pub data-back : kind ≡ 0 → address + length bytes ≤ 65536 → record_at text at ≡ Step.Data address (length bytes) (at + 12 + 2 * length bytes)
+  pub data-back : kind ≡ 0 → address + length bytes ≤ 65536 → record_at text at ≡ data_record address (length bytes) (at + 12 + 2 * length bytes)
   data-back k h =
       line-back (λ q. omega arith)
       (rw (eq-eqb (sum_at text at) 0 sum_back, kind-back, address-back, ne_eqb kind 1 (λ q. omega arith), eq-eqb kind 0 k, le-ltb 0x10000 (address + length bytes) h))
 
-  pub end_back : kind ≡ 1 → length bytes ≡ 0 → record_at text at ≡ Step.End
+  pub end_back : kind ≡ 1 → length bytes ≡ 0 → record_at text at ≡ Ok None
   end_back k h = line-back (λ q. h) (rw (eq-eqb (sum_at text at) 0 sum_back, kind-back, eq-eqb kind 1 k))

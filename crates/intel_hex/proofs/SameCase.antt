@@ -1,6 +1,6 @@
 -- Small and capital letters import alike. Assumes nothing.
 use Prim.Native.Nat.{ℕ, zero, suc, ◌+◌, ◌<◌}
-use Rattle.std.specs.Prelude.{◌≡◌, true, ◌&&◌, List, map, eqb, length, get_or, if◌then◌else◌}
+use Rattle.std.specs.Prelude.{◌≡◌, true, ◌&&◌, Option, Some, None, Ok, Err, List, map, eqb, length, get_or, if◌then◌else◌}
 use Rattle.std.proofs.Math.Path.{refl, ap}
 use Rattle.std.proofs.Common.{sym, ◌∙◌, arith, eqb-true, leb-true}
 use Rattle.std.proofs.Math.Option.{none}
@@ -11,11 +11,10 @@ use Rattle.lent.specs.ChoiceLaws.{chosen, both, same_test}
 use Rattle.lent.specs.Lists.{all, from}
 use Rattle.lent.specs.ListLaws.{every}
 use Rattle.intel_hex.specs.declared.HexRefusal.TheVariants.{GivenTwice, NoEndRecord}
-use Rattle.intel_hex.specs.declared.record.Step.{Step}
 use Rattle.intel_hex.specs.declared.line.Line.{Line}
 use Rattle.intel_hex.specs.Outcome.{refused}
 use Rattle.intel_hex.specs.Digits.{digit_value, digit_at, byte_at, bytes_at, are_digits}
-use Rattle.intel_hex.specs.Record.{ending_at, is_record, line_at, step_of, record_at}
+use Rattle.intel_hex.specs.Record.{ending_at, is_record, line_at, Step, step_of, record_at}
 use Rattle.intel_hex.specs.Import.{Memory, given, any_given, end_after, after, walk, imported}
 
 -- a character in small letters
@@ -88,11 +87,11 @@ module _ (a b : List ℕ) (s : Alike a b) where
 
   record-alike : (at : ℕ) → record_at a at ≡ record_at b at
   unfolding record_at
-  record-alike at = rw (s.long, line-alike at) (ap (λ t. if leb (length b) at then Step.Bad NoEndRecord else t) (go (line_at b at)))
+  record-alike at = rw (s.long, line-alike at) (ap (λ t. if leb (length b) at then Err NoEndRecord else t) (go (line_at b at)))
     where
-      go : (l : Line) → step_of a at l ≡ step_of b at l
-      go Line.Bad = refl
-      go (Line.Whole size sum next) = rw (byte-alike (at + 3), byte-alike (at + 5), byte-alike (at + 7))
+      go : (l : Option Line) → step_of a at l ≡ step_of b at l
+      go None = refl
+      go (Some l) = rw (byte-alike (at + 3), byte-alike (at + 5), byte-alike (at + 7))
 
   walk-alike : (fuel at : ℕ) (memory : Memory) (end : ℕ) → walk a fuel at memory end ≡ walk b fuel at memory end
   unfolding walk
@@ -101,12 +100,12 @@ module _ (a b : List ℕ) (s : Alike a b) where
     where
       go : ((k : ℕ) (m : Memory) (e : ℕ) → walk a fuel k m e ≡ walk b fuel k m e) → (t : Step)
           → after a at (walk a fuel) memory end t ≡ after b at (walk b fuel) memory end t
-      go rest (Step.Data address size next) =
-          ap (λ m. if any_given memory address size then refused GivenTwice else m)
-          (ap (λ bytes. walk a fuel next (given address bytes memory) (end_after end address size)) (bytes-alike size (at + 9))
-          ∙ rest next (given address (bytes_at b (at + 9) size) memory) (end_after end address size))
-      go rest Step.End = refl
-      go rest (Step.Bad r) = refl
+      go rest (Ok (Some d)) =
+          ap (λ m. if any_given memory d.address d.size then refused GivenTwice else m)
+          (ap (λ bytes. walk a fuel d.next (given d.address bytes memory) (end_after end d.address d.size)) (bytes-alike d.size (at + 9))
+          ∙ rest d.next (given d.address (bytes_at b (at + 9) d.size) memory) (end_after end d.address d.size))
+      go rest (Ok None) = refl
+      go rest (Err r) = refl
 
   pub imports-alike : imported a ≡ imported b
   imports-alike = walk-alike (length a + 1) 0 (λ k. none) 0 ∙ ap (λ n. walk b (n + 1) 0 (λ k. none) 0) s.long

@@ -1,12 +1,11 @@
 -- The memory of an import as the code keeps it: a cell for each address, 0 where nothing was given, else 256 and the byte.
-use Rattle.std.specs.Prelude.{ℕ, ◌+◌, ◌%◌, ◌≤◌, ◌≡◌, Bool, List, [], ◌∷◌, map, eqb, length, get_or, set, replicate, if◌then◌else◌}
+use Rattle.std.specs.Prelude.{ℕ, ◌+◌, ◌%◌, ◌≤◌, ◌≡◌, Bool, Result, Ok, Err, List, [], ◌∷◌, map, eqb, length, get_or, set, replicate, if◌then◌else◌}
 use Rattle.std.proofs.Math.Option.{Option, none, some}
 use Rattle.std.specs.Int.Bits.{bit_or}
 use Rattle.lent.specs.Lists.{from}
 use Rattle.intel_hex.specs.Import.{Memory, image_of, walk}
 use Rattle.intel_hex.specs.Outcome.{Made, made, refused}
-use Rattle.intel_hex.specs.declared.Answer.{Answer}
-use Rattle.intel_hex.specs.declared.Answer.TheVariants.{Done, Refused}
+use Rattle.intel_hex.specs.declared.HexRefusal.{HexRefusal}
 
 -- cells of which none was given; this does not unfold by itself, since so many would take the checker too long
 unfoldable pub no_cells : List ℕ
@@ -31,16 +30,16 @@ taken seen cells address [] = (eqb seen 0, cells)
 taken seen cells address (b ∷ bytes) = taken (bit_or seen (get_or cells address 0)) (set cells address (256 + b)) (address + 1) bytes
 
 -- what an answer and the cells come to
-abbrev pub made_in : Answer → List ℕ → Made
-made_in (Done end) cells = made (image_of (memory_in cells) end)
-made_in (Refused r) cells = refused r
+abbrev pub made_in : Result ℕ HexRefusal → List ℕ → Made
+made_in (Ok end) cells = made (image_of (memory_in cells) end)
+made_in (Err r) cells = refused r
 
 -- how far the image reaches
-abbrev pub end_in : Answer → ℕ
-end_in (Done end) = end
-end_in (Refused r) = 0
+abbrev pub end_in : Result ℕ HexRefusal → ℕ
+end_in (Ok end) = end
+end_in (Err r) = 0
 
 -- reading a text into cells: they and the answer come to what the text does, and the image ends within them
-pub record Noted (text before after : List ℕ) (r : Answer) : Type 0 where
+pub record Noted (text before after : List ℕ) (r : Result ℕ HexRefusal) : Type 0 where
   pub same : made_in r after ≡ walk text (length text + 1) 0 (memory_in before) 0
   pub within : end_in r ≤ 65536

@@ -1,13 +1,11 @@
 -- Import: the records of a text, one after another up to the end record, give the bytes of an image.
-use Rattle.std.specs.Prelude.{ℕ, zero, suc, ◌+◌, ◌-◌, max, Bool, true, false, ◌&&◌, List, map, leb, ltb, eqb, length, get_or, if◌then◌else◌}
+use Rattle.std.specs.Prelude.{ℕ, zero, suc, ◌+◌, ◌-◌, max, Bool, true, false, ◌&&◌, Some, None, Ok, Err, List, map, leb, ltb, eqb, length, get_or, if◌then◌else◌}
 use Rattle.std.proofs.Math.Option.{Option, none, some}
 use Rattle.lent.specs.Lists.{any, from}
 use Rattle.intel_hex.specs.Digits.{bytes_at}
 use Rattle.intel_hex.specs.Outcome.{Made, made, refused}
-use Rattle.intel_hex.specs.Record.{record_at}
+use Rattle.intel_hex.specs.Record.{Step, record_at}
 use Rattle.intel_hex.specs.declared.HexRefusal.TheVariants.{GivenTwice, NoEndRecord}
-use Rattle.intel_hex.specs.declared.record.Step.{Step}
-use Rattle.intel_hex.specs.declared.record.Step.TheVariants.{Data, End, Bad}
 
 -- what the records so far give: for each address its byte, if there is one
 abbrev pub Memory : Type 0
@@ -43,11 +41,11 @@ image_of memory end = map (λ k. byte_or (memory k)) (from 0 end)
 
 -- what follows a step at a place, where `rest` says what the text from a later place on comes to
 abbrev pub after : List ℕ → ℕ → (ℕ → Memory → ℕ → Made) → Memory → ℕ → Step → Made
-after text at rest memory end (Data address size next) =
-    if any_given memory address size then refused GivenTwice
-    else rest next (given address (bytes_at text (at + 9) size) memory) (end_after end address size)
-after text at rest memory end End = made (image_of memory end)
-after text at rest memory end (Bad r) = refused r
+after text at rest memory end (Ok (Some d)) =
+    if any_given memory d.address d.size then refused GivenTwice
+    else rest d.next (given d.address (bytes_at text (at + 9) d.size) memory) (end_after end d.address d.size)
+after text at rest memory end (Ok None) = made (image_of memory end)
+after text at rest memory end (Err r) = refused r
 
 -- the text from a place on, with what the records before it gave. The fuel is a bound on the records still to come: one
 -- more than the text has bytes is always enough, since a record is at least eleven bytes long

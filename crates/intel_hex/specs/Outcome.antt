@@ -1,9 +1,7 @@
 -- What import and export come to, and what of it stands in the lent buffer.
-use Rattle.std.specs.Prelude.{ℕ, List, ◌++◌, leb, length, drop, if◌then◌else◌}
+use Rattle.std.specs.Prelude.{ℕ, Result, Ok, Err, List, ◌++◌, leb, length, drop, if◌then◌else◌}
 use Rattle.intel_hex.specs.declared.HexRefusal.{HexRefusal}
 use Rattle.intel_hex.specs.declared.HexRefusal.TheVariants.{ImageTooLong, NoRoom, BadText, WrongSum, OtherType, PastEnd, GivenTwice, NoEndRecord}
-use Rattle.intel_hex.specs.declared.Answer.{Answer}
-use Rattle.intel_hex.specs.declared.Answer.TheVariants.{Done, Refused}
 
 -- the number of each refusal, as change request W-201 gives it
 abbrev pub hex_number : HexRefusal → ℕ
@@ -23,7 +21,7 @@ pub data Made : Type 0 where
 
 -- the answer, and the lent buffer: the bytes, and what stood behind them. A buffer that is too small is the last reason
 -- to refuse; every refusal leaves the buffer as it was
-abbrev pub stored : Made → List ℕ → Answer × List ℕ
+abbrev pub stored : Made → List ℕ → Result ℕ HexRefusal × List ℕ
 stored (made bytes) out =
-    if leb (length bytes) (length out) then (Done (length bytes), bytes ++ drop (length bytes) out) else (Refused NoRoom, out)
-stored (refused r) out = (Refused r, out)
+    if leb (length bytes) (length out) then (Ok (length bytes), bytes ++ drop (length bytes) out) else (Err NoRoom, out)
+stored (refused r) out = (Err r, out)

@@ -3,10 +3,10 @@ use crate::trial;
 use crate::trial::{Came, ROOM};
 use lent::names::name;
 use lent::part::Part;
-use recorded::cases::{LIMIT, begins_with};
+use recorded::cases::{CutShort, LIMIT, begins_with};
 use recorded::numbers::{four_at, within};
 use recorded::show::{cut_short, outcomes, say, say_number};
-use recorded::tally::{count, count_differing, own};
+use recorded::tally::Tally;
 use std::io::Read;
 use system::files::fill;
 
@@ -16,88 +16,70 @@ const HEAD: usize = 18;
 
 const EXPORT: u8 = 1;
 
-fn job_of(head: &[u8]) -> u8 {
-    if head.len() < HEAD {
-        return 0;
-    }
-    head[0]
+// A case by its head: the job, how long input and buffer are, and what is recorded of it.
+#[derive(Clone, Copy, Debug, PartialEq, Eq)]
+struct Case {
+    exports: bool,
+    input: usize,
+    buffer: usize,
+    recorded: Came,
 }
 
-fn wide(x: u8) -> u64 {
-    x as u64
+fn case_of(head: &[u8; HEAD]) -> Case {
+    Case {
+        exports: head[0] == EXPORT,
+        input: four_at(head, 2) as usize,
+        buffer: four_at(head, 6) as usize,
+        recorded: Came {
+            number: u64::from(head[1]),
+            size: four_at(head, 10),
+            left: four_at(head, 14),
+        },
+    }
 }
 
-fn number_of(head: &[u8]) -> u64 {
-    if head.len() < HEAD {
-        return 0;
-    }
-    wide(head[1])
-}
-
-fn agrees(head: &[u8], came: Came) -> bool {
-    if came.number != number_of(head) {
-        return false;
-    }
-    if came.size != four_at(head, 10) {
-        return false;
-    }
-    came.left == four_at(head, 14)
-}
-
-// Whether an export agrees, and comes back where it wrote something.
-fn export_holds(head: &[u8], image: &[u8], out: &mut [u8]) -> bool {
+// Whether an export comes back where it wrote something, and agrees.
+fn export_holds(recorded: Came, image: &[u8], out: &mut [u8]) -> bool {
     let came = trial::export(image, out);
-    if came.number == 0 {
-        if !trial::comes_back(image, out, came.size as usize) {
-            return false;
-        }
+    if came.number == 0 && !trial::comes_back(image, out, came.size as usize) {
+        return false;
     }
-    agrees(head, came)
-}
-
-fn import_holds(head: &[u8], text: &[u8], out: &mut [u8]) -> bool {
-    agrees(head, trial::import(text, out))
+    came == recorded
 }
 
 // Whether a case agrees, with a buffer of the length that it says.
-fn holds(head: &[u8], input: &[u8]) -> bool {
+fn holds(case: Case, input: &[u8]) -> bool {
     let mut room = trial::room();
-    let n = within(ROOM, four_at(head, 6) as usize);
-    if job_of(head) == EXPORT {
-        return export_holds(head, input, &mut room[0..n]);
+    let n = within(ROOM, case.buffer);
+    if case.exports {
+        return export_holds(case.recorded, input, &mut room[..n]);
     }
-    import_holds(head, input, &mut room[0..n])
+    trial::import(input, &mut room[..n]) == case.recorded
 }
 
 // Counts a case; exports are counted apart.
-fn compare(head: &[u8], input: &[u8], tally: &mut [u64]) {
-    if holds(head, input) {
-        count(tally, number_of(head), 0, job_of(head) == EXPORT);
-        return;
+fn compare(case: Case, input: &[u8], tally: &mut Tally) {
+    if holds(case, input) {
+        tally.count(case.recorded.number, 0, case.exports);
+    } else {
+        tally.count_differing();
     }
-    count_differing(tally);
 }
 
-// The next case of the file: how long its input is, which then stands at the front of the room.
-#[derive(Clone, Copy)]
-enum Next {
-    Case(usize),
-    End,
-    CutShort,
-}
-
-fn next_case(cases: &mut impl Read, head: &mut [u8], input: &mut [u8]) -> Next {
-    if fill(cases, head).size < HEAD {
-        return Next::End;
+// The next case of the file, whose input then stands at the front of the room; none where the file ends.
+fn next_case(cases: &mut impl Read, input: &mut [u8]) -> Result<Option<Case>, CutShort> {
+    let mut head = [0u8; HEAD];
+    if fill(cases, &mut head).size < HEAD {
+        return Ok(None);
     }
-    let size = four_at(head, 2) as usize;
-    if input.len() < size {
-        return Next::CutShort;
+    let case = case_of(&head);
+    if input.len() < case.input {
+        return Err(CutShort);
     }
-    if fill(cases, &mut input[0..size]).size < size {
-        return Next::CutShort;
+    if fill(cases, &mut input[..case.input]).size < case.input {
+        return Err(CutShort);
     }
-    Next::Case(size)
+    Ok(Some(case))
 }
 
 // From case to case; how many there are.
@@ -105,27 +87,28 @@ fn compare_each(
     rt: &impl Print,
     cases: &mut impl Read,
     input: &mut [u8],
-    tally: &mut [u64],
+    tally: &mut Tally,
 ) -> u64 {
-    let mut passed = 0;
-    while passed < LIMIT {
-        let mut head = [0u8; HEAD];
-        match next_case(cases, &mut head, input) {
-            Next::Case(size) => compare(&head, name(input, Part { at: 0, len: size }), tally),
-            Next::End => {
-                return passed;
+    for passed in 0..LIMIT {
+        match next_case(cases, input) {
+            Ok(Some(case)) => {
+                let part = Part {
+                    at: 0,
+                    len: case.input,
+                };
+                compare(case, name(input, part), tally);
             }
-            Next::CutShort => {
+            Ok(None) => return passed,
+            Err(CutShort) => {
                 cut_short(rt, passed);
                 return passed;
             }
         }
-        passed += 1;
     }
-    passed
+    LIMIT
 }
 
-pub fn compare_all(rt: &impl Print, cases: &mut impl Read, tally: &mut [u64]) {
+pub fn compare_all(rt: &impl Print, cases: &mut impl Read, tally: &mut Tally) {
     if !begins_with(rt, cases, 0x0178_6568) {
         return;
     }
@@ -135,7 +118,7 @@ pub fn compare_all(rt: &impl Print, cases: &mut impl Read, tally: &mut [u64]) {
     say_number(
         rt,
         b"; exports, of which each that was done came back: ",
-        own(tally),
+        tally.own,
     );
     say(rt, b"\n");
 }

@@ -9,6 +9,6 @@ fn main(rt: HostRuntime) {
     let Some(mut cases) = recorded::cases::open(&rt, 1) else {
         return;
     };
-    let mut tally = recorded::tally::no_case();
+    let mut tally = recorded::tally::Tally::new();
     compare::compare_all(&rt, &mut cases, &mut tally);
 }

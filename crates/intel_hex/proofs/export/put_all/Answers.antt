@@ -1,75 +1,50 @@
-use Prim.Native.Nat.{◌+◌, ◌*◌, ◌-◌}
-use mathlib.Core.Path.{refl, ap, ◌∙◌}
-use mathlib.Core.List.{◌++◌}
-use native.Mathlib.Omega.{arith}
-use borrow.Author.Rules.{rules}
-use lib.ListN.{length, take, drop}
-use lib.Seq.{sets}
-use Rattle.intel_hex.specs.Export.{records, record_line}
-use Rattle.intel_hex.proofs.ExportLaws.{lines_from, end_line, line-length, part_length, part-is, lines_more, lines-all, lines_none, room-more}
+use Rattle.std.proofs.Common.{◌≡◌, ◌+◌, ◌*◌, ◌-◌, ◌<◌, refl, sym, ap, ◌∙◌, arith, rules, ◌++◌, length, length-drop, take, drop}
+use Rattle.std.proofs.lemmas.List.Edits.{sets}
+use Rattle.std.specs.Iterator.Adapters.{enumerate_source, enumerate_count}
+use Rattle.std.specs.Slice.Iter.{chunks_rest}
+use Rattle.intel_hex.specs.Export.{records}
+use Rattle.intel_hex.proofs.ExportLaws.{lines_from, end_line, line-length, part_length, part-is, part-behind, lines_more, lines-all, lines_none, room-more}
 use Rattle.intel_hex.proofs.export.put_all.Goals as goal
 
 pub loop-i-init : goal.loop-i-init
 loop-i-init c =
-    record { within = omega arith; long = refl; room = omega arith; same = lines_none c.args.image.now c.args.out.now }
-
-pub slice_bounds-put_record-count : goal.slice_bounds-put_record-count
-slice_bounds-put_record-count c =
-    omega (arith, c.lesser-end.ensures)
-
-pub slice_bounds-put_record-start : goal.slice_bounds-put_record-start
-slice_bounds-put_record-start c =
-    omega (arith, c.lesser-end.ensures)
-
-pub slice_bounds-put_record-end : goal.slice_bounds-put_record-end
-slice_bounds-put_record-end c =
-    omega (arith, c.lesser-end.ensures)
-
-pub put_record-requires : goal.put_record-requires
-put_record-requires c =
-    let a = c.args in
-    let l = c.loop-i in
-    let size = ap length (part-is a.image.now l.i c.lesser-end.ensures) in
-    (omega (arith, size, part_length a.image.now l.i, l.invariant.room), omega (arith, size, part_length a.image.now l.i), omega (arith, c.requires.1))
-
-pub overflow_add-at : goal.overflow_add-at
-overflow_add-at c =
-    omega (arith, c.loop-i.invariant.room)
-
-pub overflow_sub-at : goal.overflow_sub-at
-overflow_sub-at c =
-    omega (arith, c.lesser-end.ensures)
-
-pub overflow_mul-at : goal.overflow_mul-at
-overflow_mul-at c =
-    omega (arith, c.lesser-end.ensures)
-
-pub overflow_add-at-in-loop-i : goal.overflow_add-at-in-loop-i
-overflow_add-at-in-loop-i c =
-    omega (arith, c.lesser-end.ensures, c.loop-i.invariant.room)
+    let same = c.into_iter-i-iterator.ensures.into_iter_gives in
+    let none = ap enumerate_count same ∙ c.enumerate-i-items.ensures.count in
+    let source = ap enumerate_source same ∙ c.enumerate-i-items.ensures.source in
+    rw (none, source, c.chunks.ensures.rest, c.chunks.ensures.size)
+    record { left = refl; sixteen = refl; within = omega arith; long = refl; room = omega arith; same = lines_none c.args.image.now c.args.out.now }
 
 pub loop-i-preserved : goal.loop-i-preserved
 loop-i-preserved c =
-    let a = c.args in
+    let image = c.args.image.now in
     let l = c.loop-i in
-    let part = part-is a.image.now l.i c.lesser-end.ensures in
-    let size = part_length a.image.now l.i in
-    let line = line-length 0 (16 * l.i) (take 16 (drop (16 * l.i) a.image.now)) in
+    let step = c.in-Some.ensures.steps in
+    let i = enumerate_count l.i-iterator in
+    let part = c.in-Some.part.now in
+    let rest = chunks_rest (enumerate_source c.next.new.self) in
+    let cut : drop (16 * i) image ≡ part ++ rest = sym l.invariant.left ∙ step.0.1.0 in
+    let size = rw (l.invariant.sixteen, l.invariant.left) at step.0.1.1 in
+    let more : i < records (length image) = omega (arith, step.0.1.2, ap length l.invariant.left, length-drop (16 * i) image) in
+    let piece = part-is image i part rest cut size in
+    let line = line-length 0 (16 * i) (take 16 (drop (16 * i) image)) in
+    let long = ap length piece ∙ part_length image i in
+    rw step.2
     record {
-      within = omega arith;
+      left = part-behind image i part rest cut size;
+      sixteen = step.0.0 ∙ l.invariant.sixteen;
+      within = omega (arith, more);
       long = search rules;
-      room = room-more (length a.image.now) l.i l.at (length l.out) c.loop-i-test.true c.lesser-end.ensures c.put_record.auto.out l.invariant.room;
-      same = ap (λ o. sets o (l.at + 12 + 2 * (c.lesser-end.result - 16 * l.i)) (lines_from a.image.now (l.i + 1) (records (length a.image.now) - (l.i + 1)) ++ end_line))
-          (c.put_record.ensures ∙ ap (λ p. sets l.out l.at (record_line 0 (16 * l.i) p)) part)
-          ∙ lines_more a.image.now l.i (records (length a.image.now)) l.at l.out c.loop-i-test.true (omega (arith, line, size, c.lesser-end.ensures)) ∙ l.invariant.same;
+      room = room-more (length image) i l.at (length l.out) more long c.put_record.auto.out l.invariant.room;
+      same = ap (λ o. sets o (l.at + (12 + 2 * length part)) (lines_from image (i + 1) (records (length image) - (i + 1)) ++ end_line))
+          (rw (step.1, piece) at c.put_record.ensures)
+          ∙ lines_more image i (records (length image)) l.at l.out more (omega (arith, line, long, part_length image i)) ∙ l.invariant.same;
     }
-
-pub put_record-requires-2 : goal.put_record-requires-2
-put_record-requires-2 c =
-    (omega (arith, c.loop-i.invariant.room), omega arith, omega arith)
 
 pub returns : goal.returns
 returns c =
-    let a = c.args in let l =
-    c.loop-i in c.put_record-2.ensures ∙ lines-all a.image.now l.i
-    (records (length a.image.now)) l.at l.out c.loop-i-test.false ∙ l.invariant.same
+    let image = c.args.image.now in
+    let l = c.loop-i in
+    let i = enumerate_count l.i-iterator in
+    let none = c.in-None.ensures.steps.0.1.0 in
+    c.put_record-2.ensures
+    ∙ lines-all image i (records (length image)) l.at l.out (omega (arith, none, ap length l.invariant.left, length-drop (16 * i) image)) ∙ l.invariant.same

@@ -14,10 +14,10 @@ pub record Turn (text cells₀ cells : List ℕ) (at end : ℕ) : Type 0 where
   pub enough : length text - at < fuel
   pub same : walk text fuel at (memory_in cells) end ≡ walk text (length text + 1) 0 (memory_in cells₀) 0
 
-abbrev pub invariant-loop-r : goal.invariant-loop-r
-invariant-loop-r l =
+abbrev pub invariant-loop-data : goal.invariant-loop-data
+invariant-loop-data l =
     Turn l.text l.initial.cells l.cells l.at l.end
 
-abbrev pub decreases-loop-r : goal.decreases-loop-r
-decreases-loop-r l =
+abbrev pub decreases-loop-data : goal.decreases-loop-data
+decreases-loop-data l =
     length l.text - l.at

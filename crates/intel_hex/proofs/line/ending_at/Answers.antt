@@ -1,52 +1,32 @@
 -- `ending_at` meets its contract. Assumes nothing.
-use mathlib.Core.Path.{◌≡◌}
-use Prim.Native.Nat.{◌+◌}
-use lib.ListN.{get_or, get_or-eq_default}
-use borrow.Author.Tests.{le-leb, lt-leb, eq-eqb, ne_eqb}
-use native.Mathlib.Omega.{arith}
-use Rattle.intel_hex.specs.Record.{ending_at}
+use Rattle.std.proofs.Common.{arith}
+use Rattle.intel_hex.proofs.RecordLaws.{ends-here, ends-lf, ends-crlf, ends-not}
 use Rattle.intel_hex.proofs.line.ending_at.Goals as goal
 
-pub returns-then-text-at : goal.returns-then-text-at
-unfolding ending_at
-returns-then-text-at c =
-    simp (le-leb _ _ c.if-text-at.true)
+pub returns-in-empty : goal.returns-in-empty
+returns-in-empty c =
+    ends-here c.args.text.now c.args.at (omega arith)
 
-pub returns-then-text-at-eq10 : goal.returns-then-text-at-eq10
-unfolding ending_at
-returns-then-text-at-eq10 c =
-    simp (lt-leb _ _ c.if-text-at.false, eq-eqb _ _ c.if-text-at-eq10.true)
+pub returns-in-13 : goal.returns-in-13
+returns-in-13 c =
+    ends-crlf c.args.text.now c.args.at (omega arith) (omega arith) (omega arith)
 
-pub returns-then-text-at-ne13 : goal.returns-then-text-at-ne13
-unfolding ending_at
-returns-then-text-at-ne13 c =
-    simp (lt-leb _ _ c.if-text-at.false, ne_eqb _ _ c.if-text-at-eq10.false, ne_eqb _ _ c.if-text-at-ne13.true)
+pub returns-in-10 : goal.returns-in-10
+returns-in-10 c =
+    ends-lf c.args.text.now c.args.at (omega arith) (omega arith)
 
-pub returns-then-text-at-lt2 : goal.returns-then-text-at-lt2
-unfolding ending_at
-returns-then-text-at-lt2 c =
-    let a = c.args in let past : get_or a.text.now (a.at + 1) 0 ≡ 0 =
-    get_or-eq_default a.text.now 0 (omega arith) in simp
-    (lt-leb _ _ c.if-text-at.false, ne_eqb _ _ c.if-text-at-eq10.false, eq-eqb _ _ c.if-text-at-ne13.false, past)
+pub returns-in-10-2 : goal.returns-in-10-2
+returns-in-10-2 c =
+    ends-lf c.args.text.now c.args.at (omega arith) (omega arith)
 
-pub returns-then-text-at-eq10-2 : goal.returns-then-text-at-eq10-2
-unfolding ending_at
-returns-then-text-at-eq10-2 c =
-    simp (
-      lt-leb _ _ c.if-text-at.false,
-      ne_eqb _ _
-          c.if-text-at-eq10.false,
-      eq-eqb _ _ c.if-text-at-ne13.false,
-      eq-eqb _ _ c.if-text-at-eq10-2.true,
-    )
+pub returns-in_default : goal.returns-in_default
+returns-in_default c =
+    ends-not c.args.text.now c.args.at (omega arith) (λ e. omega arith) (λ l e f. omega arith)
 
-pub returns-else-text-at-eq10-2 : goal.returns-else-text-at-eq10-2
-unfolding ending_at
-returns-else-text-at-eq10-2 c =
-    simp (
-      lt-leb _ _ c.if-text-at.false,
-      ne_eqb _ _
-          c.if-text-at-eq10.false,
-      eq-eqb _ _ c.if-text-at-ne13.false,
-      ne_eqb _ _ c.if-text-at-eq10-2.false,
-    )
+pub returns-in_default-2 : goal.returns-in_default-2
+returns-in_default-2 c =
+    ends-not c.args.text.now c.args.at (omega arith) (λ e. omega arith) (λ l e f. omega arith)
+
+pub returns-in_default-3 : goal.returns-in_default-3
+returns-in_default-3 c =
+    ends-not c.args.text.now c.args.at (omega arith) (λ e. omega arith) (λ l e f. omega arith)
