@@ -23,7 +23,7 @@ leads_of opcode =
     else if is_later opcode then LaterJump
     else Nowhere
 
--- the numbers of the code's table
+-- a number for each of them
 abbrev pub lead_number : Leads → ℕ
 lead_number Nowhere = 0
 lead_number PageJump = 1
@@ -33,19 +33,9 @@ lead_number LongCall = 4
 lead_number ShortJump = 5
 lead_number LaterJump = 6
 
--- the table: the number at each of the 256 opcodes
+-- the table of the numbers, at each of the 256 opcodes
 unfoldable pub lead_table : List ℕ
 lead_table = map (λ k. lead_number (leads_of k)) (from 0 256)
-
--- what a row says of it: 1 a call, 2 a jump, 0 neither
-abbrev pub what_of : Leads → ℕ
-what_of Nowhere = 0
-what_of PageJump = 2
-what_of PageCall = 1
-what_of LongJump = 2
-what_of LongCall = 1
-what_of ShortJump = 2
-what_of LaterJump = 2
 
 -- the bytes of the address: at which of the instruction's bytes they begin, and how many they are. The opcode itself has
 -- three bits of the address of an AJMP or ACALL

@@ -1,13 +1,15 @@
-// The instructions of an 8051 part by their opcodes: how long each is, and where those that name an address lead. Both are
-// constant tables of all 256 opcodes, sixteen in a line; the rules by which they are filled are in specs/.
+// The instructions of an 8051 part by their opcodes: how long each is, and where those that name an
+// address lead. The rules of both are in specs/.
 #![tactic(auto)]
 
 ghost use Rattle.std.specs.Prelude.{◌≡◌};
-ghost use Rattle.opcodes.specs.Lengths.{length_of, length_table, is_return};
-ghost use Rattle.opcodes.specs.Leads.{leads_of, lead_number, lead_table};
+ghost use Rattle.opcodes.specs.Lengths.{length_of, is_return};
+ghost use Rattle.opcodes.specs.Leads.{leads_of};
 
-// How many bytes each instruction has. A5h, which the manual reserves, has none.
-const LENGTHS: [u8; 256] = *b"\x01\x02\x03\x01\x01\x02\x01\x01\x01\x01\x01\x01\x01\x01\x01\x01\
+// How many bytes the instruction of each of the 256 opcodes has, sixteen in a line. A5h, which the
+// manual reserves, has none. It is a static, since a constant array that is indexed would be written
+// to the stack at every look.
+static LENGTHS: [u8; 256] = *b"\x01\x02\x03\x01\x01\x02\x01\x01\x01\x01\x01\x01\x01\x01\x01\x01\
     \x03\x02\x03\x01\x01\x02\x01\x01\x01\x01\x01\x01\x01\x01\x01\x01\
     \x03\x02\x01\x01\x02\x02\x01\x01\x01\x01\x01\x01\x01\x01\x01\x01\
     \x03\x02\x01\x01\x02\x02\x01\x01\x01\x01\x01\x01\x01\x01\x01\x01\
@@ -24,27 +26,9 @@ const LENGTHS: [u8; 256] = *b"\x01\x02\x03\x01\x01\x02\x01\x01\x01\x01\x01\x01\x
     \x01\x02\x01\x01\x01\x02\x01\x01\x01\x01\x01\x01\x01\x01\x01\x01\
     \x01\x02\x01\x01\x01\x02\x01\x01\x01\x01\x01\x01\x01\x01\x01\x01";
 
-// What each instruction does with an address that its bytes name, by the numbers of `leads_of`.
-const LEADS: [u8; 256] = *b"\x00\x01\x03\x00\x00\x00\x00\x00\x00\x00\x00\x00\x00\x00\x00\x00\
-    \x06\x02\x04\x00\x00\x00\x00\x00\x00\x00\x00\x00\x00\x00\x00\x00\
-    \x06\x01\x00\x00\x00\x00\x00\x00\x00\x00\x00\x00\x00\x00\x00\x00\
-    \x06\x02\x00\x00\x00\x00\x00\x00\x00\x00\x00\x00\x00\x00\x00\x00\
-    \x05\x01\x00\x00\x00\x00\x00\x00\x00\x00\x00\x00\x00\x00\x00\x00\
-    \x05\x02\x00\x00\x00\x00\x00\x00\x00\x00\x00\x00\x00\x00\x00\x00\
-    \x05\x01\x00\x00\x00\x00\x00\x00\x00\x00\x00\x00\x00\x00\x00\x00\
-    \x05\x02\x00\x00\x00\x00\x00\x00\x00\x00\x00\x00\x00\x00\x00\x00\
-    \x05\x01\x00\x00\x00\x00\x00\x00\x00\x00\x00\x00\x00\x00\x00\x00\
-    \x00\x02\x00\x00\x00\x00\x00\x00\x00\x00\x00\x00\x00\x00\x00\x00\
-    \x00\x01\x00\x00\x00\x00\x00\x00\x00\x00\x00\x00\x00\x00\x00\x00\
-    \x00\x02\x00\x00\x06\x06\x06\x06\x06\x06\x06\x06\x06\x06\x06\x06\
-    \x00\x01\x00\x00\x00\x00\x00\x00\x00\x00\x00\x00\x00\x00\x00\x00\
-    \x00\x02\x00\x00\x00\x06\x00\x00\x05\x05\x05\x05\x05\x05\x05\x05\
-    \x00\x01\x00\x00\x00\x00\x00\x00\x00\x00\x00\x00\x00\x00\x00\x00\
-    \x00\x02\x00\x00\x00\x00\x00\x00\x00\x00\x00\x00\x00\x00\x00\x00";
-
 // Where an instruction leads: nowhere that its bytes tell; AJMP, ACALL; LJMP, LCALL; or a jump by a signed byte, which
 // stands behind the opcode, or behind one more byte.
-#[derive(Clone, Copy)]
+#[derive(Clone, Copy, Debug, PartialEq, Eq)]
 pub enum Leads {
     Nowhere,
     PageJump,
@@ -55,47 +39,27 @@ pub enum Leads {
     LaterJump,
 }
 
-// The two tables, to be lent to what looks opcodes up: a constant that is indexed in place is written out at every use.
-pub fn length_table() -> [u8; 256]
-    ensures { result ≡ length_table }
-{
-    LENGTHS
-}
-
-pub fn lead_table() -> [u8; 256]
-    ensures { result ≡ lead_table }
-{
-    LEADS
-}
-
 // The length of the instruction with an opcode.
-pub fn length_of(lengths: &[u8; 256], opcode: u8) -> u8
-    requires { lengths.now ≡ length_table }
+#[tactic(auto, using(crate::proofs::Table::length_at))]
+pub fn length_of(opcode: u8) -> u8
     ensures { result ≡ length_of opcode }
 {
-    lengths[opcode as usize]
-}
-
-fn lead_number(leads: &[u8; 256], opcode: u8) -> u8
-    requires { leads.now ≡ lead_table }
-    ensures { result ≡ lead_number (leads_of opcode) }
-{
-    leads[opcode as usize]
+    LENGTHS[opcode as usize]
 }
 
 // Where the instruction with an opcode leads.
-pub fn leads_of(leads: &[u8; 256], opcode: u8) -> Leads
-    requires { leads.now ≡ lead_table }
+#[tactic(auto, unfolding(crate::specs::Leads::leads_of, lent::specs::Lists::any))]
+pub fn leads_of(opcode: u8) -> Leads
     ensures { result ≡ leads_of opcode }
 {
-    match lead_number(leads, opcode) {
-        0 => Leads::Nowhere,
-        1 => Leads::PageJump,
-        2 => Leads::PageCall,
-        3 => Leads::LongJump,
-        4 => Leads::LongCall,
-        5 => Leads::ShortJump,
-        _ => Leads::LaterJump,
+    match opcode {
+        0x01 | 0x21 | 0x41 | 0x61 | 0x81 | 0xa1 | 0xc1 | 0xe1 => Leads::PageJump,
+        0x11 | 0x31 | 0x51 | 0x71 | 0x91 | 0xb1 | 0xd1 | 0xf1 => Leads::PageCall,
+        0x02 => Leads::LongJump,
+        0x12 => Leads::LongCall,
+        0x40 | 0x50 | 0x60 | 0x70 | 0x80 | 0xd8..=0xdf => Leads::ShortJump,
+        0x10 | 0x20 | 0x30 | 0xd5 | 0xb4..=0xbf => Leads::LaterJump,
+        _ => Leads::Nowhere,
     }
 }
 
@@ -103,8 +67,5 @@ pub fn leads_of(leads: &[u8; 256], opcode: u8) -> Leads
 pub fn is_return(opcode: u8) -> bool
     ensures { result ≡ is_return opcode }
 {
-    if opcode == 0x22 {
-        return true;
-    }
-    opcode == 0x32
+    matches!(opcode, 0x22 | 0x32)
 }

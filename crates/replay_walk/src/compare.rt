@@ -1,14 +1,10 @@
 // Case by case: whether the answers agree.
-ghost use Rattle.std.specs.Prelude.{◌<◌};
-
 use crate::trial;
 use crate::trial::{Came, ROOM};
-use lent::names::name;
-use lent::part::Part;
-use recorded::cases::{LIMIT, begins_with};
+use recorded::cases::{CutShort, LIMIT, begins_with, start};
 use recorded::numbers::{eight_at, four_at, within};
 use recorded::show::{cut_short, outcomes, say};
-use recorded::tally::{count, count_differing};
+use recorded::tally::Tally;
 use std::io::Read;
 use system::files::fill;
 
@@ -20,132 +16,102 @@ const HEAD: usize = 32;
 // The numbers of 17 stretches.
 const PAIRS: usize = 272;
 
-fn byte_of(head: &[u8], i: usize) -> u64
-    ensures { result < 256 }
-{
-    four_at(head, i) % 256
+// What is recorded of a case.
+fn recorded_in(head: &[u8; HEAD]) -> Came {
+    Came {
+        number: u64::from(head[0]),
+        why: u64::from(head[1]),
+        steps: four_at(head, 16),
+        left: four_at(head, 20),
+    }
 }
 
-fn agrees(head: &[u8], came: Came) -> bool {
-    if came.number != byte_of(head, 0) {
-        return false;
-    }
-    if came.why != byte_of(head, 1) {
-        return false;
-    }
-    if came.steps != four_at(head, 16) {
-        return false;
-    }
-    came.left == four_at(head, 20)
-}
-
-// Whether a case agrees, with as many numbers lent as it says.
-fn holds(head: &[u8], pairs: &[u8], image: &[u8]) -> bool {
+// What a case comes to, with as many numbers lent as it says.
+fn came_of(head: &[u8; HEAD], pairs: &[u8], image: &[u8]) -> Came {
     let mut rows = trial::rows();
     let n = within(ROOM, four_at(head, 12) as usize);
-    let came = trial::walk(
+    trial::walk(
         image,
         pairs,
-        byte_of(head, 2) as usize,
+        usize::from(head[2]),
         eight_at(head, 24) as usize,
-        &mut rows[0..n],
-    );
-    agrees(head, came)
-}
-
-fn compare(head: &[u8], pairs: &[u8], image: &[u8], tally: &mut [u64]) {
-    if holds(head, pairs, image) {
-        count(tally, byte_of(head, 0), 0, false);
-        return;
-    }
-    count_differing(tally);
-}
-
-// The next case of the file: how long its image is, which then stands in the room behind zeros.
-#[derive(Clone, Copy)]
-enum Next {
-    Case(usize),
-    End,
-    CutShort,
-}
-
-// Reads n bytes behind zeros into the image's room.
-fn read_image(cases: &mut impl Read, zeros: usize, n: usize, room: &mut [u8]) -> Next {
-    if room.len() < zeros {
-        return Next::CutShort;
-    }
-    if room.len() - zeros < n {
-        return Next::CutShort;
-    }
-    let end = zeros + n;
-    if fill(cases, &mut room[zeros..end]).size < n {
-        return Next::CutShort;
-    }
-    Next::Case(end)
-}
-
-fn next_case(cases: &mut impl Read, head: &mut [u8], pairs: &mut [u8], room: &mut [u8]) -> Next {
-    if fill(cases, head).size < HEAD {
-        return Next::End;
-    }
-    let n = within(PAIRS, byte_of(head, 2) as usize * 16);
-    if pairs.len() < n {
-        return Next::CutShort;
-    }
-    if fill(cases, &mut pairs[0..n]).size < n {
-        return Next::CutShort;
-    }
-    read_image(
-        cases,
-        four_at(head, 4) as usize,
-        four_at(head, 8) as usize,
-        room,
+        &mut rows[..n],
     )
 }
 
-#[derive(Clone, Copy)]
-enum Compared {
-    One,
-    End,
-    CutShort,
-}
-
-// One case, with room of its own, so that nothing of an earlier one stands in it.
-fn compare_next(cases: &mut impl Read, tally: &mut [u64]) -> Compared {
-    let mut head = [0u8; HEAD];
-    let mut pairs = [0u8; PAIRS];
-    let mut room = trial::image_room();
-    match next_case(cases, &mut head, &mut pairs, &mut room) {
-        Next::Case(size) => {
-            compare(&head, &pairs, name(&room, Part { at: 0, len: size }), tally);
-            Compared::One
-        }
-        Next::End => Compared::End,
-        Next::CutShort => Compared::CutShort,
+fn compare(head: &[u8; HEAD], pairs: &[u8], image: &[u8], tally: &mut Tally) {
+    let came = came_of(head, pairs, image);
+    if came == recorded_in(head) {
+        tally.count(came.number, 0, false);
+    } else {
+        tally.count_differing();
     }
 }
 
+// Reads n bytes behind zeros into the image's room, and answers how long the image is.
+fn read_image(
+    cases: &mut impl Read,
+    zeros: usize,
+    n: usize,
+    room: &mut [u8],
+) -> Result<usize, CutShort> {
+    if room.len() < zeros || room.len() - zeros < n {
+        return Err(CutShort);
+    }
+    let end = zeros + n;
+    if fill(cases, &mut room[zeros..end]).size < n {
+        return Err(CutShort);
+    }
+    Ok(end)
+}
+
+// The next case of the file, if there is one: how long its image is, which then stands in the room.
+fn next_case(
+    cases: &mut impl Read,
+    head: &mut [u8; HEAD],
+    pairs: &mut [u8; PAIRS],
+    room: &mut [u8],
+) -> Result<Option<usize>, CutShort> {
+    if fill(cases, head).size < HEAD {
+        return Ok(None);
+    }
+    let n = within(PAIRS, usize::from(head[2]) * 16);
+    if fill(cases, &mut pairs[..n]).size < n {
+        return Err(CutShort);
+    }
+    let zeros = four_at(head, 4) as usize;
+    let size = read_image(cases, zeros, four_at(head, 8) as usize, room)?;
+    Ok(Some(size))
+}
+
+// One case, if there is one, with room of its own, so that nothing of an earlier one stands in it. Answers whether there was.
+fn compare_next(cases: &mut impl Read, tally: &mut Tally) -> Result<bool, CutShort> {
+    let mut head = [0u8; HEAD];
+    let mut pairs = [0u8; PAIRS];
+    let mut room = trial::image_room();
+    let Some(size) = next_case(cases, &mut head, &mut pairs, &mut room)? else {
+        return Ok(false);
+    };
+    compare(&head, &pairs, start(&room, size), tally);
+    Ok(true)
+}
+
 // From case to case; how many there are.
-fn compare_each(rt: &impl Print, cases: &mut impl Read, tally: &mut [u64]) -> u64 {
-    let mut passed = 0;
-    while passed < LIMIT {
+fn compare_each(rt: &impl Print, cases: &mut impl Read, tally: &mut Tally) -> u64 {
+    for passed in 0..LIMIT {
         match compare_next(cases, tally) {
-            Compared::One => {
-                passed += 1;
-            }
-            Compared::End => {
-                return passed;
-            }
-            Compared::CutShort => {
+            Ok(true) => {}
+            Ok(false) => return passed,
+            Err(CutShort) => {
                 cut_short(rt, passed);
                 return passed;
             }
         }
     }
-    passed
+    LIMIT
 }
 
-pub fn compare_all(rt: &impl Print, cases: &mut impl Read, tally: &mut [u64]) {
+pub fn compare_all(rt: &impl Print, cases: &mut impl Read, tally: &mut Tally) {
     if !begins_with(rt, cases, 0x016b_6c77) {
         return;
     }

@@ -12,7 +12,7 @@ fn main(rt: HostRuntime) {
     let Some(mut cases) = open(&rt, 1) else {
         return;
     };
-    let mut tally = recorded::tally::no_case();
+    let mut tally = recorded::tally::Tally::new();
     compare::compare_all(&rt, &mut cases, &mut tally);
     let Some(mut instructions) = open(&rt, 2) else {
         return;

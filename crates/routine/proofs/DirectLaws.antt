@@ -1,6 +1,6 @@
 -- The targets that the code works out are rule set 1's. Assumes nothing.
 use Rattle.std.specs.Prelude.{ℕ, ◌+◌, ◌-◌, ◌%◌, ◌^◌, ◌≤◌, ◌<◌, ◌≡◌, refl, Bool, true, false, List, ltb, length, if◌then◌else◌}
-use Rattle.std.proofs.Common.{sym, ap, ◌∙◌, arith, lt-ltb, le-ltb}
+use Rattle.std.proofs.Common.{sym, ap, ◌∙◌, arith}
 use Rattle.image.specs.View.{view, cell_at}
 use Rattle.image.specs.declared.Stretch.{Stretch}
 use Rattle.image.specs.Window.{is_apart}
@@ -14,10 +14,10 @@ use Rattle.image.proofs.fixup.AddressLaws.{target_at}
 use Rattle.opcodes.specs.declared.Leads.{Leads}
 use Rattle.opcodes.specs.declared.Leads.TheVariants.{Nowhere, PageJump, PageCall, LongJump, LongCall, ShortJump, LaterJump}
 use Rattle.opcodes.specs.Lengths.{length_of}
-use Rattle.opcodes.specs.Leads.{leads_of, lead_number, what_of, place_of, bytes_of}
+use Rattle.opcodes.specs.Leads.{leads_of, lead_number, place_of, bytes_of}
 use Rattle.opcodes.specs.OpcodeLaws.{ends-together}
 use Rattle.routine.specs.declared.Row.{Row}
-use Rattle.routine.specs.Step.{told_by, target_of}
+use Rattle.routine.specs.Step.{told_by, target_of, what_of}
 use Rattle.routine.specs.Direct.{short_to, page_to, long_to, target_by, row_by}
 
 -- sums at 64 bits, cut to 16
@@ -46,16 +46,15 @@ page-sum pos a b h l = omega arith
 long-sum : (a b : ℕ) → a < 256 → b < 256 → long_to a b ≡ addr16 a b % 65536
 long-sum a b h l = omega arith
 
--- what the code comes to: a jump by a byte below 128 and from there on, and the row of each lead
-pub short-low : (next b : ℕ) → b < 128 → (next % 65536 + b) % 65536 ≡ short_to next b
-short-low next b h = rw (lt-ltb b 128 h)
+-- an LJMP and an LCALL have three bytes
+long-ends : (opcode : ℕ) (l : Leads) → opcode < 256 → leads_of opcode ≡ l → place_of l + bytes_of l ≡ 3 → 0 < lead_number l → length_of opcode ≡ 3
+long-ends opcode l h e three some = sym (rw e at (ends-together opcode h (rw e some))) ∙ three
 
-pub short-high : (next b : ℕ) → 128 ≤ b → (next % 65536 + b + 65280) % 65536 ≡ short_to next b
-short-high next b h = rw (le-ltb b 128 h) (omega arith)
+pub long_jump : (opcode : ℕ) → opcode < 256 → leads_of opcode ≡ LongJump → length_of opcode ≡ 3
+long_jump opcode h e = long-ends opcode LongJump h e refl (omega arith)
 
-pub row-by : (image : List ℕ) (at next opcode : ℕ) (l : Leads) {t : ℕ} → leads_of opcode ≡ l → t ≡ target_by image next opcode l
-    → ◌≡◌ {A = Row} (record { address = at; what = what_of l; target = t }) (row_by image at next opcode)
-row-by image at next opcode l e q = rw (q, e)
+pub long_call : (opcode : ℕ) → opcode < 256 → leads_of opcode ≡ LongCall → length_of opcode ≡ 3
+long_call opcode h e = long-ends opcode LongCall h e refl (omega arith)
 
 -- an instruction of n bytes that can be read
 module _ (image : List ℕ) (s : List Stretch) (bytes : Bytes image) (at n : ℕ) (fit : at + n ≤ length image) (apart : is_apart s at n ≡ true) where
@@ -108,7 +107,7 @@ module _ (image : List ℕ) (s : List Stretch) (bytes : Bytes image) (at n : ℕ
   target_is LaterJump e = short 2 (e (omega arith))
 
   pub row_is : n ≡ length_of (cell_at image at)
-      → ◌≡◌ {A = Row} (row_by image at (at + n) (cell_at image at)) (record { address = at; what = what_of (leads_of (cell_at image at)); target = target_of cells at (leads_of (cell_at image at)) })
+      → ◌≡◌ {A = Row} (row_by image at (at + n) (cell_at image at)) (record { address = at; what = what_of (leads_of (cell_at image at)) (target_of cells at (leads_of (cell_at image at))) })
   row_is e =
       let l = leads_of (cell_at image at) in
-      ap (λ t. record { address = at; what = what_of l; target = t }) (target_is l (λ h. ends-together (cell_at image at) (bytes at) h ∙ sym e))
+      ap (λ t. record { address = at; what = what_of l t }) (target_is l (λ h. ends-together (cell_at image at) (bytes at) h ∙ sym e))

@@ -1,5 +1,5 @@
 -- Each refusal exactly in its case and order, and what it leaves in the lent rows. Assumes nothing.
-use Rattle.std.specs.Prelude.{ℕ, ◌*◌, ◌≤◌, ◌<◌, refl, ◌⊎◌, ◌↔◌, Bool, true, false, eqb, length, if◌then◌else◌}
+use Rattle.std.specs.Prelude.{ℕ, ◌*◌, ◌≤◌, ◌<◌, refl, ◌⊎◌, ◌↔◌, Bool, true, false, Result, Ok, Err, eqb, length, if◌then◌else◌}
 use Rattle.std.proofs.Math.Path.{◌≡◌, sym, ap, subst}
 use Rattle.std.proofs.Common.{◌∙◌, inl, inr, arith}
 use mathlib.Core.List.{List}
@@ -11,7 +11,6 @@ use Rattle.image.specs.Cover.{cover_of, passes_end}
 use Rattle.image.proofs.CoverLaws.{SomePasses, AllFit, some-passes, all_fit}
 use Rattle.image.specs.declared.cover.Stretches.{Stretches}
 use Rattle.routine.specs.declared.Walked.{Walked}
-use Rattle.routine.specs.declared.Walked.TheVariants.{Done, Refused}
 use Rattle.routine.specs.declared.WalkRefusal.{WalkRefusal}
 use Rattle.routine.specs.declared.WalkRefusal.TheVariants.{ImageTooLong, TooManyStretches, StretchPastEnd, StartPastEnd, NoRoom}
 use Rattle.routine.specs.Walk.{Steps, walked}
@@ -47,13 +46,13 @@ pub number-tells : (a b : WalkRefusal) → walk_number a ≡ walk_number b → a
 number-tells a b e = sym (number-back a) ∙ ap of_number e ∙ number-back b
 
 -- the refusal in an answer, if there is one
-refusal_in : Walked → WalkRefusal
-refusal_in (Refused r) = r
-refusal_in (Done n why) = NoRoom
+refusal_in : Result Walked WalkRefusal → WalkRefusal
+refusal_in (Err r) = r
+refusal_in (Ok walk) = NoRoom
 
-is_done : Walked → ℕ
-is_done (Refused r) = 0
-is_done (Done n why) = 1
+is_done : Result Walked WalkRefusal → ℕ
+is_done (Err r) = 0
+is_done (Ok walk) = 1
 
 module _ (image : List ℕ) (w : Stretches) (start : ℕ) (lent : List ℕ) where
   abbrev steps : Steps
@@ -77,7 +76,7 @@ module _ (image : List ℕ) (w : Stretches) (start : ℕ) (lent : List ℕ) wher
   fit : Fits → passes_end (length image) (cover_of w) ≡ false
   fit f = (all_fit (length image) (cover_of w)).1 f.2
 
-  pub refused-by : (r : WalkRefusal) → Case r → ◌≡◌ {A = Walked × List ℕ} (Refused r, left_by r lent) (outcome image w start lent)
+  pub refused-by : (r : WalkRefusal) → Case r → ◌≡◌ {A = Result Walked WalkRefusal × List ℕ} (Err r, left_by r lent) (outcome image w start lent)
   refused-by ImageTooLong c = too_long image w start lent c
   refused-by TooManyStretches c = too_many image w start lent c.0 c.1
   refused-by StretchPastEnd c = stretch-past image w start lent c.0 c.1 ((some-passes (length image) (cover_of w)).1 c.2)
@@ -88,7 +87,7 @@ module _ (image : List ℕ) (w : Stretches) (start : ℕ) (lent : List ℕ) wher
 
   -- ROWS THAT ARE ENOUGH: the steps shown are the instructions of the walk as defined, and zeros stand behind them
   pub shows : Starts → length steps.rows * 3 ≤ length lent
-      → ◌≡◌ {A = Walked × List ℕ} (Done (length steps.rows) steps.why, padded (length lent) (joined numbers_in steps.rows)) (outcome image w start lent)
+      → ◌≡◌ {A = Result Walked WalkRefusal × List ℕ} (Ok (record { steps = length steps.rows; why = steps.why }), padded (length lent) (joined numbers_in steps.rows)) (outcome image w start lent)
   shows s h = let f = s.0 in sym (laid-fits steps (length lent) h) ∙ is-walked image w start lent f.0 f.1 (fit f) s.1
 
   -- one of the cases holds, or it is done
@@ -119,16 +118,16 @@ module _ (image : List ℕ) (w : Stretches) (start : ℕ) (lent : List ℕ) wher
       image-long (no h) = inl (ImageTooLong, omega (arith, h))
 
   -- EACH REFUSAL EXACTLY IN ITS CASE
-  pub exactly : (r : WalkRefusal) → ((outcome image w start lent).0 ≡ Refused r) ↔ Case r
+  pub exactly : (r : WalkRefusal) → ((outcome image w start lent).0 ≡ Err r) ↔ Case r
   unfolding refusal_in is_done
-  exactly r = (λ e. go e ways, λ c. sym (ap (λ (o : Walked × List ℕ). o.0) (refused-by r c)))
+  exactly r = (λ e. go e ways, λ c. sym (ap (λ (o : Result Walked WalkRefusal × List ℕ). o.0) (refused-by r c)))
     where
-      go : (outcome image w start lent).0 ≡ Refused r → Ways → Case r
-      go e (inl q) = subst Case (ap refusal_in (ap (λ (o : Walked × List ℕ). o.0) (refused-by q.0 q.1) ∙ e)) q.1
+      go : (outcome image w start lent).0 ≡ Err r → Ways → Case r
+      go e (inl q) = subst Case (ap refusal_in (ap (λ (o : Result Walked WalkRefusal × List ℕ). o.0) (refused-by q.0 q.1) ∙ e)) q.1
       go e (inr s) =
-          let z : ◌≡◌ {A = ℕ} 1 0 = ap is_done (ap (λ (o : Walked × List ℕ). o.0) (shows s.0 s.1) ∙ e) in
+          let z : ◌≡◌ {A = ℕ} 1 0 = ap is_done (ap (λ (o : Result Walked WalkRefusal × List ℕ). o.0) (shows s.0 s.1) ∙ e) in
           absurd (omega (arith, z))
 
   -- 9 SETS THE ROWS TO ZERO, THE OTHERS WRITE NOTHING
-  pub leaves : (r : WalkRefusal) → (outcome image w start lent).0 ≡ Refused r → (outcome image w start lent).1 ≡ left_by r lent
-  leaves r e = sym (ap (λ (o : Walked × List ℕ). o.1) (refused-by r ((exactly r).0 e)))
+  pub leaves : (r : WalkRefusal) → (outcome image w start lent).0 ≡ Err r → (outcome image w start lent).1 ≡ left_by r lent
+  leaves r e = sym (ap (λ (o : Result Walked WalkRefusal × List ℕ). o.1) (refused-by r ((exactly r).0 e)))

@@ -1,10 +1,11 @@
 -- Why a walk stops before a place, in words: each reason exactly in its case; and that no walk shows more than 256
 -- instructions. Assumes nothing.
-use Rattle.std.specs.Prelude.{ℕ, zero, suc, ◌+◌, ◌≤◌, ◌<◌, refl, ◌⊎◌, ◌↔◌, Bool, true, false, List, eqb, length}
+use Rattle.std.specs.Prelude.{ℕ, zero, suc, ◌+◌, ◌≤◌, ◌<◌, refl, ◌⊎◌, ◌↔◌, Bool, true, false, List, Result, Ok, Err, eqb, length, if◌then◌else◌}
 use Rattle.std.proofs.Math.Path.{◌≡◌, ap, subst}
 use Rattle.std.proofs.Common.{sym, ◌∙◌, inl, inr, arith, eqb-true, eq-eqb}
 use Rattle.std.proofs.lemmas.Bool.{false≢true}
 use Rattle.std.proofs.Math.Decide.{dec_le, dec_lt}
+use Rattle.lent.specs.Lists.{one}
 use Rattle.image.specs.View.{view, within, cell_at}
 use Rattle.image.proofs.ViewLaws.{Inside}
 use Rattle.image.specs.declared.Stretch.{Stretch}
@@ -15,21 +16,20 @@ use Rattle.image.proofs.fixup.TargetLaws.{Bytes, Touches, apart-or-touches}
 use Rattle.opcodes.specs.Lengths.{length_of, is_return}
 use Rattle.routine.specs.declared.Why.{Why}
 use Rattle.routine.specs.declared.Why.TheVariants.{Return, Limit, Reserved, End, Withheld}
-use Rattle.routine.specs.declared.step.Step.{Step}
-use Rattle.routine.specs.declared.step.Step.TheVariants.{Shown, Stopped}
+use Rattle.routine.specs.declared.step.Shown.{Shown}
 use Rattle.routine.specs.Step.{step_at}
 use Rattle.routine.specs.Direct.{row_by}
 use Rattle.routine.proofs.StepLaws.{step-beyond, step-hidden, step-reserved, step_past, step-touches, step-shown}
-use Rattle.routine.specs.Walk.{after, walk, walked}
+use Rattle.routine.specs.Walk.{stops, before, after, walk, walked}
 
 -- what a step says
-why_in : Step → Why
-why_in (Stopped why) = why
-why_in (Shown row next last) = Return
+why_in : Result Shown Why → Why
+why_in (Err why) = why
+why_in (Ok s) = Return
 
-is_shown : Step → ℕ
-is_shown (Stopped why) = 0
-is_shown (Shown row next last) = 1
+is_shown : Result Shown Why → ℕ
+is_shown (Err why) = 0
+is_shown (Ok s) = 1
 
 module _ (image : List ℕ) (s : List Stretch) (bytes : Bytes image) (at : ℕ) where
   abbrev opcode : ℕ
@@ -65,7 +65,7 @@ module _ (image : List ℕ) (s : List Stretch) (bytes : Bytes image) (at : ℕ) 
   fails true f = absurd (f refl)
   fails false f = refl
 
-  pub stopped_by : (why : Why) → StopsBy why → step_at (view image s) at ≡ Stopped why
+  pub stopped_by : (why : Why) → StopsBy why → step_at (view image s) at ≡ Err why
   stopped_by End (inl h) = step-beyond image s at h
   stopped_by End (inr c) = step_past image s at bytes c.0.0.0 (one_apart c.0.0.1) c.0.1 c.1
   stopped_by Withheld (inl c) =
@@ -77,7 +77,7 @@ module _ (image : List ℕ) (s : List Stretch) (bytes : Bytes image) (at : ℕ) 
   stopped_by Return c = elim c [ ]
   stopped_by Limit c = elim c [ ]
 
-  pub shown_by : Shows → step_at (view image s) at ≡ Shown (row_by image at (at + n) opcode) (at + n) (is_return opcode)
+  pub shown_by : Shows → step_at (view image s) at ≡ Ok (record { row = row_by image at (at + n) opcode; next = at + n; last = is_return opcode })
   shown_by c = step-shown image s at bytes c.0.0.0 (one_apart c.0.0.1) c.0.1 c.1 ((is-apart s at n).1 c.2)
 
   -- one of the cases holds
@@ -108,11 +108,11 @@ module _ (image : List ℕ) (s : List Stretch) (bytes : Bytes image) (at : ℕ) 
       there (no h) = inl (End, inl (omega (arith, h)))
 
   -- EACH REASON EXACTLY IN ITS CASE
-  pub stops-exactly : (why : Why) → (step_at (view image s) at ≡ Stopped why) ↔ StopsBy why
+  pub stops-exactly : (why : Why) → (step_at (view image s) at ≡ Err why) ↔ StopsBy why
   unfolding why_in is_shown
   stops-exactly why = (λ e. go e ways, stopped_by why)
     where
-      go : step_at (view image s) at ≡ Stopped why → Ways → StopsBy why
+      go : step_at (view image s) at ≡ Err why → Ways → StopsBy why
       go e (inl q) = subst StopsBy (ap why_in (sym (stopped_by q.0 q.1) ∙ e)) q.1
       go e (inr c) = let z : ◌≡◌ {A = ℕ} 1 0 = ap is_shown (sym (shown_by c) ∙ e) in absurd (omega (arith, z))
 
@@ -122,10 +122,13 @@ unfolding walk
 at_most cells zero at = omega arith
 at_most cells (suc k) at = go (step_at cells at) (at_most cells k)
   where
-    go : (t : Step) → ((next : ℕ) → length (walk cells k next).rows ≤ k) → length (after (walk cells k) t).rows ≤ suc k
-    go (Stopped why) rest = omega arith
-    go (Shown row next true) rest = omega arith
-    go (Shown row next false) rest = omega (arith, rest next)
+    on : (s : Shown) (last : Bool) → length (walk cells k s.next).rows ≤ k → length (if last then stops (one s.row) Return else before s.row (walk cells k s.next)).rows ≤ suc k
+    on s true rest = omega arith
+    on s false rest = omega (arith, rest)
+
+    go : (t : Result Shown Why) → ((next : ℕ) → length (walk cells k next).rows ≤ k) → length (after (walk cells k) t).rows ≤ suc k
+    go (Err why) rest = omega arith
+    go (Ok s) rest = on s s.last (rest s.next)
 
 pub at-most-256 : (cells : List ℕ) (start : ℕ) → length (walked cells start).rows ≤ 256
 at-most-256 cells start = at_most cells 256 start

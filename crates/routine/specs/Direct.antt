@@ -4,8 +4,9 @@ use Rattle.std.specs.Prelude.{ℕ, ◌+◌, ◌-◌, ◌*◌, ◌/◌, ◌%◌, 
 use Rattle.image.specs.View.{cell_at}
 use Rattle.opcodes.specs.declared.Leads.{Leads}
 use Rattle.opcodes.specs.declared.Leads.TheVariants.{Nowhere, PageJump, PageCall, LongJump, LongCall, ShortJump, LaterJump}
-use Rattle.opcodes.specs.Leads.{leads_of, what_of}
+use Rattle.opcodes.specs.Leads.{leads_of}
 use Rattle.routine.specs.declared.Row.{Row}
+use Rattle.routine.specs.Step.{what_of}
 
 abbrev pub short_to : ℕ → ℕ → ℕ
 short_to next b = (next % 65536 + (if ltb b 128 then b else b + 65280)) % 65536
@@ -28,4 +29,4 @@ target_by image next opcode LaterJump = short_to next (cell_at image (next - 1))
 abbrev pub row_by : List ℕ → ℕ → ℕ → ℕ → Row
 row_by image at next opcode =
     let l = leads_of opcode in
-    record { address = at; what = what_of l; target = target_by image next opcode l }
+    record { address = at; what = what_of l (target_by image next opcode l) }

@@ -1,5 +1,5 @@
 -- What stands at a place of the view: an instruction that is shown, or a reason to stop before it.
-use Rattle.std.specs.Prelude.{ℕ, ◌+◌, not, List, eqb, leb, length, if◌then◌else◌}
+use Rattle.std.specs.Prelude.{ℕ, ◌+◌, not, List, Result, Ok, Err, eqb, leb, length, if◌then◌else◌}
 use Rattle.image.specs.View.{cell_at}
 use Rattle.image.specs.declared.fixup.Kind.{Kind}
 use Rattle.image.specs.declared.fixup.Kind.TheVariants.{Relative, Word, Inblock}
@@ -10,11 +10,12 @@ use Rattle.image.specs.fixup.Target.{passes, shown, target}
 use Rattle.opcodes.specs.declared.Leads.{Leads}
 use Rattle.opcodes.specs.declared.Leads.TheVariants.{Nowhere, PageJump, PageCall, LongJump, LongCall, ShortJump, LaterJump}
 use Rattle.opcodes.specs.Lengths.{length_of, is_return}
-use Rattle.opcodes.specs.Leads.{leads_of, what_of, place_of}
+use Rattle.opcodes.specs.Leads.{leads_of, place_of}
 use Rattle.routine.specs.declared.Row.{Row}
-use Rattle.routine.specs.declared.Why.TheVariants as Why
-use Rattle.routine.specs.declared.step.Step.{Step}
-use Rattle.routine.specs.declared.step.Step.TheVariants.{Shown, Stopped}
+use Rattle.routine.specs.declared.What.{What}
+use Rattle.routine.specs.declared.What.TheVariants.{Neither, Call, Jump}
+use Rattle.routine.specs.declared.Why.{Why}
+use Rattle.routine.specs.declared.step.Shown.{Shown}
 
 -- the address of a target; 0 where there is none
 abbrev pub told_by : Target → ℕ
@@ -36,21 +37,31 @@ target_of cells at LongCall = reference cells at LongCall Word
 target_of cells at ShortJump = reference cells at ShortJump Relative
 target_of cells at LaterJump = reference cells at LaterJump Relative
 
+-- what an instruction is: a call, a jump, or neither; the first two with their target
+abbrev pub what_of : Leads → ℕ → What
+what_of Nowhere target = Neither
+what_of PageJump target = Jump target
+what_of PageCall target = Call target
+what_of LongJump target = Jump target
+what_of LongCall target = Call target
+what_of ShortJump target = Jump target
+what_of LaterJump target = Jump target
+
 -- the row of the instruction at a place
 abbrev pub row_at : List ℕ → ℕ → Row
 row_at cells at =
     let l = leads_of (cell_at cells at) in
-    record { address = at; what = what_of l; target = target_of cells at l }
+    record { address = at; what = what_of l (target_of cells at l) }
 
 -- what stands at a place: past the end, nothing; a withheld opcode; A5h, which the manual reserves; an instruction that
 -- passes the end, whatever of it is withheld; one that has withheld bytes; else one that is shown, with the place behind it
-unfoldable pub step_at : List ℕ → ℕ → Step
+unfoldable pub step_at : List ℕ → ℕ → Result Shown Why
 step_at cells at =
     let opcode = cell_at cells at in
     let n = length_of opcode in
-    if leb (length cells) at then Stopped Why.End
-    else if not (shown cells at 1) then Stopped Why.Withheld
-    else if eqb opcode 0xA5 then Stopped Why.Reserved
-    else if passes cells at n then Stopped Why.End
-    else if not (shown cells at n) then Stopped Why.Withheld
-    else Shown (row_at cells at) (at + n) (is_return opcode)
+    if leb (length cells) at then Err Why.End
+    else if not (shown cells at 1) then Err Why.Withheld
+    else if eqb opcode 0xA5 then Err Why.Reserved
+    else if passes cells at n then Err Why.End
+    else if not (shown cells at n) then Err Why.Withheld
+    else Ok (record { row = row_at cells at; next = at + n; last = is_return opcode })

@@ -1,11 +1,10 @@
 -- The walk over the view: the instructions one after another, in their order in memory.
-use Rattle.std.specs.Prelude.{ℕ, zero, suc, true, false, List, [], ◌∷◌}
+use Rattle.std.specs.Prelude.{ℕ, zero, suc, List, [], ◌∷◌, Result, Ok, Err, if◌then◌else◌}
 use Rattle.lent.specs.Lists.{one}
 use Rattle.routine.specs.declared.Row.{Row}
 use Rattle.routine.specs.declared.Why.{Why}
 use Rattle.routine.specs.declared.Why.TheVariants.{Return, Limit}
-use Rattle.routine.specs.declared.step.Step.{Step}
-use Rattle.routine.specs.declared.step.Step.TheVariants.{Shown, Stopped}
+use Rattle.routine.specs.declared.step.Shown.{Shown}
 use Rattle.routine.specs.Step.{step_at}
 
 -- the instructions that are shown, and why no more are
@@ -21,10 +20,9 @@ abbrev pub before : Row → Steps → Steps
 before row w = stops (row ∷ w.rows) w.why
 
 -- what a step leads to, where `rest` says what the walk from the next place on is: it ends behind a return
-abbrev pub after : (ℕ → Steps) → Step → Steps
-after rest (Stopped why) = stops [] why
-after rest (Shown row next true) = stops (one row) Return
-after rest (Shown row next false) = before row (rest next)
+abbrev pub after : (ℕ → Steps) → Result Shown Why → Steps
+after rest (Err why) = stops [] why
+after rest (Ok s) = if s.last then stops (one s.row) Return else before s.row (rest s.next)
 
 -- the walk from a place on, of at most n instructions; behind the last of them nothing is looked at
 unfoldable pub walk : List ℕ → ℕ → ℕ → Steps

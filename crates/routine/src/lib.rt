@@ -3,73 +3,93 @@
 #![tactic(auto)]
 
 ghost use Rattle.std.specs.Prelude.{◌≡◌};
-ghost use Rattle.routine.specs.Outcome.{walk_number, why_number};
+ghost use Rattle.routine.specs.Outcome.{walk_number, why_number, what_number, target_in};
 
 pub mod step;
 pub mod walk;
 
-// Why there is no walk; specs/Outcome.antt gives each refusal its number.
-#[derive(Clone, Copy)]
+// Why there is no walk, with the number that the caller gets for it.
+#[derive(Clone, Copy, Debug, PartialEq, Eq)]
 pub enum WalkRefusal {
-    ImageTooLong,
-    TooManyStretches,
-    StretchPastEnd,
-    StartPastEnd,
-    NoRoom,
+    ImageTooLong = 2,
+    TooManyStretches = 16,
+    StretchPastEnd = 4,
+    StartPastEnd = 19,
+    NoRoom = 9,
 }
 
-// Why a walk stopped: behind a return; behind 256 instructions; or before an instruction, which is the reserved A5h, or
-// passes the image's end, or touches withheld bytes.
-#[derive(Clone, Copy)]
+// Why a walk stopped, with its number for the caller: behind a return; behind 256 instructions; or
+// before an instruction, which is the reserved A5h, or passes the image's end, or touches withheld
+// bytes.
+#[derive(Clone, Copy, Debug, PartialEq, Eq)]
 pub enum Why {
-    Return,
-    Limit,
-    Reserved,
-    End,
-    Withheld,
+    Return = 0,
+    Limit = 1,
+    Reserved = 2,
+    End = 3,
+    Withheld = 4,
 }
 
-// An instruction that is shown: where it starts, whether it is a call (1), a jump (2) or neither (0), and to which address
-// a call or a jump leads; else 0.
-#[derive(Clone, Copy)]
+// What an instruction is: a call or a jump, each with the address to which it leads, or neither.
+#[derive(Clone, Copy, Debug, PartialEq, Eq)]
+pub enum What {
+    Neither,
+    Call(u64),
+    Jump(u64),
+}
+
+impl What {
+    // The number in a row: 1 for a call, 2 for a jump, 0 for neither.
+    fn number(self) -> u64
+        ensures { result ≡ what_number self }
+    {
+        match self {
+            What::Neither => 0,
+            What::Call(_) => 1,
+            What::Jump(_) => 2,
+        }
+    }
+
+    // The address in a row: where a call or a jump leads, else 0.
+    fn target(self) -> u64
+        ensures { result ≡ target_in self }
+    {
+        match self {
+            What::Neither => 0,
+            What::Call(target) | What::Jump(target) => target,
+        }
+    }
+}
+
+// An instruction that is shown: where it starts, and what it is.
+#[derive(Clone, Copy, Debug, PartialEq, Eq)]
 pub struct Row {
     pub address: u64,
-    pub what: u64,
-    pub target: u64,
+    pub what: What,
 }
 
-// How many instructions are shown at the front of the lent rows, and why no more are; or why there are none.
-#[derive(Clone, Copy)]
-pub enum Walked {
-    Done { steps: usize, why: Why },
-    Refused(WalkRefusal),
+// How many instructions are shown at the front of the lent rows, and why no more are.
+#[derive(Clone, Copy, Debug, PartialEq, Eq)]
+pub struct Walked {
+    pub steps: usize,
+    pub why: Why,
 }
 
 // A row takes so many numbers.
 pub const ROW_WIDTH: usize = 3;
 
-// The number that the caller gets for a refusal.
-pub fn number(r: WalkRefusal) -> u8
-    ensures { result ≡ walk_number r }
-{
-    match r {
-        WalkRefusal::ImageTooLong => 2,
-        WalkRefusal::TooManyStretches => 16,
-        WalkRefusal::StretchPastEnd => 4,
-        WalkRefusal::StartPastEnd => 19,
-        WalkRefusal::NoRoom => 9,
+impl From<WalkRefusal> for u8 {
+    ghost from_gives = { λ r n. n ≡ walk_number r };
+
+    fn from(r: WalkRefusal) -> u8 {
+        r as u8
     }
 }
 
-// The number that the caller gets for the reason to stop.
-pub fn why_number(why: Why) -> u64
-    ensures { result ≡ why_number why }
-{
-    match why {
-        Why::Return => 0,
-        Why::Limit => 1,
-        Why::Reserved => 2,
-        Why::End => 3,
-        Why::Withheld => 4,
+impl From<Why> for u64 {
+    ghost from_gives = { λ why n. n ≡ why_number why };
+
+    fn from(why: Why) -> u64 {
+        why as u64
     }
 }

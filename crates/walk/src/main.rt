@@ -8,10 +8,10 @@ mod print;
 mod show;
 mod usage;
 
-use crate::address::{Address, read_address};
+use crate::address::read_address;
 use crate::show::walk;
 use crate::usage::{only_withholds, say_wrong};
-use command::arguments::{Requested, read_request};
+use command::arguments::read_request;
 use command::message::ended;
 use command::mistake::say_usage;
 use std::process::ExitCode;
@@ -22,17 +22,15 @@ fn main(rt: HostRuntime) -> ExitCode {
         return ExitCode::SUCCESS;
     }
     let asked = read_request(&rt);
-    let requested = asked.requested;
-    let withheld = asked.withheld;
-    match requested {
-        Requested::Whole(request) => match read_address(&rt, request.library) {
-            Address::At(start) => ended(&rt, walk(&rt, request.image, start, withheld)),
-            Address::Wrong(mistake) => {
+    match asked.requested {
+        Ok(request) => match read_address(&rt, request.library) {
+            Ok(start) => ended(&rt, walk(&rt, request.image, start, asked.withheld)),
+            Err(mistake) => {
                 say_usage(&rt, mistake);
                 ExitCode::SUCCESS
             }
         },
-        Requested::Wrong(mistake) => {
+        Err(mistake) => {
             say_wrong(&rt, mistake);
             ExitCode::SUCCESS
         }

@@ -1,35 +1,28 @@
 // The walk itself: the file is read, the routine walked, and its rows are printed, or a refusal is said.
 use crate::print::print;
 use command::file;
-use command::file::{Loaded, bytes_of, load};
+use command::file::load;
 use command::message::{say, say_number};
 use image::cover::Stretches;
-use routine::walk::walk_routine;
-use routine::{WalkRefusal, Walked, number};
+use routine::walk::{MOST_STEPS, walk_routine};
+use routine::{ROW_WIDTH, WalkRefusal};
 use std::env::Env;
 use std::fs::Files;
 use std::io;
 use system::standard_error::StandardError;
 
-// Enough for every walk.
-fn rows() -> [u64; 768] {
-    [0u64; 768]
-}
-
 fn say_refused(rt: &impl StandardError, r: WalkRefusal) {
     say(rt, b"refused (");
-    say_number(rt, number(r) as u64);
+    say_number(rt, u64::from(u8::from(r)));
     say(rt, b"): ");
-    match r {
-        WalkRefusal::ImageTooLong => say(rt, b"image too long (more than 65536 bytes)\n"),
-        WalkRefusal::TooManyStretches => say(rt, b"more than 16 stretches are withheld\n"),
-        WalkRefusal::StretchPastEnd => say(
-            rt,
-            b"a stretch that is withheld passes the image's end\n",
-        ),
-        WalkRefusal::StartPastEnd => say(rt, b"the address is at or past the image's end\n"),
-        WalkRefusal::NoRoom => say(rt, b"there are too few rows\n"),
-    }
+    let words = match r {
+        WalkRefusal::ImageTooLong => "image too long (more than 65536 bytes)\n",
+        WalkRefusal::TooManyStretches => "more than 16 stretches are withheld\n",
+        WalkRefusal::StretchPastEnd => "a stretch that is withheld passes the image's end\n",
+        WalkRefusal::StartPastEnd => "the address is at or past the image's end\n",
+        WalkRefusal::NoRoom => "there are too few rows\n",
+    };
+    say(rt, words.as_bytes());
 }
 
 fn walk_in(
@@ -40,8 +33,8 @@ fn walk_in(
     rows: &mut [u64],
 ) -> io::Result<()> {
     match walk_routine(image, withheld, start, rows) {
-        Walked::Done { steps, why } => print(rt, image, rows, steps, why),
-        Walked::Refused(r) => {
+        Ok(walked) => print(rt, image, rows, walked.steps, walked.why),
+        Err(r) => {
             say_refused(rt, r);
             Ok(())
         }
@@ -55,9 +48,9 @@ pub fn walk<R: Env + Files + Print + StandardError>(
     withheld: Stretches,
 ) -> io::Result<()> {
     let mut room = file::room();
-    let Loaded::Size(n) = load(rt, image, &mut room) else {
+    let Some(image) = load(rt, image, &mut room) else {
         return Ok(());
     };
-    let mut rows = rows();
-    walk_in(rt, bytes_of(&room, n), withheld, start, &mut rows)
+    let mut rows = [0u64; MOST_STEPS * ROW_WIDTH];
+    walk_in(rt, image, withheld, start, &mut rows)
 }

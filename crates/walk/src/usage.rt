@@ -20,11 +20,8 @@ fn word_of(rt: &impl Env, i: usize) -> Word {
     let mut room = words::room();
     let n = words::read_word(rt, i, &mut room);
     match kind_of(&room[..n]) {
-        Kind::NoCheck => Word::Other,
-        Kind::Valued(option) => match option {
-            Valued::Withhold => Word::Withhold,
-            _ => Word::Other,
-        },
+        Kind::Valued(Valued::Withhold) => Word::Withhold,
+        Kind::NoCheck | Kind::Valued(_) => Word::Other,
         _ => Word::Plain,
     }
 }
@@ -33,35 +30,30 @@ fn word_of(rt: &impl Env, i: usize) -> Word {
 pub fn only_withholds(rt: &(impl Env + StandardError)) -> bool {
     let count = arguments::count(rt);
     let mut is_value = false;
-    let mut i = 1;
-    while i < count {
+    for i in 1..count {
         if is_value {
             is_value = false;
-        } else {
-            match word_of(rt, i) {
-                Word::Withhold => {
-                    is_value = true;
-                }
-                Word::Other => {
-                    about(
-                        rt,
-                        b"usage: there is no option ",
-                        i,
-                        b" (--help tells all)\n",
-                    );
-                    return false;
-                }
-                Word::Plain => {}
-            }
+            continue;
         }
-        i += 1;
+        match word_of(rt, i) {
+            Word::Withhold => is_value = true,
+            Word::Other => {
+                about(
+                    rt,
+                    b"usage: there is no option ",
+                    i,
+                    b" (--help tells all)\n",
+                );
+                return false;
+            }
+            Word::Plain => {}
+        }
     }
     true
 }
 
 pub fn say_wrong(rt: &(impl Env + StandardError), m: Mistake) {
-    let fault = m.fault;
-    match fault {
+    match m.fault {
         Fault::ThirdFile => about(
             rt,
             b"usage: only an image and an address are taken, and there is also ",
