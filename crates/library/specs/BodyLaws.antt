@@ -4,8 +4,8 @@ use Rattle.std.proofs.Common.{subst, leb-true}
 use native.Mathlib.Omega.{arith}
 use Rattle.lent.specs.ChoiceLaws.{chosen}
 use Rattle.omf51.specs.declared.Frame.{Frame}
-use Rattle.omf51.specs.declared.End.{End}
-use Rattle.omf51.specs.declared.End.TheVariants.{At, Stop}
+use Rattle.omf51.specs.Ends.{End}
+use Rattle.std.specs.Prelude.{Some, None, Ok}
 use Rattle.omf51.specs.declared.entry.Entries.{Entries}
 use Rattle.omf51.specs.declared.entry.Entries.TheVariants.{Definitions, Fixups}
 use Rattle.omf51.specs.Reader.{ReadOutcome, read, stop, and_then, give}
@@ -32,10 +32,10 @@ unfolding fixup_at
 fixup-gave library f at = ending-is Gave f _ _ (λ l. tt) tt
 
 -- no entry stands at a body's end or behind it
-pub entry-none : (what : Entries) (library : List ℕ) (f : Frame) (at : ℕ) → f.end ≤ at → entry_end what library f at ≡ Stop
+pub entry-none : (what : Entries) (library : List ℕ) (f : Frame) (at : ℕ) → f.end ≤ at → entry_end what library f at ≡ Ok None
 unfolding definition_at fixup_at
-entry-none Definitions library f at h = ending-shows (λ o. end_of o ≡ Stop) f _ _ _ (λ l. absurd (omega (arith, l, h))) refl
-entry-none Fixups library f at h = ending-is (λ o. end_of o ≡ Stop) f _ _ (λ l. absurd (omega (arith, l, h))) refl
+entry-none Definitions library f at h = ending-shows (λ o. end_of o ≡ Ok None) f _ _ _ (λ l. absurd (omega (arith, l, h))) refl
+entry-none Fixups library f at h = ending-is (λ o. end_of o ≡ Ok None) f _ _ (λ l. absurd (omega (arith, l, h))) refl
 
 -- of a body within the library
 module _ (library : List ℕ) (f : Frame) (h : f.end ≤ length library) where
@@ -52,7 +52,7 @@ module _ (library : List ℕ) (f : Frame) (h : f.end ≤ length library) where
   rest-turn Definitions at q = end-turn library (definition_at library f) definition-moves at q
   rest-turn Fixups at q = end-turn library (fixup_at library f) fixup-moves at q
 
-  pub rest-used : (what : Entries) (at : ℕ) → f.end ≤ at → rest_end what library f at ≡ At at
+  pub rest-used : (what : Entries) (at : ℕ) → f.end ≤ at → rest_end what library f at ≡ Ok (Some at)
   rest-used what at l = rest-turn what at (entry-none what library f at l)
 
   pub entry-moved : (what : Entries) (at : ℕ) {x : End} → entry_end what library f at ≡ x → MovedEnd library at x

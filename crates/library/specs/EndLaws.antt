@@ -2,13 +2,13 @@
 use Prim.Native.Nat.{ℕ, zero, suc, ◌≤◌, ◌<◌}
 use Rattle.std.specs.Prelude.{◌≡◌, length, if◌then◌else◌}
 use Rattle.std.proofs.Math.Path.{refl}
-use Rattle.std.proofs.Common.{sym, ap, subst, ◌∙◌}
+use Rattle.std.proofs.Common.{sym, ap, subst, ◌∙◌, arith}
 use mathlib.Core.List.{List, [], ◌∷◌, ◌++◌}
 use Rattle.lent.specs.declared.refusal.Refusal.TheVariants.{LeftOver}
 use Rattle.omf51.specs.declared.Edition.{Edition}
 use Rattle.omf51.specs.declared.Edition.TheVariants.{One}
-use Rattle.omf51.specs.declared.End.{End}
-use Rattle.omf51.specs.declared.End.TheVariants.{At, Stop, Refused}
+use Rattle.omf51.specs.Ends.{End}
+use Rattle.std.specs.Prelude.{Option, Some, None, Ok, Err, true, false, is_some}
 use Rattle.omf51.specs.Reader.{ReadOutcome, read, stop, refused, Reader, and_then, after, repeat, many, not_empty, at_least_one}
 use Rattle.omf51.specs.Record.{leaves_over}
 use Rattle.omf51.specs.Ends.{end_of}
@@ -17,14 +17,14 @@ use Rattle.library.specs.RepeatLaws.{Moved, Moves, onto, many-turn, items-turn}
 
 -- what follows an end in a repetition; and one reading after another
 abbrev pub after_end : (ℕ → End) → ℕ → End → End
-after_end rest at (At next) = rest next
-after_end rest at Stop = At at
-after_end rest at (Refused r) = Refused r
+after_end rest at (Ok (Some next)) = rest next
+after_end rest at (Ok None) = Ok (Some at)
+after_end rest at (Err r) = Err r
 
 abbrev pub then_end : (ℕ → End) → End → End
-then_end rest (At next) = rest next
-then_end rest Stop = Stop
-then_end rest (Refused r) = Refused r
+then_end rest (Ok (Some next)) = rest next
+then_end rest (Ok None) = Ok None
+then_end rest (Err r) = Err r
 
 pub then-end : {A B : Type 0} (o : ReadOutcome A) (f : A → Reader B) (rest : ℕ → End) → ((a : A) (next : ℕ) → end_of (f a next) ≡ rest next)
     → end_of (and_then o f) ≡ then_end rest (end_of o)
@@ -34,14 +34,14 @@ then-end (refused r) f rest h = refl
 
 -- `Moved`, said of an end; and an end that is no place
 abbrev pub MovedEnd : List ℕ → ℕ → End → Type 0
-MovedEnd library at (At next) = (at < next) × (next ≤ length library)
-MovedEnd library at Stop = Unit
-MovedEnd library at (Refused r) = Unit
+MovedEnd library at (Ok (Some next)) = (at < next) × (next ≤ length library)
+MovedEnd library at (Ok None) = Unit
+MovedEnd library at (Err r) = Unit
 
 abbrev pub Halts : End → Type 0
-Halts (At next) = ⊥
-Halts Stop = Unit
-Halts (Refused r) = Unit
+Halts (Ok (Some next)) = ⊥
+Halts (Ok None) = Unit
+Halts (Err r) = Unit
 
 pub moved-end : {A : Type 0} (library : List ℕ) (at : ℕ) (o : ReadOutcome A) → Moved library at o → MovedEnd library at (end_of o)
 moved-end library at (read a next) m = m
@@ -83,20 +83,28 @@ Gave (refused r) = ⊥
 
 -- a record of edition 1 ends at its own end, whatever its body's reader leaves of it
 abbrev pub own_end : ℕ → End → End
-own_end next (At left) = At next
-own_end next Stop = Stop
-own_end next (Refused r) = Refused r
+own_end next (Ok (Some left)) = Ok (Some next)
+own_end next (Ok None) = Ok None
+own_end next (Err r) = Err r
+
+pub own-none : (next : ℕ) (o : Option ℕ) → is_some o ≡ false → own_end next (Ok o) ≡ Ok None
+own-none next (Some left) h = let z : ◌≡◌ {A = ℕ} 0 1 = cc in absurd (omega arith)
+own-none next None h = refl
+
+pub own-some : (next : ℕ) (o : Option ℕ) → is_some o ≡ true → own_end next (Ok o) ≡ Ok (Some next)
+own-some next (Some left) h = refl
+own-some next None h = let z : ◌≡◌ {A = ℕ} 0 1 = cc in absurd (omega arith)
 
 -- a record ends at its own end `next` if its body, which goes up to `end`, is used up; in edition 1 it always is
 abbrev pub used_end : Edition → ℕ → ℕ → End → End
-used_end e end next (At left) = if leaves_over e left end then Refused LeftOver else At next
-used_end e end next Stop = Stop
-used_end e end next (Refused r) = Refused r
+used_end e end next (Ok (Some left)) = if leaves_over e left end then Err LeftOver else Ok (Some next)
+used_end e end next (Ok None) = Ok None
+used_end e end next (Err r) = Err r
 
 pub used-own : (end next : ℕ) (e : End) → used_end One end next e ≡ own_end next e
-used-own end next (At left) = refl
-used-own end next Stop = refl
-used-own end next (Refused r) = refl
+used-own end next (Ok (Some left)) = refl
+used-own end next (Ok None) = refl
+used-own end next (Err r) = refl
 
 module _ {A : Type 0} (library : List ℕ) (each : Reader (List A)) (gives : (at : ℕ) → Gave (each at)) where
   abbrev Filled : ReadOutcome (List A) → Type 0
@@ -120,7 +128,7 @@ module _ {A : Type 0} (library : List ℕ) (each : Reader (List A)) (gives : (at
   unfolding repeat
   least-end at end next = go (each at) (gives at)
     where
-      full : (o : ReadOutcome (List A)) → Filled o → used_end One end next (end_of (and_then o not_empty)) ≡ At next
+      full : (o : ReadOutcome (List A)) → Filled o → used_end One end next (end_of (and_then o not_empty)) ≡ Ok (Some next)
       full (read [] k) f = absurd f
       full (read (x ∷ xs) k) f = refl
       full stop f = absurd f

@@ -5,8 +5,8 @@ use Rattle.lent.specs.declared.part.Part.{Part}
 use Rattle.lent.specs.declared.refusal.Refusal.TheVariants.{NamesDiffer}
 use Rattle.lent.specs.Parts.{same_name}
 use Rattle.omf51.specs.declared.Edition.{Edition}
-use Rattle.omf51.specs.declared.End.{End}
-use Rattle.omf51.specs.declared.End.TheVariants.{At, Stop, Refused}
+use Rattle.omf51.specs.Ends.{End}
+use Rattle.std.specs.Prelude.{Some, None, Ok, Err}
 use Rattle.omf51.specs.declared.entry.Entries.TheVariants.{Definitions}
 use Rattle.omf51.specs.Reader.{ReadOutcome, read, stop, refused, and_then, many}
 use Rattle.omf51.specs.Module.{definitions_by, sections_by}
@@ -30,9 +30,9 @@ module _ (e : Edition) (library : List ℕ) (name : Part) (definitions contents 
 
 -- a reader that goes on from where another ended
 abbrev on_end : {B : Type 0} → (ℕ → ReadOutcome B) → End → ReadOutcome B
-on_end f (At k) = f k
-on_end f Stop = stop
-on_end f (Refused r) = refused r
+on_end f (Ok (Some k)) = f k
+on_end f (Ok None) = stop
+on_end f (Err r) = refused r
 
 then-from : {A B : Type 0} (o : ReadOutcome A) (f : ℕ → ReadOutcome B) {e : End} → end_of o ≡ e → and_then o (λ _ k. f k) ≡ on_end f e
 then-from {A} {B} o f e = go o ∙ ap (on_end f) e
@@ -50,7 +50,7 @@ module _ (e : Edition) (library : List ℕ) (name : Part) (definitions : ℕ) wh
   unfolding rest_places
   rest-known q = then-from (many library (definitions_by e library) definitions) _ q
 
-  pub contents-known : {contents : ℕ} {x : End} → all_end_by e Definitions library definitions ≡ At contents → sections_end_by e library contents ≡ x
+  pub contents-known : {contents : ℕ} {x : End} → all_end_by e Definitions library definitions ≡ Ok (Some contents) → sections_end_by e library contents ≡ x
       → rest_places e library name definitions ≡ on_end (last_places e library name definitions contents) x
   contents-known {contents} d q = rest-known d ∙ then-from (many library (sections_by e library) contents) _ q
 

@@ -1,4 +1,5 @@
 -- What reading says, by its number and its count of modules, from the contract of `read` alone. Assumes nothing.
+use Rattle.std.specs.Prelude.{Result}
 use Rattle.std.specs.Prelude.{ℕ, ◌≡◌, refl, ◌↔◌, List, length}
 use Rattle.std.proofs.Common.{sym, ◌∙◌}
 use Rattle.std.proofs.Math.Path.{ap}
@@ -25,7 +26,7 @@ count_of first (read modules next) = refl
 count_of first stop = refl
 count_of first (refused r) = refl
 
-module _ (e : Edition) (library : List ℕ) (r : Reading) (c : r ≡ reading e library) where
+module _ (e : Edition) (library : List ℕ) (r : Result Reading Refusal) (c : r ≡ reading e library) where
   numbered : reading_number r ≡ stage_number (file_refusal (file_by e library))
   unfolding reading
   numbered = ap reading_number c ∙ number_of (first_at library) (file_by e library)

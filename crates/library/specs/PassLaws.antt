@@ -8,8 +8,8 @@ use Rattle.lent.specs.ChoiceLaws.{chosen}
 use Rattle.omf51.specs.declared.Edition.{Edition}
 use Rattle.omf51.specs.declared.Edition.TheVariants.{One, Two}
 use Rattle.omf51.specs.declared.Frame.{Frame}
-use Rattle.omf51.specs.declared.End.{End}
-use Rattle.omf51.specs.declared.End.TheVariants.{At, Stop, Refused}
+use Rattle.omf51.specs.Ends.{End}
+use Rattle.std.specs.Prelude.{Some, None, Ok, Err}
 use Rattle.omf51.specs.declared.entry.Entries.{Entries}
 use Rattle.omf51.specs.declared.entry.Entries.TheVariants.{Definitions, Fixups}
 use Rattle.omf51.specs.Reader.{ReadOutcome, read, stop, refused, Reader, and_then, at_least_one}
@@ -61,9 +61,9 @@ whole-end a e library allowed at {o} q = ap end_of (record-framed e library allo
 
 -- a record of entries whose frame is known: its body decides
 abbrev framed_end : Edition → (ℕ → Bool) → (Frame → End) → ReadOutcome Frame → End
-framed_end e has body (read f next) = if has f.kind then used_end e f.end next (body f) else At next
-framed_end e has body stop = Stop
-framed_end e has body (refused r) = Refused r
+framed_end e has body (read f next) = if has f.kind then used_end e f.end next (body f) else Ok (Some next)
+framed_end e has body stop = Ok None
+framed_end e has body (refused r) = Err r
 
 entries-end : {A : Type 0} (e : Edition) (library : List ℕ) (allowed has : ℕ → Bool) (each : Frame → Reader (List A)) (ends : Frame → End)
     → ((f : Frame) (next : ℕ) → used_end e f.end next (end_of (at_least_one library (each f) f.body)) ≡ used_end e f.end next (ends f))
@@ -71,7 +71,7 @@ entries-end : {A : Type 0} (e : Edition) (library : List ℕ) (allowed has : ℕ
     → end_of (record_by e library allowed (λ f. if has f.kind then at_least_one library (each f) else whole [] f) at) ≡ framed_end e has ends o
 entries-end {A} e library allowed has each ends same at {o} q = ap end_of (record-framed e library allowed _ at q) ∙ go o
   where
-    either : (t : Bool) (left end next : ℕ) (a : List A) → end_of (if t then refused LeftOver else read a next) ≡ (if t then Refused LeftOver else At next)
+    either : (t : Bool) (left end next : ℕ) (a : List A) → end_of (if t then refused LeftOver else read a next) ≡ (if t then Err LeftOver else Ok (Some next))
     either true left end next a = refl
     either false left end next a = refl
 
@@ -82,7 +82,7 @@ entries-end {A} e library allowed has each ends same at {o} q = ap end_of (recor
 
     body : (f : Frame) (next : ℕ) (t : Bool)
         → end_of (and_then ((if t then at_least_one library (each f) else whole [] f) f.body) λ a left. used_up e f.end a left next)
-        ≡ (if t then used_end e f.end next (ends f) else At next)
+        ≡ (if t then used_end e f.end next (ends f) else Ok (Some next))
     body f next true = closed f.end next (at_least_one library (each f) f.body) ∙ same f next
     body f next false = ap end_of (used_all e f.end _ f.end next (omega arith))
 
@@ -105,17 +105,17 @@ record-end Two Fixups library at q = entries-end Two library _ (holds Fixups) (f
 
 -- the cases that the code tells apart
 module _ (e : Edition) (what : Entries) (library : List ℕ) (at : ℕ) where
-  pub record-halts : expected_by e library (allows (allowed_for what)) at ≡ stop → record_end_by e what library at ≡ Stop
+  pub record-halts : expected_by e library (allows (allowed_for what)) at ≡ stop → record_end_by e what library at ≡ Ok None
   record-halts q = record-end e what library at q
 
-  pub record-refuses : {r : Refusal} → expected_by e library (allows (allowed_for what)) at ≡ refused r → record_end_by e what library at ≡ Refused r
+  pub record-refuses : {r : Refusal} → expected_by e library (allows (allowed_for what)) at ≡ refused r → record_end_by e what library at ≡ Err r
   record-refuses q = record-end e what library at q
 
   module _ {f : Frame} {next : ℕ} (q : expected_by e library (allows (allowed_for what)) at ≡ read f next) where
     pub record-holds : holds what f.kind ≡ true → record_end_by e what library at ≡ used_end e f.end next (body_end e what library f)
     record-holds h = record-end e what library at q ∙ rw h
 
-    pub record-skipped : holds what f.kind ≡ false → record_end_by e what library at ≡ At next
+    pub record-skipped : holds what f.kind ≡ false → record_end_by e what library at ≡ Ok (Some next)
     record-skipped h = record-end e what library at q ∙ rw h
 
 -- the turn of all such records

@@ -1,11 +1,13 @@
 -- Where the records of entries, the contents with their fixups, and repetitions of them end; and where a module's parts stand.
+use Rattle.std.specs.Prelude.{Option, Some, None, Result, Ok, Err}
 use Rattle.std.specs.Prelude.{ℕ, Bool, true, List, if◌then◌else◌}
 use Rattle.lent.specs.declared.part.Part.{Part}
+use Rattle.lent.specs.declared.refusal.Refusal.{Refusal}
 use Rattle.lent.specs.declared.refusal.Refusal.TheVariants.{NamesDiffer}
 use Rattle.lent.specs.Parts.{same_name}
 use Rattle.omf51.specs.declared.Edition.{Edition}
 use Rattle.omf51.specs.declared.Edition.TheVariants.{One, Two}
-use Rattle.omf51.specs.declared.End.{End}
+use Rattle.omf51.specs.Ends.{End}
 use Rattle.omf51.specs.declared.Frame.{Frame}
 use Rattle.omf51.specs.declared.types.Allowed.{Allowed}
 use Rattle.omf51.specs.declared.entry.Entries.{Entries}
@@ -17,8 +19,6 @@ use Rattle.omf51.specs.Module.{defines, definitions_by, fixups_by, sections_by}
 use Rattle.omf51.specs.Expected.{one_type}
 use Rattle.omf51.specs.Ends.{end_of, entry_end, entries_end}
 use Rattle.library.specs.declared.Places.{Places}
-use Rattle.library.specs.declared.ModuleAt.{ModuleAt}
-use Rattle.library.specs.declared.ModuleAt.TheVariants.{Whole, Stop, Refused}
 
 -- what may stand among such records, and whether one of a type holds entries or is skipped
 abbrev pub allowed_for : Entries → Allowed
@@ -79,7 +79,7 @@ abbrev pub places_at : List ℕ → Reader Places
 places_at = places_by One
 
 -- the code's answer
-abbrev pub places_read : ModuleAt → ReadOutcome Places
-places_read (Whole p) = read p p.next
-places_read Stop = stop
-places_read (Refused r) = refused r
+abbrev pub places_read : Result (Option Places) Refusal → ReadOutcome Places
+places_read (Ok (Some p)) = read p p.next
+places_read (Ok None) = stop
+places_read (Err r) = refused r

@@ -1,5 +1,6 @@
 -- Laws of the file: counting its modules, and its closing records. Assumes nothing.
-use Prim.Native.Nat.{ℕ, zero, suc}
+use Rattle.std.specs.Prelude.{Result}
+use Prim.Native.Nat.{ℕ, suc}
 use Rattle.std.specs.Prelude.{◌≡◌, Bool, true, List, [], ◌∷◌, length, if◌then◌else◌}
 use Rattle.std.proofs.Math.Path.{refl, ap}
 use Rattle.std.proofs.Common.{sym, ◌∙◌, arith}
@@ -11,8 +12,8 @@ use Rattle.lent.specs.declared.refusal.Refusal.TheVariants.{NoModule, LeftOver}
 use Rattle.lent.specs.Parts.{byte_at}
 use Rattle.omf51.specs.declared.Edition.{Edition}
 use Rattle.omf51.specs.declared.Edition.TheVariants.{One, Two}
-use Rattle.omf51.specs.declared.End.{End}
-use Rattle.omf51.specs.declared.End.TheVariants.{At, Stop, Refused}
+use Rattle.omf51.specs.Ends.{End}
+use Rattle.std.specs.Prelude.{Some, None, Ok, Err}
 use Rattle.omf51.specs.declared.Frame.{Frame}
 use Rattle.omf51.specs.Reader.{ReadOutcome, read, stop, refused, and_then, ◌>>=◌, give, many, not_empty}
 use Rattle.omf51.specs.Record.{leaves_over, expected_by, used_up, whole}
@@ -32,30 +33,29 @@ abbrev pub closing_end : Edition → List ℕ → ℕ → End
 closing_end e library at = then_end (λ b. then_end (type_end e library 0x2a) (type_end e library 0x26 b)) (type_end e library 0x28 at)
 
 -- what reading comes to where it ended well: 15 in edition 2 if bytes are left behind that
-abbrev pub used_reading : Edition → List ℕ → ℕ → ℕ → ℕ → Reading
-used_reading e library first count end = if leaves_over e end (length library) then Reading.Refused LeftOver else Reading.Modules first count
+abbrev pub used_reading : Edition → List ℕ → ℕ → ℕ → ℕ → Result Reading Refusal
+used_reading e library first count end = if leaves_over e end (length library) then Err LeftOver else Ok (record { first = first; count = count })
 
 -- what a library comes to, by its modules and its closing records
-abbrev closed_reading : Edition → List ℕ → ℕ → ℕ → End → Reading
-closed_reading e library first count (At end) = used_reading e library first count end
-closed_reading e library first count Stop = Reading.Refused NoModule
-closed_reading e library first count (Refused r) = Reading.Refused r
+abbrev closed_reading : Edition → List ℕ → ℕ → ℕ → End → Result Reading Refusal
+closed_reading e library first count (Ok (Some end)) = used_reading e library first count end
+closed_reading e library first count (Ok None) = Err NoModule
+closed_reading e library first count (Err r) = Err r
 
-abbrev counted_reading : Edition → List ℕ → ℕ → Counted → Reading
-counted_reading e library first (Counted.Modules count next) = closed_reading e library first count (closing_end e library next)
-counted_reading e library first (Counted.Refused r) = Reading.Refused r
+abbrev counted_reading : Edition → List ℕ → ℕ → Result Counted Refusal → Result Reading Refusal
+counted_reading e library first (Ok m) = closed_reading e library first m.count (closing_end e library m.next)
+counted_reading e library first (Err r) = Err r
 
-unfoldable pub library_reading : Edition → List ℕ → ℕ → Reading
+unfoldable pub library_reading : Edition → List ℕ → ℕ → Result Reading Refusal
 library_reading e library first = counted_reading e library first (count_of (modules_by e library first))
 
-abbrev bare_reading : Edition → List ℕ → ℕ → Counted → Reading
-bare_reading e library first (Counted.Modules count next) = used_reading e library first count next
-bare_reading e library first (Counted.Refused r) = Reading.Refused r
+abbrev bare_reading : Edition → List ℕ → ℕ → Result Counted Refusal → Result Reading Refusal
+bare_reading e library first (Ok m) = used_reading e library first m.count m.next
+bare_reading e library first (Err r) = Err r
 
-abbrev least_of : Counted → Counted
-least_of (Counted.Modules zero next) = Counted.Refused NoModule
-least_of (Counted.Modules (suc n) next) = Counted.Modules (suc n) next
-least_of (Counted.Refused r) = Counted.Refused r
+abbrev least_of : Result Counted Refusal → Result Counted Refusal
+least_of (Ok m) = if eqb m.count 0 then Err NoModule else Ok m
+least_of (Err r) = Err r
 
 -- a record of one type, by its frame
 pub type-known : (e : Edition) (library : List ℕ) (type at : ℕ) {o : ReadOutcome Frame} → expected_by e library (one_type type) at ≡ o → type_end e library type at ≡ end_of o
@@ -63,44 +63,40 @@ type-known e library type at q = whole-end tt e library (one_type type) at q
 
 -- at least one module: none in a row is refusal 5
 module _ (e : Edition) (library : List ℕ) (at : ℕ) where
-  least-count : {c : Counted} → count_of (many library (module_by e library) at) ≡ c → count_of (modules_by e library at) ≡ least_of c
+  least-count : {c : Result Counted Refusal} → count_of (many library (module_by e library) at) ≡ c → count_of (modules_by e library at) ≡ least_of c
   least-count q = go (many library (module_by e library) at) ∙ ap least_of q
     where
       go : (o : ReadOutcome (List Module)) → count_of (and_then o not_empty) ≡ least_of (count_of o)
       go (read [] next) = refl
-      go (read (m ∷ ms) next) = refl
+      go (read (m ∷ ms) next) = let some : suc (length ms) ≡ 0 → ⊥ = omega arith in rw (ne_eqb (suc (length ms)) 0 some)
       go stop = refl
       go (refused r) = refl
 
-  pub none-counted : {n next : ℕ} → count_of (many library (module_by e library) at) ≡ Counted.Modules n next → n ≡ 0 → count_of (modules_by e library at) ≡ Counted.Refused NoModule
+  pub none-counted : {m : Counted} → count_of (many library (module_by e library) at) ≡ Ok m → m.count ≡ 0 → count_of (modules_by e library at) ≡ Err NoModule
   none-counted q z = least-count q ∙ rw z
 
-  pub some-counted : {n next : ℕ} → count_of (many library (module_by e library) at) ≡ Counted.Modules n next → (n ≡ 0 → ⊥) → count_of (modules_by e library at) ≡ Counted.Modules n next
-  some-counted {n} {next} q z = least-count q ∙ go n z
-    where
-      go : (n : ℕ) → (n ≡ 0 → ⊥) → least_of (Counted.Modules n next) ≡ Counted.Modules n next
-      go zero z = absurd (z refl)
-      go (suc n) z = refl
+  pub some-counted : {m : Counted} → count_of (many library (module_by e library) at) ≡ Ok m → (m.count ≡ 0 → ⊥) → count_of (modules_by e library at) ≡ Ok m
+  some-counted {m} q z = least-count q ∙ rw (ne_eqb m.count 0 z)
 
-  pub count-refused : {r : Refusal} → count_of (many library (module_by e library) at) ≡ Counted.Refused r → count_of (modules_by e library at) ≡ Counted.Refused r
+  pub count-refused : {r : Refusal} → count_of (many library (module_by e library) at) ≡ Err r → count_of (modules_by e library at) ≡ Err r
   count-refused q = least-count q
 
 -- what a library comes to
 module _ (e : Edition) (library : List ℕ) (first : ℕ) where
-  pub library-known : {c : Counted} → count_of (modules_by e library first) ≡ c → library_reading e library first ≡ counted_reading e library first c
+  pub library-known : {c : Result Counted Refusal} → count_of (modules_by e library first) ≡ c → library_reading e library first ≡ counted_reading e library first c
   unfolding library_reading
   library-known q = rw q
 
-  pub library-closed : {n next : ℕ} {x : End} → count_of (modules_by e library first) ≡ Counted.Modules n next → closing_end e library next ≡ x
-      → library_reading e library first ≡ closed_reading e library first n x
-  library-closed {n} c q = library-known c ∙ ap (closed_reading e library first n) q
+  pub library-closed : {m : Counted} {x : End} → count_of (modules_by e library first) ≡ Ok m → closing_end e library m.next ≡ x
+      → library_reading e library first ≡ closed_reading e library first m.count x
+  library-closed {m} c q = library-known c ∙ ap (closed_reading e library first m.count) q
 
 -- what is read of a file, asked whether it is used up
 module _ (e : Edition) (library : List ℕ) (first : ℕ) where
   used-read : (ms : List Module) (end : ℕ) → reading_of first (file_used e library (read ms end)) ≡ used_reading e library first (length ms) end
   used-read ms end = go e
     where
-      two : (t : Bool) → reading_of first (if t then refused LeftOver else read ms end) ≡ (if t then Reading.Refused LeftOver else Reading.Modules first (length ms))
+      two : (t : Bool) → reading_of first (if t then refused LeftOver else read ms end) ≡ (if t then Err LeftOver else Ok (record { first = first; count = length ms }))
       two true = refl
       two false = refl
 
@@ -108,17 +104,17 @@ module _ (e : Edition) (library : List ℕ) (first : ℕ) where
       go One = refl
       go Two = two (leaves_over Two end (length library))
 
-  used-stop : reading_of first (file_used e library stop) ≡ Reading.Refused NoModule
+  used-stop : reading_of first (file_used e library stop) ≡ Err NoModule
   used-stop = go e
     where
-      go : (e : Edition) → reading_of first (file_used e library stop) ≡ Reading.Refused NoModule
+      go : (e : Edition) → reading_of first (file_used e library stop) ≡ Err NoModule
       go One = refl
       go Two = refl
 
-  used-refused : (r : Refusal) → reading_of first (file_used e library (refused r)) ≡ Reading.Refused r
+  used-refused : (r : Refusal) → reading_of first (file_used e library (refused r)) ≡ Err r
   used-refused r = go e
     where
-      go : (e : Edition) → reading_of first (file_used e library (refused r)) ≡ Reading.Refused r
+      go : (e : Edition) → reading_of first (file_used e library (refused r)) ≡ Err r
       go One = refl
       go Two = refl
 
@@ -136,7 +132,7 @@ module _ (e : Edition) (library : List ℕ) (first : ℕ) where
   closed ms (refused r) = used-refused r
 
   -- the readings of document 01: 2Ch and its closing records, or bare modules
-  counted-reading : (o : ReadOutcome (List Module)) {c : Counted} → count_of o ≡ c → reading_of first (file_used e library o) ≡ bare_reading e library first c
+  counted-reading : (o : ReadOutcome (List Module)) {c : Result Counted Refusal} → count_of o ≡ c → reading_of first (file_used e library o) ≡ bare_reading e library first c
   counted-reading o {c} q = go o ∙ ap (bare_reading e library first) q
     where
       go : (o : ReadOutcome (List Module)) → reading_of first (file_used e library o) ≡ bare_reading e library first (count_of o)
@@ -145,7 +141,7 @@ module _ (e : Edition) (library : List ℕ) (first : ℕ) where
       go (refused r) = used-refused r
 
 module _ (e : Edition) (library : List ℕ) where
-  pub bare-known : (byte_at library 0 ≡ 0x2c → ⊥) → {c : Counted} → count_of (modules_by e library 0) ≡ c → reading e library ≡ bare_reading e library 0 c
+  pub bare-known : (byte_at library 0 ≡ 0x2c → ⊥) → {c : Result Counted Refusal} → count_of (modules_by e library 0) ≡ c → reading e library ≡ bare_reading e library 0 c
   unfolding reading file_by file_read
   bare-known n c =
       let other : eqb 0x2c (byte_at library 0) ≡ false = ne_eqb 0x2c (byte_at library 0) (λ e. n (sym e)) in
@@ -186,10 +182,10 @@ module _ (e : Edition) (library : List ℕ) where
         go stop = used-stop e library next
         go (refused r) = used-refused e library next r
 
-    pub library-halts : expected_by e library (one_type 0x2c) 0 ≡ stop → reading e library ≡ Reading.Refused NoModule
+    pub library-halts : expected_by e library (one_type 0x2c) 0 ≡ stop → reading e library ≡ Err NoModule
     unfolding reading file_by
     library-halts q = rw (opened q) (used-stop e library _)
 
-    pub library-refuses : {r : Refusal} → expected_by e library (one_type 0x2c) 0 ≡ refused r → reading e library ≡ Reading.Refused r
+    pub library-refuses : {r : Refusal} → expected_by e library (one_type 0x2c) 0 ≡ refused r → reading e library ≡ Err r
     unfolding reading file_by
     library-refuses {r} q = rw (opened q) (used-refused e library _ r)

@@ -9,8 +9,8 @@ use Rattle.lent.specs.ChoiceLaws.{chosen}
 use Rattle.lent.specs.Parts.{byte_at}
 use Rattle.omf51.specs.declared.Edition.{Edition}
 use Rattle.omf51.specs.declared.Frame.{Frame}
-use Rattle.omf51.specs.declared.End.{End}
-use Rattle.omf51.specs.declared.End.TheVariants.{At, Stop, Refused}
+use Rattle.omf51.specs.Ends.{End}
+use Rattle.std.specs.Prelude.{Some, None, Ok, Err}
 use Rattle.omf51.specs.declared.entry.Entries.TheVariants.{Fixups}
 use Rattle.omf51.specs.Reader.{ReadOutcome, read, stop, refused, and_then, give, many}
 use Rattle.omf51.specs.Record.{expected_by, whole, record_by}
@@ -37,20 +37,20 @@ module _ (e : Edition) (library : List ℕ) (at : ℕ) where
       then-end (record_by e library fills (content_body library) at) _ (all_end_by e Fixups library) (λ content next. give-end _ (many library (fixups_by e library) next))
       ∙ ap (then_end (all_end_by e Fixups library)) q
 
-  pub content-halts : expected_by e library fills at ≡ stop → end_of (section_by e library at) ≡ Stop
+  pub content-halts : expected_by e library fills at ≡ stop → end_of (section_by e library at) ≡ Ok None
   content-halts q = content-then (ap end_of (record-framed e library fills (content_body library) at q))
 
-  pub content-refuses : {r : Refusal} → expected_by e library fills at ≡ refused r → end_of (section_by e library at) ≡ Refused r
+  pub content-refuses : {r : Refusal} → expected_by e library fills at ≡ refused r → end_of (section_by e library at) ≡ Err r
   content-refuses q = content-then (ap end_of (record-framed e library fills (content_body library) at q))
 
   module _ {f : Frame} {next n : ℕ} (q : expected_by e library fills at ≡ read f next) (ids : n ≡ id_size f) where
-    pub content-cut : f.end < f.body + n + 2 → end_of (section_by e library at) ≡ Stop
+    pub content-cut : f.end < f.body + n + 2 → end_of (section_by e library at) ≡ Ok None
     content-cut h =
-        content-then {x = Stop} (ap end_of (record-framed e library fills (content_body library) at q) ∙ rw (cut-past f _ {next = f.body + id_size f + 2} (omega arith)))
+        content-then {x = Ok None} (ap end_of (record-framed e library fills (content_body library) at q) ∙ rw (cut-past f _ {next = f.body + id_size f + 2} (omega arith)))
 
     pub content-whole : f.body + n + 2 ≤ f.end → end_of (section_by e library at) ≡ all_end_by e Fixups library next
     content-whole h =
-        content-then {x = At next}
+        content-then {x = Ok (Some next)}
         (ap end_of (record-framed e library fills (content_body library) at q)
         ∙ rw (whole-within f _ {next = f.body + id_size f + 2} (omega arith)) (ap end_of (used_all e f.end _ f.end next (omega arith))))
 

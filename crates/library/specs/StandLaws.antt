@@ -1,4 +1,5 @@
 -- What reading says is what the definition says: the modules stand one after another from the place that it names, and refusals are the same. Assumes nothing.
+use Rattle.std.specs.Prelude.{Result, Ok, Err}
 use Rattle.std.specs.Prelude.{ℕ, ◌≡◌, Bool, true, false, List, eqb, if◌then◌else◌}
 use Rattle.std.proofs.Math.Path.{refl, ap}
 use Rattle.std.proofs.Common.{sym, subst, ◌∙◌, arith, ne_eqb}
@@ -17,7 +18,6 @@ use Rattle.omf51.specs.File.{plain_by, library_by, file_read, file_by, modules_a
 use Rattle.omf51.proofs.EditionLaws.{editions-agree}
 use Rattle.omf51.specs.Expected.{one_type}
 use Rattle.library.specs.declared.Reading.{Reading}
-use Rattle.library.specs.declared.Reading.TheVariants.{Modules, Refused}
 use Rattle.library.specs.Gathered.{items_at}
 use Rattle.library.specs.RepeatLaws.{least-items}
 use Rattle.library.specs.Reading.{place_after, first_at, reading_of, reading}
@@ -60,9 +60,9 @@ pub record Stand (e : Edition) (library : List ℕ) (first count : ℕ) : Type 0
   pub number : length (modules_in (file_by e library)) ≡ count
 
 module _ (e : Edition) (library : List ℕ) where
-  abbrev Says : Reading → Type 0
-  Says (Modules first count) = Stand e library first count
-  Says (Refused r) = file_refusal (file_by e library) ≡ some r
+  abbrev Says : Result Reading Refusal → Type 0
+  Says (Ok r) = Stand e library r.first r.count
+  Says (Err r) = file_refusal (file_by e library) ≡ some r
 
   says : Says (reading e library)
   unfolding reading
@@ -73,8 +73,8 @@ module _ (e : Edition) (library : List ℕ) where
       go stop q = ap file_refusal q
       go (refused r) q = ap file_refusal q
 
-  pub modules-stand : {first count : ℕ} → reading e library ≡ Modules first count → Stand e library first count
+  pub modules-stand : {r : Reading} → reading e library ≡ Ok r → Stand e library r.first r.count
   modules-stand q = subst Says q says
 
-  pub reading-refused : {r : Refusal} → reading e library ≡ Refused r → file_refusal (file_by e library) ≡ some r
+  pub reading-refused : {r : Refusal} → reading e library ≡ Err r → file_refusal (file_by e library) ≡ some r
   reading-refused q = subst Says q says

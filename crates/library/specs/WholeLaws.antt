@@ -1,4 +1,5 @@
 -- A whole module by its places: its definitions and its contents are what stands there, and modules in a row are counted by their turns. Assumes nothing.
+use Rattle.std.specs.Prelude.{Option, Some, None, Result, Ok, Err}
 use Rattle.std.specs.Prelude.{ℕ, ◌+◌, ◌≤◌, ◌<◌, ◌≡◌, refl, Bool, true, false, List, [], ◌∷◌, length, if◌then◌else◌}
 use Rattle.std.proofs.Common.{sym, ap, subst, ◌∙◌, add-zero, zero-add, arith}
 use Rattle.lent.specs.declared.refusal.Refusal.{Refusal}
@@ -10,9 +11,7 @@ use Rattle.omf51.specs.declared.Definition.{Definition}
 use Rattle.omf51.specs.Reader.{ReadOutcome, read, stop, refused, Reader, and_then, give, refuse, after, many}
 use Rattle.omf51.specs.Module.{Section, Module, definitions_by, sections_by, module_by}
 use Rattle.library.specs.declared.Places.{Places}
-use Rattle.library.specs.declared.ModuleAt.{ModuleAt}
 use Rattle.library.specs.declared.Counted.{Counted}
-use Rattle.library.specs.declared.Counted.TheVariants.{Modules, Refused}
 use Rattle.library.specs.Gathered.{items_at, followed}
 use Rattle.library.specs.RepeatLaws.{Moved, Stayed, Moves, moved-stays, then-stays, then-moves, many-stays, onto, many-turn, items-turn, many-items}
 use Rattle.library.specs.Passes.{head_by, last_by, last_places, rest_places, places_by, places_read}
@@ -81,21 +80,21 @@ modules-move e library at =
     closed m next h false = tt
 
 -- modules counted on from n
-abbrev pub count_from : ℕ → ReadOutcome (List Module) → Counted
-count_from n (read modules next) = Modules (n + length modules) next
-count_from n stop = Refused NoModule
-count_from n (refused r) = Refused r
+abbrev pub count_from : ℕ → ReadOutcome (List Module) → Result Counted Refusal
+count_from n (read modules next) = Ok (record { count = n + length modules; next = next })
+count_from n stop = Err NoModule
+count_from n (refused r) = Err r
 
 pub count-all : (o : ReadOutcome (List Module)) → count_from 0 o ≡ count_of o
-count-all (read modules next) = ap (λ n. Modules n next) (zero-add (length modules))
+count-all (read modules next) = ap (λ n. Ok (record { count = n; next = next })) (zero-add (length modules))
 count-all stop = refl
 count-all (refused r) = refl
 
 -- no whole module
-abbrev pub Ended : ModuleAt → Type 0
-Ended (ModuleAt.Whole p) = ⊥
-Ended ModuleAt.Stop = Unit
-Ended (ModuleAt.Refused r) = Unit
+abbrev pub Ended : Result (Option Places) Refusal → Type 0
+Ended (Ok (Some p)) = ⊥
+Ended (Ok None) = Unit
+Ended (Err r) = Unit
 
 module _ (e : Edition) (library : List ℕ) (at : ℕ) where
   module-known : {o : ReadOutcome Places} → places_by e library at ≡ o → module_by e library at ≡ and_then o (whole_module e library)
@@ -107,13 +106,13 @@ module _ (e : Edition) (library : List ℕ) (at : ℕ) where
   modules-step q = items-turn library (module_by e library) (modules-move e library) at (module-known q)
 
   -- where no whole module stands, there are no more
-  pub modules-end : (r : ModuleAt) → places_by e library at ≡ places_read r → Ended r → items_at library (module_by e library) at ≡ []
+  pub modules-end : (r : Result (Option Places) Refusal) → places_by e library at ≡ places_read r → Ended r → items_at library (module_by e library) at ≡ []
   modules-end r q h = items-turn library (module_by e library) (modules-move e library) at (module-known q) ∙ go r h
     where
-      go : (r : ModuleAt) → Ended r → followed (items_at library (module_by e library)) (and_then (places_read r) (whole_module e library)) ≡ []
-      go (ModuleAt.Whole p) h = absurd h
-      go ModuleAt.Stop h = refl
-      go (ModuleAt.Refused r) h = refl
+      go : (r : Result (Option Places) Refusal) → Ended r → followed (items_at library (module_by e library)) (and_then (places_read r) (whole_module e library)) ≡ []
+      go (Ok (Some p)) h = absurd h
+      go (Ok None) h = refl
+      go (Err r) h = refl
 
   pub module-moved : {p : Places} {next : ℕ} → places_by e library at ≡ read p next → (at < next) × (next ≤ length library)
   module-moved q = subst (Moved library at) (module-known q) (modules-move e library at)
@@ -129,12 +128,12 @@ module _ (e : Edition) (library : List ℕ) (at : ℕ) where
   count_turn n {p} {next} q = ap (count_from n) (turn q) ∙ go (many library (module_by e library) next)
     where
       go : (o : ReadOutcome (List Module)) → count_from n (onto (one (module_of e library p)) o) ≡ count_from (n + 1) o
-      go (read ms k) = ap (λ m. Modules m k) (omega arith)
+      go (read ms k) = ap (λ m. Ok (record { count = m; next = k })) (omega arith)
       go stop = refl
       go (refused r) = refl
 
-  pub count-ends : (n : ℕ) → places_by e library at ≡ stop → count_from n (many library (module_by e library) at) ≡ Modules n at
-  count-ends n q = ap (count_from n) (turn q) ∙ ap (λ m. Modules m at) (add-zero n)
+  pub count-ends : (n : ℕ) → places_by e library at ≡ stop → count_from n (many library (module_by e library) at) ≡ Ok (record { count = n; next = at })
+  count-ends n q = ap (count_from n) (turn q) ∙ ap (λ m. Ok (record { count = m; next = at })) (add-zero n)
 
-  pub count-refuses : (n : ℕ) {r : Refusal} → places_by e library at ≡ refused r → count_from n (many library (module_by e library) at) ≡ Refused r
+  pub count-refuses : (n : ℕ) {r : Refusal} → places_by e library at ≡ refused r → count_from n (many library (module_by e library) at) ≡ Err r
   count-refuses n q = ap (count_from n) (turn q)

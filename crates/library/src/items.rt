@@ -16,35 +16,29 @@ pub struct Cursor {
 
 // The next entry of a walk: the cursor that stands at the entry, and where the entry ends.
 #[derive(Clone, Copy)]
-pub enum Step {
-    Entry { here: Cursor, end: usize },
-    Done,
+pub struct NextEntry {
+    pub here: Cursor,
+    pub end: usize,
 }
 
 // The next definition of a module, and the cursor behind it.
 #[derive(Clone, Copy)]
-pub enum NextDefinition {
-    Item {
-        definition: Definition,
-        rest: Cursor,
-    },
-    Done,
+pub struct NextDefinition {
+    pub definition: Definition,
+    pub rest: Cursor,
 }
 
 // The next fixup of a content, and the cursor behind it.
 #[derive(Clone, Copy)]
-pub enum NextFixup {
-    Item { fixup: Fixup, rest: Cursor },
-    Done,
+pub struct NextFixup {
+    pub fixup: Fixup,
+    pub rest: Cursor,
 }
 
 // The next content of a module, a cursor before its fixups, and the place after these.
 #[derive(Clone, Copy)]
-pub enum NextContent {
-    Item {
-        content: Content,
-        fixups: Cursor,
-        rest: usize,
-    },
-    Done,
+pub struct NextContent {
+    pub content: Content,
+    pub fixups: Cursor,
+    pub rest: usize,
 }

@@ -1,5 +1,5 @@
 -- Where entries end, and whether they are whole. Assumes nothing.
-use Rattle.std.specs.Prelude.{ℕ, ◌+◌, ◌≤◌, ◌<◌, ◌≡◌, refl, Bool, true, false, List, leb, length, drop, if◌then◌else◌}
+use Rattle.std.specs.Prelude.{ℕ, ◌+◌, ◌≤◌, ◌<◌, ◌≡◌, refl, Bool, true, false, List, leb, length, drop, if◌then◌else◌, Some, None, Ok}
 use Rattle.std.proofs.Common.{ap, ◌∙◌, length-take, length-drop, le-leb, eq-eqb, ne_eqb}
 use native.Mathlib.Omega.{arith}
 use Rattle.std.proofs.Math.Dec.{eqb}
@@ -9,7 +9,6 @@ use Rattle.lent.specs.declared.refusal.Refusal.TheVariants.{LeftOver}
 use Rattle.lent.specs.Parts.{byte_at, bytes_of}
 use Rattle.omf51.specs.declared.Edition.{Edition}
 use Rattle.omf51.specs.declared.Frame.{Frame}
-use Rattle.omf51.specs.declared.End.TheVariants.{At, Stop}
 use Rattle.omf51.specs.Reader.{read, stop, refused, and_then}
 use Rattle.omf51.specs.Entry.{ending, name_part, id_size, name_offset, name_with, definition_at, fixup_at}
 use Rattle.omf51.specs.Record.{expected_by, leaves_over, used_up, record_by}
@@ -33,11 +32,11 @@ name-long library at h =
 
 -- a definition, its name standing at p
 module _ (library : List ℕ) (f : Frame) (at : ℕ) {p : ℕ} (here : p ≡ at + name_offset f) where
-  pub definition-cut : f.end < p + 1 + byte_at library p → end_of (definition_at library f at) ≡ Stop
+  pub definition-cut : f.end < p + 1 + byte_at library p → end_of (definition_at library f at) ≡ Ok None
   unfolding definition_at
   definition-cut h = rw (← here, cut-past f _ {next = p + 1 + byte_at library p} h)
 
-  pub definition-whole : p + 1 + byte_at library p ≤ f.end → end_of (definition_at library f at) ≡ At (p + 1 + byte_at library p)
+  pub definition-whole : p + 1 + byte_at library p ≤ f.end → end_of (definition_at library f at) ≡ Ok (Some (p + 1 + byte_at library p))
   unfolding definition_at
   definition-whole h = rw (← here, whole-within f _ {next = p + 1 + byte_at library p} h)
 
@@ -46,23 +45,23 @@ module _ (library : List ℕ) (f : Frame) (at : ℕ) {size : ℕ} (here : size �
   abbrev most : at + 4 + id_size f + 2 ≡ at + size
   most = omega arith
 
-  pub fixup-short : f.end < at + size → end_of (fixup_at library f at) ≡ Stop
+  pub fixup-short : f.end < at + size → end_of (fixup_at library f at) ≡ Ok None
   unfolding fixup_at
   fixup-short h =
       rw most (ap end_of (cut-past f _ {next = at + size + (if eqb (byte_at library (at + 3)) 3 then 1 else 0)} (omega arith)))
 
-  pub fixup-plain : (byte_at library (at + 3) ≡ 3 → ⊥) → at + size ≤ f.end → end_of (fixup_at library f at) ≡ At (at + size)
+  pub fixup-plain : (byte_at library (at + 3) ≡ 3 → ⊥) → at + size ≤ f.end → end_of (fixup_at library f at) ≡ Ok (Some (at + size))
   unfolding fixup_at
   fixup-plain n h =
       let none : at + size + 0 ≡ at + size = omega arith in
       rw (ne_eqb (byte_at library (at + 3)) 3 n, most, none) (ap end_of (whole-within f _ {next = at + size} h))
 
   module _ (three : byte_at library (at + 3) ≡ 3) where
-    pub fixup-cut : f.end < at + size + 1 → end_of (fixup_at library f at) ≡ Stop
+    pub fixup-cut : f.end < at + size + 1 → end_of (fixup_at library f at) ≡ Ok None
     unfolding fixup_at
     fixup-cut h = rw (eq-eqb (byte_at library (at + 3)) 3 three, most) (ap end_of (cut-past f _ {next = at + size + 1} h))
 
-    pub fixup-longer : at + size + 1 ≤ f.end → end_of (fixup_at library f at) ≡ At (at + size + 1)
+    pub fixup-longer : at + size + 1 ≤ f.end → end_of (fixup_at library f at) ≡ Ok (Some (at + size + 1))
     unfolding fixup_at
     fixup-longer h =
         rw (eq-eqb (byte_at library (at + 3)) 3 three, most) (ap end_of (whole-within f _ {next = at + size + 1} h))

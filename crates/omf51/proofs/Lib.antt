@@ -1,10 +1,10 @@
 pub mod BareLaws
 pub mod EditionLaws
 pub mod EntryLaws
+pub mod Exits
 pub mod OneOutcome
 pub mod OnePath
 pub mod OutcomeLaws
 pub mod ReachesExamples
 pub mod ReachesLaws
 pub mod RecordLaws
-pub mod TypeLaws

@@ -1,12 +1,12 @@
 -- The functions on records and entries have one outcome each, by their contracts alone. Assumes nothing.
-use Rattle.std.specs.Prelude.{ℕ, ◌≤◌, ◌≡◌, List}
-use Rattle.std.proofs.Common.{sym, ◌∙◌}
+use Rattle.std.specs.Prelude.{ℕ, ◌≤◌, ◌≡◌, List, Option, Some, None, Result, Ok, Err}
+use Rattle.lent.specs.declared.refusal.Refusal.{Refusal}
+use Rattle.std.proofs.Common.{sym, ap, ◌∙◌}
 use Rattle.lent.specs.OneOutcome.{Determines, by-equation, by_map}
 use Rattle.lent.specs.Parts.{byte_at, word_at, bytes_of}
 use Rattle.omf51.specs.declared.Edition.{Edition}
 use Rattle.omf51.specs.declared.Frame.{Frame}
 use Rattle.omf51.specs.declared.types.Allowed.{Allowed}
-use Rattle.omf51.specs.declared.record.Framed.{Framed}
 use Rattle.omf51.specs.declared.entry.Entries.{Entries}
 use Rattle.omf51.specs.declared.entry.Named.{Named}
 use Rattle.omf51.specs.Record.{edition_of, expected, expected_by, leaves_over, record_by}
@@ -35,16 +35,16 @@ byte-at-one library at = by-equation (byte_at library at)
 pub word-at-one : (library : List ℕ) (at : ℕ) → Determines (λ r. r ≡ word_at library at)
 word-at-one library at = by-equation (word_at library at)
 
-frames-apart : (a b : Framed) → frame_read a ≡ frame_read b → a ≡ b
-frames-apart (Framed.Read f) (Framed.Read g) e = cc
-frames-apart (Framed.Read f) Framed.Stop e = cc
-frames-apart (Framed.Read f) (Framed.Refused s) e = cc
-frames-apart Framed.Stop (Framed.Read g) e = cc
-frames-apart Framed.Stop Framed.Stop e = cc
-frames-apart Framed.Stop (Framed.Refused s) e = cc
-frames-apart (Framed.Refused r) (Framed.Read g) e = cc
-frames-apart (Framed.Refused r) Framed.Stop e = cc
-frames-apart (Framed.Refused r) (Framed.Refused s) e = cc
+frames-apart : (a b : Result (Option Frame) Refusal) → frame_read a ≡ frame_read b → a ≡ b
+frames-apart (Ok (Some f)) (Ok (Some g)) e = cc
+frames-apart (Ok (Some f)) (Ok None) e = cc
+frames-apart (Ok (Some f)) (Err s) e = cc
+frames-apart (Ok None) (Ok (Some g)) e = cc
+frames-apart (Ok None) (Ok None) e = cc
+frames-apart (Ok None) (Err s) e = cc
+frames-apart (Err r) (Ok (Some g)) e = cc
+frames-apart (Err r) (Ok None) e = cc
+frames-apart (Err r) (Err s) e = cc
 
 pub record-at-one : (library : List ℕ) (what : Allowed) (at : ℕ) → Determines (λ r. frame_read r ≡ expected library (allows what) at)
 record-at-one library what at = by_map frame_read frames-apart (expected library (allows what) at)
@@ -78,19 +78,22 @@ id-size-one f a b p q = p.0 ∙ sym q.0
 pub name-offset-one : (f : Frame) → Determines (λ r. (r ≡ name_offset f) × (r ≤ 9))
 name-offset-one f a b p q = p.0 ∙ sym q.0
 
-pub entry-end-one : (library : List ℕ) (what : Entries) (f : Frame) (at : ℕ) → Determines (λ r. r ≡ entry_end what library f at)
-entry-end-one library what f at = by-equation (entry_end what library f at)
+pub entry-end-one : (library : List ℕ) (what : Entries) (f : Frame) (at : ℕ) → Determines (λ r. Ok r ≡ entry_end what library f at)
+entry-end-one library what f at = by_map Ok (λ a b e. cc) (entry_end what library f at)
 
-names_apart : (a b : Named) → name_read a ≡ name_read b → a ≡ b
-names_apart (Named.Read n j) (Named.Read m k) e = cc
-names_apart (Named.Read n j) Named.Stop e = cc
-names_apart (Named.Read n j) (Named.Refused s) e = cc
-names_apart Named.Stop (Named.Read m k) e = cc
-names_apart Named.Stop Named.Stop e = cc
-names_apart Named.Stop (Named.Refused s) e = cc
-names_apart (Named.Refused r) (Named.Read m k) e = cc
-names_apart (Named.Refused r) Named.Stop e = cc
-names_apart (Named.Refused r) (Named.Refused s) e = cc
+names_apart : (a b : Result (Option Named) Refusal) → name_read a ≡ name_read b → a ≡ b
+names_apart (Ok (Some n)) (Ok (Some m)) e =
+    let name : n.name ≡ m.name = cc in
+    let next : n.next ≡ m.next = cc in
+    ap (λ k. Ok (Some (record { name = k; next = n.next }))) name ∙ ap (λ k. Ok (Some (record { name = m.name; next = k }))) next
+names_apart (Ok (Some n)) (Ok None) e = cc
+names_apart (Ok (Some n)) (Err s) e = cc
+names_apart (Ok None) (Ok (Some m)) e = cc
+names_apart (Ok None) (Ok None) e = cc
+names_apart (Ok None) (Err s) e = cc
+names_apart (Err r) (Ok (Some m)) e = cc
+names_apart (Err r) (Ok None) e = cc
+names_apart (Err r) (Err s) e = cc
 
 pub named-at-one : (library : List ℕ) (edition : Edition) (kind more at : ℕ)
     → Determines (λ r. name_read r ≡ record_by edition library (one_type kind) (name_with more library) at)

@@ -6,6 +6,7 @@ use Rattle.std.proofs.Math.Bool.{true, false}
 use native.Mathlib.Omega.{arith}
 use borrow.Author.Tests.{ltb-true, ltb-false, eqb-true, eqb-false, lt-ltb, le-ltb, eq-eqb, ne_eqb}
 use Rattle.std.proofs.Math.ListN.{length}
+use Rattle.lent.specs.declared.refusal.Refusal.{Refusal}
 use Rattle.lent.specs.declared.refusal.Refusal.TheVariants.{BodyPastEnd, LengthZero, WrongSum, LeftOver}
 use Rattle.lent.specs.ChoiceLaws.{chosen}
 use Rattle.lent.specs.Parts.{byte_at, word_at}
@@ -140,6 +141,24 @@ read_fits library allowed at e = subst (FrameFits library at) e (expected-fits l
 pub first-expected : (library : List ℕ) (allowed : ℕ → Bool) (at : ℕ) → expected_by One library allowed at ≡ expected library allowed at
 unfolding expected_by
 first-expected library allowed at = refl
+
+-- where there is no record, or it is refused, both editions say what edition 1 says
+module _ (e : Edition) (library : List ℕ) (allowed : ℕ → Bool) (at : ℕ) where
+  pub stops_by : expected library allowed at ≡ stop → expected_by e library allowed at ≡ stop
+  unfolding expected_by
+  stops_by q = go e
+    where
+      go : (e : Edition) → expected_by e library allowed at ≡ stop
+      go One = q
+      go Two = rw q
+
+  pub refuses_by : {r : Refusal} → expected library allowed at ≡ refused r → expected_by e library allowed at ≡ refused r
+  unfolding expected_by
+  refuses_by {r} q = go e
+    where
+      go : (e : Edition) → expected_by e library allowed at ≡ refused r
+      go One = q
+      go Two = rw q
 
 -- in an edition: edition 2 reads a record if its sum is 0, and refuses it otherwise
 module _ (library : List ℕ) (allowed : ℕ → Bool) (at : ℕ) where

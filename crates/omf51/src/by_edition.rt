@@ -4,10 +4,9 @@ ghost use Rattle.lent.specs.Lists.{total};
 ghost use Rattle.omf51.specs.Record.{edition_of, record_sum, expected_by, leaves_over};
 ghost use Rattle.omf51.specs.Expected.{allows as allowed_types, frame_read};
 
-use crate::Edition;
 use crate::read_record::record_at;
-use crate::record::Framed;
 use crate::types::Allowed;
+use crate::{Edition, Frame};
 use lent::refusal::Refusal;
 
 // The edition of a number: 2, or else 1.
@@ -15,9 +14,10 @@ pub fn edition_of(number: u64) -> Edition
     ensures { result ≡ edition_of number }
 {
     if number == 2 {
-        return Edition::Two;
+        Edition::Two
+    } else {
+        Edition::One
     }
-    Edition::One
 }
 
 // The sum of some bytes modulo 256. The sum is taken in a byte, so that the compiler can add many bytes at once.
@@ -25,15 +25,14 @@ fn sum_of(bytes: &[u8]) -> u8
     ensures { result ≡ total (λ byte. byte) bytes.now % 256 }
 {
     let mut sum: u8 = 0;
-    let mut i = 0;
-    while i < bytes.len() {
-        sum = ((sum as u16 + bytes[i] as u16) % 256) as u8;
-        i += 1;
+    for byte in bytes {
+        sum = sum.wrapping_add(*byte);
     }
     sum
 }
 
 // Whether the bytes from `at` up to `next` sum to 0 modulo 256.
+#[tactic(auto, unfolding(crate::specs::Record::record_sum))]
 fn sums_to_zero(library: &[u8], at: usize, next: usize) -> bool
     requires { (at ≤ next) × (next ≤ length library.now) }
     ensures { result ≡ eqb (record_sum library.now at next) 0 }
@@ -43,22 +42,26 @@ fn sums_to_zero(library: &[u8], at: usize, next: usize) -> bool
 
 // The record at a place in an edition, if its type is allowed there. Edition 2 refuses a record whose bytes, its checksum
 // among them, do not sum to 0 (14).
-pub fn record_by(library: &[u8], edition: Edition, what: Allowed, at: usize) -> Framed
+pub fn record_by(
+    library: &[u8],
+    edition: Edition,
+    what: Allowed,
+    at: usize,
+) -> Result<Option<Frame>, Refusal>
     ensures { frame_read result ≡ expected_by edition library.now (allowed_types what) at }
 {
-    let framed = record_at(library, what, at);
-    let Edition::Two = edition else {
-        return framed;
+    let Some(f) = record_at(library, what, at)? else {
+        return Ok(None);
     };
-    match framed {
-        Framed::Read(f) => {
+    match edition {
+        Edition::One => Ok(Some(f)),
+        Edition::Two => {
             if sums_to_zero(library, at, f.end + 1) {
-                return Framed::Read(f);
+                Ok(Some(f))
+            } else {
+                Err(Refusal::WrongSum)
             }
-            Framed::Refused(Refusal::WrongSum)
         }
-        Framed::Stop => Framed::Stop,
-        Framed::Refused(r) => Framed::Refused(r),
     }
 }
 
@@ -68,11 +71,6 @@ pub fn leaves_over(edition: Edition, left: usize, end: usize) -> bool
 {
     match edition {
         Edition::One => false,
-        Edition::Two => {
-            if left < end {
-                return true;
-            }
-            false
-        }
+        Edition::Two => left < end,
     }
 }

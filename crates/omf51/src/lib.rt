@@ -5,22 +5,21 @@ ghost use Rattle.std.specs.Prelude.{◌≡◌};
 ghost use Rattle.omf51.specs.Entry.{segment_size};
 
 use lent::part::Part;
-use lent::refusal::Refusal;
 
 pub mod allowed_types;
 pub mod by_edition;
 pub mod entry;
 pub mod read_entry;
 pub mod read_record;
-pub mod record;
 pub mod types;
 
 // The id by which a module speaks of one of its segments or externals. An id means nothing outside its module.
-#[derive(Clone, Copy)]
+#[derive(Clone, Copy, Debug, PartialEq, Eq)]
 pub struct ModuleId(pub u16);
 
-// A record: its type (called `kind`, since `type` is a word of the language), and where its body starts and ends.
-#[derive(Clone, Copy)]
+// A record: its type (called `kind`, since `type` is a word of the language), and where its body starts and ends. The type
+// is the file's byte, and no enum: a record of a type that is not known is skipped.
+#[derive(Clone, Copy, Debug, PartialEq, Eq)]
 pub struct Frame {
     pub kind: u8,
     pub body: usize,
@@ -28,18 +27,10 @@ pub struct Frame {
 }
 
 // The reading edition: 1 is document 01's; 2 also wants every record to sum to 0, and bodies and the file to be used up.
-#[derive(Clone, Copy)]
+#[derive(Clone, Copy, Debug, PartialEq, Eq)]
 pub enum Edition {
     One,
     Two,
-}
-
-// How a reading ends: read up to a place; stopped, since what should be read does not stand there; or refused.
-#[derive(Clone, Copy)]
-pub enum End {
-    At(usize),
-    Stop,
-    Refused(Refusal),
 }
 
 // The three sorts of entries in definition records.
@@ -73,8 +64,9 @@ pub struct Content {
 }
 
 // A fixup: a location in the content before it where an address is missing, how it is written (kind), and of what it is
-// the address (block and id), with an offset added.
-#[derive(Clone, Copy)]
+// the address (block and id), with an offset added. Kind and block are the file's bytes, and no enums: most values have no
+// name, and refusals 10 and 11 are about the numbers.
+#[derive(Clone, Copy, Debug, PartialEq, Eq)]
 pub struct Fixup {
     pub location: usize,
     pub kind: u8,
@@ -93,5 +85,5 @@ pub fn segment_size(info: u8, stored: u16) -> usize
     if stored == 0 {
         return 65536;
     }
-    stored as usize
+    usize::from(stored)
 }

@@ -1,27 +1,13 @@
-// The entries of bodies (definitions, fixups, the names of headers and ends): where an entry
-// ends, if all of it stands within its body.
-ghost use Rattle.std.specs.Prelude.{◌≡◌, ◌+◌, ◌≤◌, ◌<◌, length};
+// The entries of bodies (definitions, fixups): where an entry ends, if all of it stands within its body.
+ghost use Rattle.std.specs.Prelude.{◌≡◌, ◌+◌, ◌≤◌, ◌<◌, length, Ok};
 ghost use Rattle.lent.specs.Parts.{byte_at, bytes_of};
-ghost use Rattle.omf51.specs.Record.{record_by};
-ghost use Rattle.omf51.specs.Entry.{name_part, id_size, is_segment, is_public, name_offset, name_with, definition_at, fixup_at};
-ghost use Rattle.omf51.specs.Expected.{one_type};
-ghost use Rattle.omf51.specs.Ends.{end_of, name_read, entry_end};
+ghost use Rattle.omf51.specs.Entry.{name_part, id_size, is_segment, is_public, name_offset, definition_at, fixup_at};
+ghost use Rattle.omf51.specs.Ends.{end_of, entry_end};
 
-use crate::by_edition::{leaves_over, record_by};
-use crate::entry::{Entries, Named};
+use crate::Frame;
+use crate::entry::Entries;
 use crate::read_record::byte_at;
-use crate::record::Framed;
-use crate::types::Allowed;
-use crate::{Edition, End, Frame};
 use lent::part::Part;
-use lent::refusal::Refusal;
-
-// A byte as a size.
-fn wide(x: u8) -> usize
-    ensures { (result ≡ x) × (result ≤ 255) }
-{
-    x as usize
-}
 
 // The name whose length byte stands at a place, if all of it stands within the library: that many bytes behind it, lent as that
 // very part of the library.
@@ -30,7 +16,7 @@ pub fn read_name<'a>(library: &'a [u8], at: usize) -> &'a [u8]
     ensures { result.now ≡ bytes_of library.now (name_part library.now at) }
 {
     let from = at + 1;
-    let end = from + wide(byte_at(library, at));
+    let end = from + usize::from(byte_at(library, at));
     &library[from..end]
 }
 
@@ -64,7 +50,7 @@ pub fn is_public(f: Frame) -> bool
 pub fn id_size(f: Frame) -> usize
     ensures { (result ≡ id_size f) × (result ≤ 2) }
 {
-    1 + wide(f.kind % 2)
+    1 + usize::from(f.kind % 2)
 }
 
 // How many bytes of a definition stand before its name.
@@ -82,79 +68,52 @@ pub fn name_offset(f: Frame) -> usize
 }
 
 // Where the definition at a place ends, if it is whole. Its name comes last: a length byte, and that many bytes.
-fn definition_end(library: &[u8], f: Frame, at: usize) -> End
-    ensures { result ≡ end_of (definition_at library.now f at) }
+fn definition_end(library: &[u8], f: Frame, at: usize) -> Option<usize>
+    ensures { Ok result ≡ end_of (definition_at library.now f at) }
 {
     let end = f.end;
     if end < at {
-        return End::Stop;
+        return None;
     }
     let before = name_offset(f);
     if end - at <= before {
-        return End::Stop;
+        return None;
     }
     let name = at + before;
-    let len = wide(byte_at(library, name));
+    let len = usize::from(byte_at(library, name));
     if end - name <= len {
-        return End::Stop;
+        return None;
     }
-    End::At(name + 1 + len)
+    Some(name + 1 + len)
 }
 
 // Where the fixup at a place ends, if it is whole. A fixup of block 3 has one byte more.
-fn fixup_end(library: &[u8], f: Frame, at: usize) -> End
-    ensures { result ≡ end_of (fixup_at library.now f at) }
+fn fixup_end(library: &[u8], f: Frame, at: usize) -> Option<usize>
+    ensures { Ok result ≡ end_of (fixup_at library.now f at) }
 {
     let end = f.end;
     if end < at {
-        return End::Stop;
+        return None;
     }
     let size = 4 + id_size(f) + 2;
     if end - at < size {
-        return End::Stop;
+        return None;
     }
     if byte_at(library, at + 3) != 3 {
-        return End::At(at + size);
+        return Some(at + size);
     }
     if end - at == size {
-        return End::Stop;
+        return None;
     }
-    End::At(at + size + 1)
+    Some(at + size + 1)
 }
 
 // Where the definition or fixup at a place ends, if it is whole.
-pub fn entry_end(library: &[u8], what: Entries, f: Frame, at: usize) -> End
-    ensures { result ≡ entry_end what library.now f at }
+pub fn entry_end(library: &[u8], what: Entries, f: Frame, at: usize) -> Option<usize>
+    ensures { Ok result ≡ entry_end what library.now f at }
 {
     match what {
         Entries::Definitions => definition_end(library, f, at),
         Entries::Fixups => fixup_end(library, f, at),
-    }
-}
-
-// The header or end record at a place, by its type `kind`: its body has a name and `more` bytes behind it; bytes behind these are
-// left over.
-pub fn named_at(library: &[u8], edition: Edition, kind: u8, more: u8, at: usize) -> Named
-    ensures { name_read result ≡ record_by edition library.now (one_type kind) (name_with more library.now) at }
-{
-    match record_by(library, edition, Allowed::One(kind), at) {
-        Framed::Read(f) => {
-            let body = f.body;
-            let end = f.end;
-            let len = wide(byte_at(library, body));
-            let need = 1 + len + wide(more);
-            if end - body < need {
-                return Named::Stop;
-            }
-            if leaves_over(edition, body + need, end) {
-                return Named::Refused(Refusal::LeftOver);
-            }
-            Named::Read {
-                name: Part { at: body + 1, len },
-                next: end + 1,
-            }
-        }
-        Framed::Stop => Named::Stop,
-        Framed::Refused(r) => Named::Refused(r),
     }
 }

@@ -7,7 +7,6 @@ ghost use Rattle.omf51.specs.Expected.{allows as allowed_types, frame_read};
 
 use crate::Frame;
 use crate::allowed_types::allows;
-use crate::record::Framed;
 use crate::types::Allowed;
 use lent::refusal::Refusal;
 
@@ -15,64 +14,56 @@ use lent::refusal::Refusal;
 pub fn byte_at(library: &[u8], at: usize) -> u8
     ensures { result ≡ byte_at library.now at }
 {
-    if library.len() <= at {
-        return 0;
-    }
-    library[at]
+    library.get(at).copied().unwrap_or(0)
 }
 
 // The number of the two bytes at a place, low byte first.
 pub fn word_at(library: &[u8], at: usize) -> u16
     ensures { result ≡ word_at library.now at }
 {
-    if library.len() <= at {
+    let Some(low) = library.get(at) else {
         return 0;
-    }
-    wide(library[at]) + 256 * wide(byte_at(library, at + 1))
-}
-
-// A byte as a number of 16 bits.
-fn wide(x: u8) -> u16
-    ensures { (result ≡ x) × (result < 256) }
-{
-    x as u16
+    };
+    u16::from(*low) + 256 * u16::from(byte_at(library, at + 1))
 }
 
 // The record at a place, whatever its type: a type byte, two bytes of length, a body, a checksum byte, which is not examined.
-fn frame_at(library: &[u8], at: usize) -> Framed
+fn frame_at(library: &[u8], at: usize) -> Result<Option<Frame>, Refusal>
     ensures { frame_read result ≡ frame_at library.now at }
 {
     if library.len() < 3 {
-        return Framed::Stop;
+        return Ok(None);
     }
     if library.len() - 3 < at {
-        return Framed::Stop;
+        return Ok(None);
     }
-    let len = word_at(library, at + 1) as usize;
+    let len = usize::from(word_at(library, at + 1));
     let room = library.len() - (at + 2);
     if len == 0 {
-        return Framed::Refused(Refusal::LengthZero);
+        return Err(Refusal::LengthZero);
     }
     if room < len {
-        return Framed::Refused(Refusal::BodyPastEnd);
+        return Err(Refusal::BodyPastEnd);
     }
     if room == len {
-        return Framed::Stop;
+        return Ok(None);
     }
-    Framed::Read(Frame {
+    Ok(Some(Frame {
         kind: library[at],
         body: at + 3,
         end: at + 2 + len,
-    })
+    }))
 }
 
 // The record at a place, if its type is allowed there. The type comes first, so that a record
 // of another type never gives a refusal.
-pub fn record_at(library: &[u8], what: Allowed, at: usize) -> Framed
+#[tactic(auto, unfolding(crate::specs::Record::expected))]
+pub fn record_at(library: &[u8], what: Allowed, at: usize) -> Result<Option<Frame>, Refusal>
     ensures { frame_read result ≡ expected library.now (allowed_types what) at }
 {
     if allows(what, byte_at(library, at)) {
-        return frame_at(library, at);
+        frame_at(library, at)
+    } else {
+        Ok(None)
     }
-    Framed::Stop
 }

@@ -6,7 +6,8 @@ use Rattle.lent.specs.declared.refusal.Refusal.{Refusal}
 use Rattle.lent.specs.Parts.{byte_at}
 use Rattle.omf51.specs.declared.Edition.TheVariants.{One}
 use Rattle.omf51.specs.declared.Frame.{Frame}
-use Rattle.omf51.specs.declared.End.TheVariants.{At, Stop, Refused}
+use Rattle.std.specs.Prelude.{Some, None, Ok, Err}
+use Rattle.omf51.specs.Ends.{End}
 use Rattle.omf51.specs.Reader.{ReadOutcome, read, stop, refused, Reader, and_then, at_least_one}
 use Rattle.omf51.specs.Record.{expected, expected_by, whole, record_by, record_of}
 use Rattle.omf51.proofs.RecordLaws.{Fits, FrameFits, expected-fits}
@@ -32,18 +33,18 @@ module _ {A : Type 0} (library : List ℕ) (allowed has : ℕ → Bool) (each : 
       go true q = least-items library (each (frame_to library at next)) (at + 3) q
       go false q = cc
 
-  passed : (at : ℕ) {next : ℕ} → end_of (record_of library allowed body at) ≡ At next → record_of library allowed body at ≡ read (held at next) next
+  passed : (at : ℕ) {next : ℕ} → end_of (record_of library allowed body at) ≡ Ok (Some next) → record_of library allowed body at ≡ read (held at next) next
   unfolding record_by expected_by
   passed at {next} = go (expected library allowed at) (expected-fits library allowed at)
     where
-      never : {B : Type 0} → Stop ≡ At next → B
+      never : {B : Type 0} → ◌≡◌ {A = End} (Ok None) (Ok (Some next)) → B
       never e = let z : ◌≡◌ {A = ℕ} 0 1 = cc in absurd (omega arith)
 
-      never-refused : {B : Type 0} (r : Refusal) → Refused r ≡ At next → B
+      never-refused : {B : Type 0} (r : Refusal) → ◌≡◌ {A = End} (Err r) (Ok (Some next)) → B
       never-refused r e = let z : ◌≡◌ {A = ℕ} 0 1 = cc in absurd (omega arith)
 
       inner : (f : Frame) (k : ℕ) → Fits library at f k → (w : ReadOutcome (List A)) → body f f.body ≡ w
-          → end_of (and_then w λ a left. read a k) ≡ At next → (and_then w λ a left. read a k) ≡ read (held at next) next
+          → end_of (and_then w λ a left. read a k) ≡ Ok (Some next) → (and_then w λ a left. read a k) ≡ read (held at next) next
       inner f k h (read what end) q e =
           let n : k ≡ next = cc in
           let last : f.end ≡ next - 1 = omega arith in
@@ -53,13 +54,13 @@ module _ {A : Type 0} (library : List ℕ) (allowed has : ℕ → Bool) (each : 
       inner f k h (refused r) q e = never-refused r e
 
       go : (o : ReadOutcome Frame) → FrameFits library at o
-          → end_of (and_then o λ f k. and_then (body f f.body) λ a left. read a k) ≡ At next
+          → end_of (and_then o λ f k. and_then (body f f.body) λ a left. read a k) ≡ Ok (Some next)
           → (and_then o λ f k. and_then (body f f.body) λ a left. read a k) ≡ read (held at next) next
       go (read f k) h e = inner f k h (body f f.body) refl e
       go stop h e = never e
       go (refused r) h e = never-refused r e
 
   -- what is found from a record on: what it holds, and then the rest
-  pub enter : (at : ℕ) {next : ℕ} → end_of (record_of library allowed body at) ≡ At next
+  pub enter : (at : ℕ) {next : ℕ} → end_of (record_of library allowed body at) ≡ Ok (Some next)
       → items_at library (record_of library allowed body) at ≡ held at next ++ items_at library (record_of library allowed body) next
   enter at e = items-turn library (record_of library allowed body) (record-moves One library allowed body) at (passed at e)

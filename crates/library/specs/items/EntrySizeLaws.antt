@@ -1,4 +1,5 @@
 -- What an entry says stands where it was read: a public definition again from its offset on, an external's name within the library; a segment's size and a fixup's location are two bytes. Assumes nothing.
+use Rattle.std.specs.Prelude.{Option, Some, None}
 use Rattle.std.specs.Prelude.{ℕ, ◌+◌, ◌-◌, ◌≤◌, ◌<◌, ◌≡◌, refl, Bool, true, false, List, eqb, length}
 use Rattle.std.proofs.Common.{sym, ap, subst, arith}
 use Rattle.std.specs.Int.Bits.{bit_and}
@@ -13,12 +14,11 @@ use Rattle.omf51.specs.declared.Fixup.{Fixup}
 use Rattle.omf51.specs.declared.entry.Entries.TheVariants.{Definitions, Fixups}
 use Rattle.omf51.specs.Entry.{id_size, segment_size, is_segment, is_public, name_offset}
 use Rattle.library.specs.declared.items.Cursor.{Cursor}
-use Rattle.library.specs.declared.items.Step.{Step}
-use Rattle.library.specs.declared.items.Step.TheVariants.{Entry, Done}
-use Rattle.library.specs.declared.items.NextDefinition.TheVariants as NextDefinition
-use Rattle.library.specs.declared.items.NextFixup.TheVariants as NextFixup
+use Rattle.library.specs.declared.items.NextEntry.{NextEntry}
+use Rattle.library.specs.declared.items.NextDefinition.{NextDefinition}
+use Rattle.library.specs.declared.items.NextFixup.{NextFixup}
 use Rattle.library.specs.items.Walk.{next_entry}
-use Rattle.library.specs.items.Items.{definition_here, next_definition, definition_step, next_fixup, fixup_step}
+use Rattle.library.specs.items.Items.{definition_here, fixup_here, next_definition, definition_step, next_fixup, fixup_step}
 use Rattle.library.specs.items.ItemLaws.{step-whole, definition-room, segment-here, public-here, external-here}
 use Rattle.library.specs.items.ContentSizeLaws.{Bytes, word_small}
 
@@ -54,24 +54,27 @@ says_here library f at h = segment (is_segment f) refl
     segment true s = subst (Says library) (sym (segment-here library f at s)) (λ b. size_small library b (byte_at library (at + id_size f)) (at + id_size f + 5))
     segment false s = public s (is_public f) refl
 
-pub definition-says : (library : List ℕ) (c : Cursor) {definition : Definition} {rest : Cursor} → next_definition library c ≡ NextDefinition.Item definition rest → Says library definition
-definition-says library c {definition} {rest} = go (next_entry Definitions library c) refl
+pub definition-says : (library : List ℕ) (c : Cursor) {n : NextDefinition} → next_definition library c ≡ Some n → Says library n.definition
+definition-says library c {n} = go (next_entry Definitions library c) refl
   where
-    go : (s : Step) → next_entry Definitions library c ≡ s → definition_step library s ≡ NextDefinition.Item definition rest → Says library definition
-    go (Entry here end) q e =
+    go : (s : Option NextEntry) → next_entry Definitions library c ≡ s → definition_step library s ≡ Some n → Says library n.definition
+    go (Some s) q e =
+        let here = s.here in
         let w = step-whole Definitions library c q in
         let r = definition-room library here.frame here.at w.ends in
-        let d : definition_here library here.frame here.at ≡ definition = cc in
+        let d : definition_here library here.frame here.at ≡ n.definition = cc in
         subst (Says library) d (says_here library here.frame here.at (omega (arith, r, w.inside)))
-    go Done q e = let z : ◌≡◌ {A = ℕ} 0 1 = cc in absurd (omega arith)
+    go None q e = let z : ◌≡◌ {A = ℕ} 0 1 = cc in absurd (omega arith)
 
-pub public-again : (library : List ℕ) (c : Cursor) {id : ModuleId} {offset : ℕ} {name : Part} {rest : Cursor}
-    → next_definition library c ≡ NextDefinition.Item (Public id offset name) rest → PublicAgain library offset name
-public-again library c e = definition-says library c e
+pub public-again : (library : List ℕ) (c : Cursor) {n : NextDefinition} {id : ModuleId} {offset : ℕ} {name : Part}
+    → next_definition library c ≡ Some n → n.definition ≡ Public id offset name → PublicAgain library offset name
+public-again library c e p = subst (Says library) p (definition-says library c e)
 
-pub fixup-small : (library : List ℕ) (c : Cursor) {fixup : Fixup} {rest : Cursor} → Bytes library → next_fixup library c ≡ NextFixup.Item fixup rest → fixup.location < 65536
-fixup-small library c {fixup} {rest} b = go (next_entry Fixups library c)
+pub fixup-small : (library : List ℕ) (c : Cursor) {n : NextFixup} → Bytes library → next_fixup library c ≡ Some n → n.fixup.location < 65536
+fixup-small library c {n} b = go (next_entry Fixups library c)
   where
-    go : (s : Step) → fixup_step library s ≡ NextFixup.Item fixup rest → fixup.location < 65536
-    go (Entry here end) e = let q : word_at library here.at ≡ fixup.location = cc in omega (arith, q, word_small library b here.at)
-    go Done e = let z : ◌≡◌ {A = ℕ} 0 1 = cc in absurd (omega arith)
+    go : (s : Option NextEntry) → fixup_step library s ≡ Some n → n.fixup.location < 65536
+    go (Some s) e =
+        let q : fixup_here library s.here.frame s.here.at ≡ n.fixup = cc in
+        omega (arith, ap (λ (k : Fixup). k.location) q, word_small library b s.here.at)
+    go None e = let z : ◌≡◌ {A = ℕ} 0 1 = cc in absurd (omega arith)

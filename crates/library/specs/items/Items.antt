@@ -1,4 +1,5 @@
 -- What the entries say that a walk comes to: the next definition, the next fixup.
+use Rattle.std.specs.Prelude.{Option, Some, None}
 use Rattle.std.specs.Prelude.{ℕ, ◌+◌, List}
 use Rattle.lent.specs.declared.part.Part.{Part}
 use Rattle.lent.specs.Parts.{byte_at, word_at}
@@ -8,8 +9,7 @@ use Rattle.omf51.specs.declared.Fixup.{Fixup}
 use Rattle.omf51.specs.declared.entry.Entries.TheVariants.{Definitions, Fixups}
 use Rattle.omf51.specs.Entry.{name_part, id_size, id_at, name_offset, definition_of}
 use Rattle.library.specs.declared.items.Cursor.{Cursor}
-use Rattle.library.specs.declared.items.Step.{Step}
-use Rattle.library.specs.declared.items.Step.TheVariants.{Entry, Done}
+use Rattle.library.specs.declared.items.NextEntry.{NextEntry}
 use Rattle.library.specs.declared.items.NextDefinition.{NextDefinition}
 use Rattle.library.specs.declared.items.NextFixup.{NextFixup}
 use Rattle.library.specs.items.Walk.{next_entry}
@@ -34,16 +34,16 @@ fixup_here library f at = record {
 abbrev pub past : Cursor → ℕ → Cursor
 past c end = record { frame = c.frame; at = end; next = c.next }
 
-abbrev pub definition_step : List ℕ → Step → NextDefinition
-definition_step library (Entry here end) = NextDefinition.Item (definition_here library here.frame here.at) (past here end)
-definition_step library Done = NextDefinition.Done
+abbrev pub definition_step : List ℕ → Option NextEntry → Option NextDefinition
+definition_step library (Some e) = Some (record { definition = definition_here library e.here.frame e.here.at; rest = past e.here e.end })
+definition_step library None = None
 
-abbrev pub next_definition : List ℕ → Cursor → NextDefinition
+abbrev pub next_definition : List ℕ → Cursor → Option NextDefinition
 next_definition library c = definition_step library (next_entry Definitions library c)
 
-abbrev pub fixup_step : List ℕ → Step → NextFixup
-fixup_step library (Entry here end) = NextFixup.Item (fixup_here library here.frame here.at) (past here end)
-fixup_step library Done = NextFixup.Done
+abbrev pub fixup_step : List ℕ → Option NextEntry → Option NextFixup
+fixup_step library (Some e) = Some (record { fixup = fixup_here library e.here.frame e.here.at; rest = past e.here e.end })
+fixup_step library None = None
 
-abbrev pub next_fixup : List ℕ → Cursor → NextFixup
+abbrev pub next_fixup : List ℕ → Cursor → Option NextFixup
 next_fixup library c = fixup_step library (next_entry Fixups library c)

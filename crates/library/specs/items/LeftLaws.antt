@@ -1,4 +1,5 @@
 -- A STEP YIELDS WHAT IS LEFT: the next entry is the first of the definition's list, and the rest is left after it. Assumes nothing.
+use Rattle.std.specs.Prelude.{Option}
 use Prim.Native.Nat.{ℕ, zero, suc, ◌+◌, ◌-◌, ◌≤◌, ◌<◌}
 use Rattle.std.specs.Prelude.{◌≡◌, Bool, true, false, List, [], ◌∷◌, ◌++◌, leb, if◌then◌else◌}
 use Rattle.std.proofs.Math.Path.{refl}
@@ -7,8 +8,8 @@ use Rattle.std.proofs.Math.ListN.{length}
 use Rattle.lent.specs.Lists.{one}
 use Rattle.lent.specs.Parts.{byte_at}
 use Rattle.omf51.specs.declared.Frame.{Frame}
-use Rattle.omf51.specs.declared.End.{End}
-use Rattle.omf51.specs.declared.End.TheVariants.{At, Stop, Refused}
+use Rattle.omf51.specs.Ends.{End}
+use Rattle.std.specs.Prelude.{Some, None, Ok, Err}
 use Rattle.omf51.specs.declared.Edition.TheVariants.{One}
 use Rattle.omf51.specs.declared.entry.Entries.{Entries}
 use Rattle.omf51.specs.Reader.{read, Reader}
@@ -19,8 +20,7 @@ use Rattle.library.specs.EndLaws.{Halts, MovedEnd, items-none}
 use Rattle.library.specs.Passes.{holds, record_end}
 use Rattle.library.specs.PassLaws.{record-moved}
 use Rattle.library.specs.declared.items.Cursor.{Cursor}
-use Rattle.library.specs.declared.items.Step.{Step}
-use Rattle.library.specs.declared.items.Step.TheVariants.{Entry, Done}
+use Rattle.library.specs.declared.items.NextEntry.{NextEntry}
 use Rattle.library.specs.items.Walk.{start_at, entry_in, frame_to, entered_at, after_record, after_entry, steps, next_entry}
 use Rattle.library.specs.items.Items.{past}
 use Rattle.library.specs.items.ItemLaws.{entry_whole}
@@ -30,21 +30,21 @@ use Rattle.library.specs.items.Left.{left_in, left}
 pub record Walked {A : Type 0} (what : Entries) (library : List ℕ) (each : Frame → Reader (List A)) (records : Reader (List A)) (here : Frame → ℕ → A) : Type 0 where
   pub entry-ends : (f : Frame) (at : ℕ) → entry_end what library f at ≡ end_of (each f at)
   pub record-ends : (at : ℕ) → record_end what library at ≡ end_of (records at)
-  pub entry-reads : (f : Frame) (at : ℕ) {end : ℕ} → end_of (each f at) ≡ At end → each f at ≡ read (one (here f at)) end
+  pub entry-reads : (f : Frame) (at : ℕ) {end : ℕ} → end_of (each f at) ≡ Ok (Some end) → each f at ≡ read (one (here f at)) end
   pub entries-move : (f : Frame) → f.end ≤ length library → Moves library (each f)
   pub last-halts : (f : Frame) → Halts (end_of (each f f.end))
   pub records-move : Moves library records
-  pub enters : (at : ℕ) {next : ℕ} → end_of (records at) ≡ At next
+  pub enters : (at : ℕ) {next : ℕ} → end_of (records at) ≡ Ok (Some next)
       → items_at library records at ≡ (if holds what (byte_at library at) then items_at library (each (frame_to library at next)) (at + 3) else []) ++ items_at library records next
 
 module _ {A : Type 0} (what : Entries) (library : List ℕ) (each : Frame → Reader (List A)) (records : Reader (List A)) (here : Frame → ℕ → A)
     (w : Walked what library each records here) where
   -- a step, unwound
-  abbrev pub unwound : Step → List A
-  unwound (Entry c end) = here c.frame c.at ∷ left library each records (past c end)
-  unwound Done = []
+  abbrev pub unwound : Option NextEntry → List A
+  unwound (Some e) = here e.here.frame e.here.at ∷ left library each records (past e.here e.end)
+  unwound None = []
 
-  at_entry : (c : Cursor) {end : ℕ} → entry_in what library c ≡ At end → left library each records c ≡ unwound (Entry c end)
+  at_entry : (c : Cursor) {end : ℕ} → entry_in what library c ≡ Ok (Some end) → left library each records c ≡ unwound (Some (record { here = c; end = end }))
   at_entry c {end} e =
       let whole = entry_whole what library c e in
       let reads = w.entry-reads c.frame c.at (sym (w.entry-ends c.frame c.at) ∙ whole.ends) in
@@ -54,15 +54,15 @@ module _ {A : Type 0} (what : Entries) (library : List ℕ) (each : Frame → Re
   past-body : (c : Cursor) → Halts (entry_in what library c) → left library each records c ≡ items_at library records c.next
   past-body c = go (leb c.frame.end (length library)) (leb-true c.frame.end (length library))
     where
-      go : (t : Bool) → (t ≡ true → c.frame.end ≤ length library) → Halts (if t then entry_end what library c.frame c.at else Stop)
+      go : (t : Bool) → (t ≡ true → c.frame.end ≤ length library) → Halts (if t then entry_end what library c.frame c.at else Ok None)
           → (if t then items_at library (each c.frame) c.at else []) ++ items_at library records c.next ≡ items_at library records c.next
       go true l h = rw (items-none library (each c.frame) (w.entries-move c.frame (l refl)) c.at (sym (w.entry-ends c.frame c.at)) h)
       go false l h = refl
 
-  in-record : (at : ℕ) {next : ℕ} → record_end what library at ≡ At next → items_at library records at ≡ left library each records (entered_at what library at next)
+  in-record : (at : ℕ) {next : ℕ} → record_end what library at ≡ Ok (Some next) → items_at library records at ≡ left library each records (entered_at what library at next)
   in-record at {next} e =
       let f : Frame = frame_to library at next in
-      let m : MovedEnd library (at + 3) (At next) = record-moved One what library at e in
+      let m : MovedEnd library (at + 3) (Ok (Some next)) = record-moved One what library at e in
       let none = items-none library (each f) (w.entries-move f (omega (arith, m))) f.end refl (w.last-halts f) in
       let inside : left_in library each (entered_at what library at next) ≡ items_at library (each f) (if holds what (byte_at library at) then at + 3 else next - 1) =
       rw (le-leb f.end (length library) (omega (arith, m))) in
@@ -84,18 +84,18 @@ module _ {A : Type 0} (what : Entries) (library : List ℕ) (each : Frame → Re
     where
       later : (e : End) → record_end what library c.next ≡ e → ((k : Cursor) → length library - k.next < n → left library each records k ≡ unwound (steps n what library k))
           → items_at library records c.next ≡ unwound (after_record (steps n what library) what library c.next e)
-      later (At next) q rest =
-          let m : MovedEnd library (c.next + 3) (At next) = record-moved One what library c.next q in
+      later (Ok (Some next)) q rest =
+          let m : MovedEnd library (c.next + 3) (Ok (Some next)) = record-moved One what library c.next q in
           in-record c.next q ∙ rest (entered_at what library c.next next) (omega (arith, m, h))
-      later Stop q rest = no_record c.next (subst Halts (sym q) tt)
-      later (Refused r) q rest = no_record c.next (subst Halts (sym q) tt)
+      later (Ok None) q rest = no_record c.next (subst Halts (sym q) tt)
+      later (Err r) q rest = no_record c.next (subst Halts (sym q) tt)
 
       entry : (e : End) → entry_in what library c ≡ e → ((k : Cursor) → length library - k.next < n → left library each records k ≡ unwound (steps n what library k))
           → left library each records c
           ≡ unwound (after_entry (after_record (steps n what library) what library c.next (record_end what library c.next)) c e)
-      entry (At end) q rest = at_entry c q
-      entry Stop q rest = past-body c (subst Halts (sym q) tt) ∙ later (record_end what library c.next) refl rest
-      entry (Refused r) q rest = past-body c (subst Halts (sym q) tt) ∙ later (record_end what library c.next) refl rest
+      entry (Ok (Some end)) q rest = at_entry c q
+      entry (Ok None) q rest = past-body c (subst Halts (sym q) tt) ∙ later (record_end what library c.next) refl rest
+      entry (Err r) q rest = past-body c (subst Halts (sym q) tt) ∙ later (record_end what library c.next) refl rest
 
   pub step-yields : (c : Cursor) → left library each records c ≡ unwound (next_entry what library c)
   step-yields c = steps-yield (suc (length library)) c (omega arith)

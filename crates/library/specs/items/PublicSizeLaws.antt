@@ -1,6 +1,6 @@
 -- A public definition takes six bytes at least: its id, its info, its offset, a byte that is ignored, and the length of its name. Assumes nothing.
-use Rattle.std.specs.Prelude.{ℕ, ◌+◌, ◌≤◌, ◌≡◌, refl, Bool, true, false, List}
-use Rattle.std.proofs.Common.{sym, ap, subst, arith}
+use Rattle.std.specs.Prelude.{ℕ, ◌+◌, ◌≤◌, ◌≡◌, refl, Bool, true, false, List, Option, Some, None}
+use Rattle.std.proofs.Common.{sym, ap, subst, ◌∙◌, arith}
 use Rattle.lent.specs.declared.part.Part.{Part}
 use Rattle.omf51.specs.declared.Frame.{Frame}
 use Rattle.omf51.specs.declared.ModuleId.{ModuleId}
@@ -9,9 +9,8 @@ use Rattle.omf51.specs.declared.Definition.TheVariants.{Segment, Public, Externa
 use Rattle.omf51.specs.declared.entry.Entries.TheVariants.{Definitions}
 use Rattle.omf51.specs.Entry.{id_size, is_segment, is_public, name_offset}
 use Rattle.library.specs.declared.items.Cursor.{Cursor}
-use Rattle.library.specs.declared.items.Step.{Step}
-use Rattle.library.specs.declared.items.Step.TheVariants.{Entry, Done}
-use Rattle.library.specs.declared.items.NextDefinition.TheVariants as NextDefinition
+use Rattle.library.specs.declared.items.NextEntry.{NextEntry}
+use Rattle.library.specs.declared.items.NextDefinition.{NextDefinition}
 use Rattle.library.specs.items.Walk.{next_entry}
 use Rattle.library.specs.items.Items.{past, definition_here, next_definition, definition_step}
 use Rattle.library.specs.items.ItemLaws.{step-whole, definition-room, segment-here, public-here, external-here}
@@ -34,15 +33,17 @@ behind-here library f at = segment (is_segment f) refl
     segment true s = subst (Behind f) (sym (segment-here library f at s)) tt
     segment false s = public s (is_public f) refl
 
-pub public-sized : (library : List ℕ) (c : Cursor) → Ordered c → {id : ModuleId} {offset : ℕ} {name : Part} {rest : Cursor}
-    → next_definition library c ≡ NextDefinition.Item (Public id offset name) rest → Sized library 6 c rest
-public-sized library c o {id} {offset} {name} {rest} i = go (next_entry Definitions library c) refl i
+pub public-sized : (library : List ℕ) (c : Cursor) → Ordered c → {n : NextDefinition} {id : ModuleId} {offset : ℕ} {name : Part}
+    → next_definition library c ≡ Some n → n.definition ≡ Public id offset name → Sized library 6 c n.rest
+public-sized library c o {n} {id} {offset} {name} i is = go (next_entry Definitions library c) refl i
   where
-    go : (s : Step) → next_entry Definitions library c ≡ s → definition_step library s ≡ NextDefinition.Item (Public id offset name) rest → Sized library 6 c rest
-    go (Entry here end) q e =
-        let d : definition_here library here.frame here.at ≡ Public id offset name = cc in
-        let p : past here end ≡ rest = cc in
+    go : (s : Option NextEntry) → next_entry Definitions library c ≡ s → definition_step library s ≡ Some n → Sized library 6 c n.rest
+    go (Some s) q e =
+        let here = s.here in
+        let same : definition_here library here.frame here.at ≡ n.definition = cc in
+        let d : definition_here library here.frame here.at ≡ Public id offset name = same ∙ is in
+        let p : past here s.end ≡ n.rest = cc in
         let r = definition-room library here.frame here.at (step-whole Definitions library c q).ends in
         let b : 5 ≤ name_offset here.frame = subst (Behind here.frame) d (behind-here library here.frame here.at) in
         record { size-later = omega (arith, entry-later Definitions library c o q, r.0, b, ap (λ (k : Cursor). k.at) p); forward = (definition-sized library c o i).forward }
-    go Done q e = let z : ◌≡◌ {A = ℕ} 0 1 = cc in absurd (omega arith)
+    go None q e = let z : ◌≡◌ {A = ℕ} 0 1 = cc in absurd (omega arith)

@@ -3,6 +3,7 @@ ghost use Rattle.std.specs.Prelude.{◌≡◌, ◌+◌, ◌<◌, ◌≤◌, leng
 ghost use Rattle.omf51.specs.Entry.{id_size};
 ghost use Rattle.library.specs.items.Contents.{content_here, next_content};
 
+use crate::edition::EditionOne;
 use crate::items::NextContent;
 use crate::items::decoded::{id_at, word};
 use crate::items::entries::start;
@@ -10,9 +11,8 @@ use crate::repeat::section_end;
 use lent::part::Part;
 use omf51::read_entry::id_size;
 use omf51::read_record::record_at;
-use omf51::record::Framed;
 use omf51::types::Allowed;
-use omf51::{Content, End, Frame};
+use omf51::{Content, Frame};
 
 // The content in the body of a record, which has an id and an offset at least.
 fn content_of(library: &[u8], f: Frame) -> Content
@@ -33,24 +33,21 @@ fn content_of(library: &[u8], f: Frame) -> Content
 }
 
 // The next content of a module from a place on; records that are skipped among contents are passed over.
-pub fn next_content(library: &[u8], from: usize) -> NextContent
+pub fn next_content(library: &[u8], from: usize) -> Option<NextContent>
     ensures { result ≡ next_content library.now from }
 {
     let mut at = from;
-    loop {
-        let End::At(next) = section_end(library, at) else {
-            return NextContent::Done;
-        };
-        let framed = record_at(library, Allowed::Contents, at);
-        if let Framed::Read(f) = framed {
+    while let Ok(Some(next)) = section_end::<EditionOne>(library, at) {
+        if let Ok(Some(f)) = record_at(library, Allowed::Contents, at) {
             let content = content_of(library, f);
             let fixups = start(f.end + 1);
-            return NextContent::Item {
+            return Some(NextContent {
                 content,
                 fixups,
                 rest: next,
-            };
+            });
         }
         at = next;
     }
+    None
 }

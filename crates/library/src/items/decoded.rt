@@ -5,7 +5,7 @@ ghost use Rattle.omf51.specs.Entry.{id_at, name_offset};
 ghost use Rattle.library.specs.items.Items.{definition_here, fixup_here, next_definition, next_fixup};
 
 use crate::items::entries::{moved, next_entry, next_in_definitions};
-use crate::items::{Cursor, NextDefinition, NextFixup, Step};
+use crate::items::{Cursor, NextDefinition, NextFixup};
 use omf51::entry::Entries;
 use omf51::read_entry::{id_size, is_public, is_segment, name_at, name_offset};
 use omf51::read_record::{byte_at, word_at};
@@ -15,7 +15,7 @@ use omf51::{Definition, Fixup, Frame, ModuleId, segment_size};
 pub fn word(library: &[u8], at: usize) -> usize
     ensures { result ≡ word_at library.now at }
 {
-    word_at(library, at) as usize
+    usize::from(word_at(library, at))
 }
 
 // The id at a place: of two bytes in records of odd type, otherwise of one.
@@ -25,7 +25,7 @@ pub fn id_at(library: &[u8], f: Frame, at: usize) -> ModuleId
     if f.kind % 2 == 1 {
         return ModuleId(word_at(library, at));
     }
-    ModuleId(byte_at(library, at) as u16)
+    ModuleId(u16::from(byte_at(library, at)))
 }
 
 // The definition at a place where a whole definition stands.
@@ -74,38 +74,23 @@ fn fixup_of(library: &[u8], f: Frame, at: usize) -> Fixup
 }
 
 // The next definition of a module from a cursor on, and the cursor behind it.
-pub fn next_definition(library: &[u8], from: Cursor) -> NextDefinition
+pub fn next_definition(library: &[u8], from: Cursor) -> Option<NextDefinition>
     ensures { result ≡ next_definition library.now from }
 {
-    match next_in_definitions(library, from) {
-        Step::Entry { here, end } => {
-            let definition = definition_of(library, here.frame, here.at);
-            NextDefinition::Item {
-                definition,
-                rest: moved(here, end),
-            }
-        }
-        Step::Done => NextDefinition::Done,
-    }
+    let entry = next_in_definitions(library, from)?;
+    Some(NextDefinition {
+        definition: definition_of(library, entry.here.frame, entry.here.at),
+        rest: moved(entry.here, entry.end),
+    })
 }
 
 // The next fixup of a content from a cursor on, and the cursor behind it.
-pub fn next_fixup(library: &[u8], from: Cursor) -> NextFixup
+pub fn next_fixup(library: &[u8], from: Cursor) -> Option<NextFixup>
     ensures { result ≡ next_fixup library.now from }
 {
-    match next_entry(library, Entries::Fixups, from) {
-        Step::Entry { here, end } => {
-            let frame = here.frame;
-            let fixup = fixup_of(library, frame, here.at);
-            NextFixup::Item {
-                fixup,
-                rest: Cursor {
-                    frame,
-                    at: end,
-                    next: here.next,
-                },
-            }
-        }
-        Step::Done => NextFixup::Done,
-    }
+    let entry = next_entry(library, Entries::Fixups, from)?;
+    Some(NextFixup {
+        fixup: fixup_of(library, entry.here.frame, entry.here.at),
+        rest: moved(entry.here, entry.end),
+    })
 }

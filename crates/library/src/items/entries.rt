@@ -1,15 +1,16 @@
 // From entry to entry, through the records that hold definitions or fixups.
-ghost use Rattle.std.specs.Prelude.{◌≡◌, ◌+◌, ◌<◌, ◌≤◌, length};
+ghost use Rattle.std.specs.Prelude.{◌≡◌, ◌+◌, ◌<◌, ◌≤◌, length, Ok};
 ghost use Rattle.omf51.specs.declared.entry.Entries.TheVariants.{Definitions};
 ghost use Rattle.library.specs.items.Walk.{entry_in, entered_at, next_entry, start_at};
 ghost use Rattle.library.specs.items.Items.{past};
 
-use crate::items::{Cursor, Step};
-use crate::repeat::{holds, record_end};
+use crate::edition::{EditionOne, ReadBy};
+use crate::items::{Cursor, NextEntry};
+use crate::repeat::holds;
+use omf51::Frame;
 use omf51::entry::Entries;
 use omf51::read_entry::entry_end;
 use omf51::read_record::byte_at;
-use omf51::{End, Frame};
 
 // The cursor before the first record at a place: an empty body, with that record as the next.
 pub fn start(at: usize) -> Cursor
@@ -44,15 +45,15 @@ pub fn moved(c: Cursor, at: usize) -> Cursor
 
 // Where the entry at the cursor ends, if it is whole; a body that passes the library's end has no entry. Most often a walk stands
 // at its body's end, where none begins: that is asked here, so that the entry's kind is not looked at.
-fn entry_in(library: &[u8], what: Entries, c: Cursor) -> End
-    ensures { result ≡ entry_in what library.now c }
+fn entry_in(library: &[u8], what: Entries, c: Cursor) -> Option<usize>
+    ensures { Ok result ≡ entry_in what library.now c }
 {
     let frame = c.frame;
     if library.len() < frame.end {
-        return End::Stop;
+        return None;
     }
     if frame.end <= c.at {
-        return End::Stop;
+        return None;
     }
     entry_end(library, what, frame, c.at)
 }
@@ -79,22 +80,23 @@ fn entered(library: &[u8], what: Entries, at: usize, next: usize) -> Cursor
     }
 }
 
-// The next entry from the cursor on: in the cursor's body, or else in the records that follow.
-pub fn next_entry(library: &[u8], what: Entries, from: Cursor) -> Step
+// The next entry from the cursor on: in the cursor's body, or else in the records that follow. It is inlined, since its callers
+// clear the place for its answer each time otherwise: without that a run on `goal` takes 2.6 % more instructions.
+#[inline(always)]
+pub fn next_entry(library: &[u8], what: Entries, from: Cursor) -> Option<NextEntry>
     ensures { result ≡ next_entry what library.now from }
 {
     let mut c = from;
     loop {
-        let entry = entry_in(library, what, c);
-        if let End::At(end) = entry {
-            return Step::Entry {
+        if let Some(end) = entry_in(library, what, c) {
+            return Some(NextEntry {
                 here: moved(c, c.at),
                 end,
-            };
+            });
         }
         let at = c.next;
-        let End::At(next) = record_end(library, what, at) else {
-            return Step::Done;
+        let Ok(Some(next)) = EditionOne::record_end(library, what, at) else {
+            return None;
         };
         c = entered(library, what, at, next);
     }
@@ -102,21 +104,25 @@ pub fn next_entry(library: &[u8], what: Entries, from: Cursor) -> Step
 
 // The next definition from the cursor on. It mostly stands in the cursor's body or in the record that follows, so that these are
 // tried without a loop, and other records by a call.
-pub fn next_in_definitions(library: &[u8], from: Cursor) -> Step
+pub fn next_in_definitions(library: &[u8], from: Cursor) -> Option<NextEntry>
     ensures { result ≡ next_entry Definitions library.now from }
 {
-    let entry = entry_in(library, Entries::Definitions, from);
-    if let End::At(end) = entry {
-        return Step::Entry { here: from, end };
+    if let Some(end) = entry_in(library, Entries::Definitions, from) {
+        return Some(NextEntry {
+            here: moved(from, from.at),
+            end,
+        });
     }
     let at = from.next;
-    let End::At(next) = record_end(library, Entries::Definitions, at) else {
-        return Step::Done;
+    let Ok(Some(next)) = EditionOne::record_end(library, Entries::Definitions, at) else {
+        return None;
     };
     let c = entered(library, Entries::Definitions, at, next);
-    let first = entry_in(library, Entries::Definitions, c);
-    if let End::At(end) = first {
-        return Step::Entry { here: c, end };
+    if let Some(end) = entry_in(library, Entries::Definitions, c) {
+        return Some(NextEntry {
+            here: moved(c, c.at),
+            end,
+        });
     }
     next_entry(library, Entries::Definitions, c)
 }

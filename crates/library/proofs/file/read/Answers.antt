@@ -1,14 +1,16 @@
 -- `read`: the first byte tells a 2Ch library from bare modules. Assumes nothing.
-use mathlib.Core.Path.{◌≡◌, sym, ap, ◌∙◌}
+use Rattle.std.specs.Prelude.{◌+◌, ◌≡◌}
+use Rattle.std.proofs.Common.{sym, ◌∙◌}
 use native.Mathlib.Omega.{arith}
 use Rattle.lent.specs.Parts.{byte_at}
-use Rattle.omf51.specs.declared.record.Framed.{Framed}
+use Rattle.omf51.specs.Reader.{read}
 use Rattle.omf51.specs.Record.{expected_by}
 use Rattle.omf51.proofs.RecordLaws.{read_by}
-use Rattle.omf51.specs.Expected.{one_type, frame_read}
+use Rattle.omf51.proofs.Exits.{handed_on}
+use Rattle.omf51.specs.Expected.{one_type}
 use Rattle.library.specs.ReadingLaws.{bare-known, library-read, library-halts, library-refuses}
 use Rattle.library.proofs.file.read.Goals as goal
-use Rattle.library.proofs.file.read.Goals.{Else-byte_at-eq44, Then-byte_at-eq44}
+use Rattle.library.proofs.file.read.Goals.{Else-byte_at-eq44, Then-byte_at-eq44, In-Some}
 
 is : (c : Then-byte_at-eq44) → byte_at c.args.library.now 0 ≡ 0x2c
 is c =
@@ -18,34 +20,39 @@ is-not : (c : Else-byte_at-eq44) → byte_at c.args.library.now 0 ≡ 0x2c → �
 is-not c e =
     c.if-byte_at-eq44.false (c.byte_at.ensures ∙ e)
 
+framed : (c : In-Some) → let a = c.args in expected_by a.edition a.library.now (one_type 0x2c) 0 ≡ read c.in-Some.f (c.in-Some.f.end + 1)
+framed c =
+    sym (rw c.in-Some.is at c.in_ok-f.ensures)
+
+pub returns-in_err-f : goal.returns-in_err-f
+returns-in_err-f c =
+    let a = c.args in
+    handed_on c.from_residual.result c.from_residual.ensures.1
+    ∙ sym (library-refuses a.edition a.library.now (is (goal.at.returns-in_err-f c).Then-byte_at-eq44) (sym c.in_err-f.ensures))
+
+pub returns-in_default : goal.returns-in_default
+returns-in_default c =
+    let a = c.args in
+    sym (library-halts a.edition a.library.now (is (goal.at.returns-in_default c).Then-byte_at-eq44) (sym (rw c.in_default.is at c.in_ok-f.ensures)))
+
 pub overflow_add-f : goal.overflow_add-f
 overflow_add-f c =
-    let framed : (r : Framed) → c.record_by.result ≡ r → expected_by c.args.edition c.args.library.now (one_type 0x2c) 0 ≡ frame_read r = λ _ e. sym c.record_by.ensures ∙ ap frame_read e in
     let a = c.args in
-    omega (arith, read_by a.library.now (one_type 0x2c) 0 a.edition (framed _ c.in-Read.is))
+    omega (arith, read_by a.library.now (one_type 0x2c) 0 a.edition (framed (goal.at.overflow_add-f c).In-Some))
 
-pub returns-in-Read : goal.returns-in-Read
-returns-in-Read c =
-    let framed : (r : Framed) → c.record_by.result ≡ r → expected_by c.args.edition c.args.library.now (one_type 0x2c) 0 ≡ frame_read r = λ _ e. sym c.record_by.ensures ∙ ap frame_read e in
-    c.library_from.ensures ∙ sym (library-read c.args.edition c.args.library.now (is (goal.at.returns-in-Read c).Then-byte_at-eq44) (framed _ c.in-Read.is))
-
-pub returns-in-Stop : goal.returns-in-Stop
-returns-in-Stop c =
-    let framed : (r : Framed) → c.record_by.result ≡ r → expected_by c.args.edition c.args.library.now (one_type 0x2c) 0 ≡ frame_read r = λ _ e. sym c.record_by.ensures ∙ ap frame_read e in
-    sym (library-halts c.args.edition c.args.library.now (is (goal.at.returns-in-Stop c).Then-byte_at-eq44) (framed _ c.in-Stop.is))
-
-pub returns-in-Refused : goal.returns-in-Refused
-returns-in-Refused c =
-    let framed : (r : Framed) → c.record_by.result ≡ r → expected_by c.args.edition c.args.library.now (one_type 0x2c) 0 ≡ frame_read r = λ _ e. sym c.record_by.ensures ∙ ap frame_read e in
-    sym (library-refuses c.args.edition c.args.library.now (is (goal.at.returns-in-Refused c).Then-byte_at-eq44) (framed _ c.in-Refused.is))
-
-pub returns-in-Modules : goal.returns-in-Modules
-returns-in-Modules c =
+pub returns-then-byte_at-eq44 : goal.returns-then-byte_at-eq44
+returns-then-byte_at-eq44 c =
     let a = c.args in
-    c.used_reading.ensures
-    ∙ sym (bare-known a.edition a.library.now (is-not (goal.at.returns-in-Modules c).Else-byte_at-eq44) (sym c.modules_at.ensures ∙ c.in-Modules.is))
+    let p = goal.at.returns-then-byte_at-eq44 c in
+    c.library_from.ensures ∙ sym (library-read a.edition a.library.now (is p.Then-byte_at-eq44) (framed p.In-Some))
 
-pub returns-in-Refused-modules_at : goal.returns-in-Refused-modules_at
-returns-in-Refused-modules_at c =
+pub returns-in_err-modules : goal.returns-in_err-modules
+returns-in_err-modules c =
     let a = c.args in
-    sym (bare-known a.edition a.library.now (is-not (goal.at.returns-in-Refused-modules_at c).Else-byte_at-eq44) (sym c.modules_at.ensures ∙ c.in-Refused-modules_at.is))
+    handed_on c.from_residual-in_err-modules.result c.from_residual-in_err-modules.ensures.1
+    ∙ sym (bare-known a.edition a.library.now (is-not (goal.at.returns-in_err-modules c).Else-byte_at-eq44) (sym c.in_err-modules.ensures))
+
+pub returns : goal.returns
+returns c =
+    let a = c.args in
+    c.used_reading.ensures ∙ sym (bare-known a.edition a.library.now (is-not (goal.at.returns c).Else-byte_at-eq44) (sym c.in_ok-modules.ensures))

@@ -1,35 +1,36 @@
 -- `type_end`: the record's frame says it. Assumes nothing.
-use mathlib.Core.Path.{◌≡◌, sym, ap, ◌∙◌}
+use Rattle.std.specs.Prelude.{◌+◌, ◌≡◌}
+use Rattle.std.proofs.Common.{sym, ◌∙◌}
 use native.Mathlib.Omega.{arith}
-use Rattle.omf51.specs.declared.record.Framed.{Framed}
+use Rattle.omf51.specs.Reader.{read}
 use Rattle.omf51.specs.Record.{expected_by}
 use Rattle.omf51.proofs.RecordLaws.{read_by}
-use Rattle.omf51.specs.Expected.{one_type, frame_read}
-use Rattle.omf51.specs.Ends.{end_of}
-use Rattle.library.specs.Reading.{type_end}
+use Rattle.omf51.proofs.Exits.{handed_on}
+use Rattle.omf51.specs.Expected.{one_type}
 use Rattle.library.specs.ReadingLaws.{type-known}
 use Rattle.library.proofs.file.type_end.Goals as goal
+use Rattle.library.proofs.file.type_end.Goals.{In-Some}
+
+framed : (c : In-Some) → let a = c.args in expected_by a.edition a.library.now (one_type a.kind) a.at ≡ read c.in-Some.f (c.in-Some.f.end + 1)
+framed c =
+    sym (rw c.in-Some.is at c.in_ok-f.ensures)
+
+pub returns-in_err-f : goal.returns-in_err-f
+returns-in_err-f c =
+    let a = c.args in
+    handed_on c.from_residual.result c.from_residual.ensures.1 ∙ sym (type-known a.edition a.library.now a.kind a.at (sym c.in_err-f.ensures))
+
+pub returns-in_default : goal.returns-in_default
+returns-in_default c =
+    let a = c.args in
+    sym (type-known a.edition a.library.now a.kind a.at (sym (rw c.in_default.is at c.in_ok-f.ensures)))
 
 pub overflow_add-result : goal.overflow_add-result
 overflow_add-result c =
-    let framed : (r : Framed) → c.record_by.result ≡ r → expected_by c.args.edition c.args.library.now (one_type c.args.kind) c.args.at ≡ frame_read r = λ _ e. sym c.record_by.ensures ∙ ap frame_read e in
-    let a = c.args in omega
-    (arith, read_by a.library.now (one_type a.kind) a.at a.edition (framed _ c.in-Read.is))
+    let a = c.args in
+    omega (arith, read_by a.library.now (one_type a.kind) a.at a.edition (framed (goal.at.overflow_add-result c).In-Some))
 
-pub returns-in-Read : goal.returns-in-Read
-returns-in-Read c =
-    let framed : (r : Framed) → c.record_by.result ≡ r → expected_by c.args.edition c.args.library.now (one_type c.args.kind) c.args.at ≡ frame_read r = λ _ e. sym c.record_by.ensures ∙ ap frame_read e in
-    let ended : (r : Framed) → c.record_by.result ≡ r → end_of (frame_read r) ≡ type_end c.args.edition c.args.library.now c.args.kind c.args.at = λ _ e. let a = c.args in sym (type-known a.edition a.library.now a.kind a.at (framed _ e)) in
-    ended _ c.in-Read.is
-
-pub returns-in-Stop : goal.returns-in-Stop
-returns-in-Stop c =
-    let framed : (r : Framed) → c.record_by.result ≡ r → expected_by c.args.edition c.args.library.now (one_type c.args.kind) c.args.at ≡ frame_read r = λ _ e. sym c.record_by.ensures ∙ ap frame_read e in
-    let ended : (r : Framed) → c.record_by.result ≡ r → end_of (frame_read r) ≡ type_end c.args.edition c.args.library.now c.args.kind c.args.at = λ _ e. let a = c.args in sym (type-known a.edition a.library.now a.kind a.at (framed _ e)) in
-    ended _ c.in-Stop.is
-
-pub returns-in-Refused : goal.returns-in-Refused
-returns-in-Refused c =
-    let framed : (r : Framed) → c.record_by.result ≡ r → expected_by c.args.edition c.args.library.now (one_type c.args.kind) c.args.at ≡ frame_read r = λ _ e. sym c.record_by.ensures ∙ ap frame_read e in
-    let ended : (r : Framed) → c.record_by.result ≡ r → end_of (frame_read r) ≡ type_end c.args.edition c.args.library.now c.args.kind c.args.at = λ _ e. let a = c.args in sym (type-known a.edition a.library.now a.kind a.at (framed _ e)) in
-    ended _ c.in-Refused.is
+pub returns : goal.returns
+returns c =
+    let a = c.args in
+    sym (type-known a.edition a.library.now a.kind a.at (framed (goal.at.returns c).In-Some))

@@ -1,34 +1,34 @@
 -- `last_places`: the end record, and then its name beside the header's. Assumes nothing.
-use mathlib.Core.Path.{◌≡◌, sym, ap, ◌∙◌}
-use Rattle.omf51.specs.declared.Edition.TheVariants.{One}
-use Rattle.omf51.specs.declared.entry.Named.{Named}
-use Rattle.omf51.specs.Ends.{name_read}
+use Rattle.std.specs.Prelude.{◌≡◌}
+use Rattle.std.proofs.Common.{sym, ◌∙◌}
+use Rattle.omf51.proofs.Exits.{handed_on}
+use Rattle.omf51.specs.Reader.{read}
 use Rattle.library.specs.Passes.{last_by}
 use Rattle.library.specs.ModuleLaws.{last-known, last-same, last-differs}
+use Rattle.library.proofs.module.last_places.Given as given
 use Rattle.library.proofs.module.last_places.Goals as goal
+use Rattle.library.proofs.module.last_places.Goals.{In-Some}
 
-pub returns-then-same_name : goal.returns-then-same_name
-returns-then-same_name c =
-    let ended : (r : Named) → c.named_at.result ≡ r → last_by One c.args.library.now c.args.at ≡ name_read r = λ _ e. sym c.named_at.ensures ∙ ap name_read e in
+ended : (g : given.Over) (c : In-Some g) → last_by g.E.ReadBy.edition c.args.library.now c.args.at ≡ read c.in-Some.last.name c.in-Some.last.next
+ended g c =
+    sym (rw c.in-Some.is at c.in_ok-last.ensures)
+
+pub returns-in_err-last : goal.returns-in_err-last
+returns-in_err-last g c =
     let a = c.args in
-    sym (last-same One a.library.now a.name a.definitions a.contents a.at
-    (ended _ c.in-Read.is) (sym c.same_name.ensures ∙ c.if-same_name.true))
+    rw (handed_on c.from_residual.result c.from_residual.ensures.1) (sym (last-known g.E.ReadBy.edition a.library.now a.name a.definitions a.contents a.at (sym c.in_err-last.ensures)))
 
-pub returns-else-same_name : goal.returns-else-same_name
-returns-else-same_name c =
-    let ended : (r : Named) → c.named_at.result ≡ r → last_by One c.args.library.now c.args.at ≡ name_read r = λ _ e. sym c.named_at.ensures ∙ ap name_read e in
+pub returns-in_default : goal.returns-in_default
+returns-in_default g c =
     let a = c.args in
-    sym (last-differs One a.library.now a.name a.definitions a.contents a.at
-    (ended _ c.in-Read.is) (sym c.same_name.ensures ∙ c.if-same_name.false))
+    sym (last-known g.E.ReadBy.edition a.library.now a.name a.definitions a.contents a.at (sym (rw c.in_default.is at c.in_ok-last.ensures)))
 
-pub returns-in-Stop : goal.returns-in-Stop
-returns-in-Stop c =
-    let ended : (r : Named) → c.named_at.result ≡ r → last_by One c.args.library.now c.args.at ≡ name_read r = λ _ e. sym c.named_at.ensures ∙ ap name_read e in
-    let a = c.args in sym
-    (last-known One a.library.now a.name a.definitions a.contents a.at (ended _ c.in-Stop.is))
+pub returns-then-not-same_name : goal.returns-then-not-same_name
+returns-then-not-same_name g c =
+    let a = c.args in
+    sym (last-differs g.E.ReadBy.edition a.library.now a.name a.definitions a.contents a.at (ended g (goal.at.returns-then-not-same_name g c).In-Some) (sym c.same_name.ensures ∙ c.if-not-same_name.true))
 
-pub returns-in-Refused : goal.returns-in-Refused
-returns-in-Refused c =
-    let ended : (r : Named) → c.named_at.result ≡ r → last_by One c.args.library.now c.args.at ≡ name_read r = λ _ e. sym c.named_at.ensures ∙ ap name_read e in
-    let a = c.args in sym
-    (last-known One a.library.now a.name a.definitions a.contents a.at (ended _ c.in-Refused.is))
+pub returns : goal.returns
+returns g c =
+    let a = c.args in
+    sym (last-same g.E.ReadBy.edition a.library.now a.name a.definitions a.contents a.at (ended g (goal.at.returns g c).In-Some) (sym c.same_name.ensures ∙ c.if-not-same_name.false))

@@ -1,24 +1,20 @@
 -- `module_at`: the header, then the rest. Assumes nothing.
-use mathlib.Core.Path.{◌≡◌, sym, ap, ◌∙◌}
-use Rattle.omf51.specs.declared.Edition.TheVariants.{One}
-use Rattle.omf51.specs.declared.entry.Named.{Named}
-use Rattle.omf51.specs.Ends.{name_read}
-use Rattle.library.specs.Passes.{head_by}
+use Rattle.std.proofs.Common.{sym, ◌∙◌}
+use Rattle.omf51.proofs.Exits.{handed_on}
 use Rattle.library.specs.ModuleLaws.{head-known}
 use Rattle.library.proofs.module.module_at.Goals as goal
 
-pub returns-in-Read : goal.returns-in-Read
-returns-in-Read c =
-    let headed : (r : Named) → c.named_at.result ≡ r → head_by One c.args.library.now c.args.at ≡ name_read r = λ _ e. sym c.named_at.ensures ∙ ap name_read e in
-    let a = c.args in c.rest_places.ensures ∙ sym
-    (head-known One a.library.now a.at (headed _ c.in-Read.is))
+pub returns-in_err-head : goal.returns-in_err-head
+returns-in_err-head g c =
+    let a = c.args in
+    rw (handed_on c.from_residual.result c.from_residual.ensures.1) (sym (head-known g.E.ReadBy.edition a.library.now a.at (sym c.in_err-head.ensures)))
 
-pub returns-in-Stop : goal.returns-in-Stop
-returns-in-Stop c =
-    let headed : (r : Named) → c.named_at.result ≡ r → head_by One c.args.library.now c.args.at ≡ name_read r = λ _ e. sym c.named_at.ensures ∙ ap name_read e in
-    let a = c.args in sym (head-known One a.library.now a.at (headed _ c.in-Stop.is))
+pub returns-in_default : goal.returns-in_default
+returns-in_default g c =
+    let a = c.args in
+    sym (head-known g.E.ReadBy.edition a.library.now a.at (sym (rw c.in_default.is at c.in_ok-head.ensures)))
 
-pub returns-in-Refused : goal.returns-in-Refused
-returns-in-Refused c =
-    let headed : (r : Named) → c.named_at.result ≡ r → head_by One c.args.library.now c.args.at ≡ name_read r = λ _ e. sym c.named_at.ensures ∙ ap name_read e in
-    let a = c.args in sym (head-known One a.library.now a.at (headed _ c.in-Refused.is))
+pub returns : goal.returns
+returns g c =
+    let a = c.args in
+    c.rest_places.ensures ∙ sym (head-known g.E.ReadBy.edition a.library.now a.at (sym (rw c.in-Some.is at c.in_ok-head.ensures)))

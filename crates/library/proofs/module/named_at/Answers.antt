@@ -1,68 +1,67 @@
--- `named_at` of edition 1: the record, then room in its body for the name and what follows it. Assumes nothing.
-use Prim.Native.Nat.{◌+◌}
-use mathlib.Core.Path.{◌≡◌, refl, sym, ap, ◌∙◌}
+-- `named_at`: the record, then room in its body for the name and what follows it, then that nothing is left over. Assumes
+-- nothing.
+use Rattle.std.specs.Prelude.{◌+◌, ◌≡◌}
+use Rattle.std.proofs.Common.{sym, ◌∙◌}
 use native.Mathlib.Omega.{arith}
 use Rattle.lent.specs.Parts.{byte_at}
-use Rattle.omf51.specs.declared.Edition.TheVariants.{One}
-use Rattle.omf51.specs.declared.Frame.{Frame}
-use Rattle.omf51.specs.declared.record.Framed.{Framed}
+use Rattle.omf51.specs.Reader.{read}
 use Rattle.omf51.specs.Record.{expected_by}
-use Rattle.omf51.proofs.RecordLaws.{Fits, read_by, first-expected, record-framed}
+use Rattle.omf51.proofs.RecordLaws.{Fits, read_by, record-framed}
+use Rattle.omf51.proofs.Exits.{handed_on}
 use Rattle.omf51.specs.Entry.{name_with}
-use Rattle.omf51.proofs.EntryLaws.{named-cut, named-whole}
-use Rattle.omf51.specs.Expected.{frame_read, one_type}
+use Rattle.omf51.proofs.EntryLaws.{named-cut, named-whole, named-over}
+use Rattle.omf51.specs.Expected.{one_type}
+use Rattle.library.proofs.module.named_at.Given as given
 use Rattle.library.proofs.module.named_at.Goals as goal
-use Rattle.library.proofs.module.named_at.Goals.{After-wide}
+use Rattle.library.proofs.module.named_at.Goals.{In-Some, After-from}
 
-abbrev frame : (c : After-wide) → Frame
-frame c =
-    c.in-Read.f
+framed : (g : given.Over) (c : In-Some g) → let a = c.args in expected_by g.E.ReadBy.edition a.library.now (one_type a.kind) a.at ≡ read c.in-Some.f (c.in-Some.f.end + 1)
+framed g c =
+    sym (rw c.in-Some.is at c.in_ok-f.ensures)
 
-len : (c : After-wide) → c.wide-len.result ≡ byte_at c.args.library.now ((frame c)).body
-len c =
-    c.wide-len.ensures.0 ∙ c.byte_at.ensures
+fits : (g : given.Over) (c : In-Some g) → let a = c.args in Fits a.library.now a.at c.in-Some.f (c.in-Some.f.end + 1)
+fits g c =
+    let a = c.args in read_by a.library.now (one_type a.kind) a.at g.E.ReadBy.edition (framed g c)
+
+len : (g : given.Over) (c : After-from g) → c.from-len.result ≡ byte_at c.args.library.now c.in-Some.f.body
+len g c =
+    c.from-len.ensures ∙ c.byte_at.ensures
+
+pub returns-in_err-f : goal.returns-in_err-f
+returns-in_err-f g c =
+    let a = c.args in
+    rw (handed_on c.from_residual.result c.from_residual.ensures.1)
+    (sym (record-framed g.E.ReadBy.edition a.library.now (one_type a.kind) (name_with a.more a.library.now) a.at (sym c.in_err-f.ensures)))
+
+pub returns-in_default : goal.returns-in_default
+returns-in_default g c =
+    let a = c.args in
+    sym (record-framed g.E.ReadBy.edition a.library.now (one_type a.kind) (name_with a.more a.library.now) a.at (sym (rw c.in_default.is at c.in_ok-f.ensures)))
 
 pub overflow_sub-end : goal.overflow_sub-end
-overflow_sub-end c =
-    let framed : (r : Framed) → c.record_at.result ≡ r → expected_by One c.args.library.now (one_type c.args.kind) c.args.at ≡ frame_read r = λ _ e. let a = c.args in first-expected a.library.now (one_type a.kind) a.at ∙ sym c.record_at.ensures ∙ ap frame_read e in
-    let fits : Fits c.args.library.now c.args.at (frame c) (((frame c)).end + 1) = let a = c.args in read_by a.library.now (one_type a.kind) a.at One (framed _ c.in-Read.is) in
-    omega (arith, fits)
+overflow_sub-end g c =
+    omega (arith, fits g (goal.at.overflow_sub-end g c).In-Some)
 
 pub returns-then-end-body : goal.returns-then-end-body
-returns-then-end-body c =
-    let framed : (r : Framed) → c.record_at.result ≡ r → expected_by One c.args.library.now (one_type c.args.kind) c.args.at ≡ frame_read r = λ _ e. let a = c.args in first-expected a.library.now (one_type a.kind) a.at ∙ sym c.record_at.ensures ∙ ap frame_read e in
-    let fits : Fits c.args.library.now c.args.at (frame (goal.at.returns-then-end-body c).After-wide) (((frame (goal.at.returns-then-end-body c).After-wide)).end + 1) = let a = c.args in read_by a.library.now (one_type a.kind) a.at One (framed _ c.in-Read.is) in
+returns-then-end-body g c =
     let a = c.args in
-    sym (named-cut One a.library.now (one_type a.kind) a.more a.at (framed _ c.in-Read.is) (len (goal.at.returns-then-end-body c).After-wide) (omega (arith, c.wide.ensures.0, fits)))
+    let p = goal.at.returns-then-end-body g c in
+    sym (named-cut g.E.ReadBy.edition a.library.now (one_type a.kind) a.more a.at (framed g p.In-Some) (len g p.After-from) (omega (arith, c.from.ensures, fits g p.In-Some)))
 
-pub overflow_add-result : goal.overflow_add-result
-overflow_add-result c =
-    let framed : (r : Framed) → c.record_at.result ≡ r → expected_by One c.args.library.now (one_type c.args.kind) c.args.at ≡ frame_read r = λ _ e. let a = c.args in first-expected a.library.now (one_type a.kind) a.at ∙ sym c.record_at.ensures ∙ ap frame_read e in
-    let fits : Fits c.args.library.now c.args.at (frame (goal.at.overflow_add-result c).After-wide) (((frame (goal.at.overflow_add-result c).After-wide)).end + 1) = let a = c.args in read_by a.library.now (one_type a.kind) a.at One (framed _ c.in-Read.is) in
-    omega (arith, fits)
-
-pub overflow_add-result-in-Read : goal.overflow_add-result-in-Read
-overflow_add-result-in-Read c =
-    let framed : (r : Framed) → c.record_at.result ≡ r → expected_by One c.args.library.now (one_type c.args.kind) c.args.at ≡ frame_read r = λ _ e. let a = c.args in first-expected a.library.now (one_type a.kind) a.at ∙ sym c.record_at.ensures ∙ ap frame_read e in
-    let fits : Fits c.args.library.now c.args.at (frame (goal.at.overflow_add-result-in-Read c).After-wide) (((frame (goal.at.overflow_add-result-in-Read c).After-wide)).end + 1) = let a = c.args in read_by a.library.now (one_type a.kind) a.at One (framed _ c.in-Read.is) in
-    omega (arith, fits)
-
-pub returns-else-end-body : goal.returns-else-end-body
-returns-else-end-body c =
-    let framed : (r : Framed) → c.record_at.result ≡ r → expected_by One c.args.library.now (one_type c.args.kind) c.args.at ≡ frame_read r = λ _ e. let a = c.args in first-expected a.library.now (one_type a.kind) a.at ∙ sym c.record_at.ensures ∙ ap frame_read e in
-    let fits : Fits c.args.library.now c.args.at (frame (goal.at.returns-else-end-body c).After-wide) (((frame (goal.at.returns-else-end-body c).After-wide)).end + 1) = let a = c.args in read_by a.library.now (one_type a.kind) a.at One (framed _ c.in-Read.is) in
+pub returns-then-leaves_over : goal.returns-then-leaves_over
+returns-then-leaves_over g c =
     let a = c.args in
-    sym (named-whole One a.library.now (one_type a.kind) a.more a.at (framed _ c.in-Read.is) (len (goal.at.returns-else-end-body c).After-wide) {left = ((frame (goal.at.returns-else-end-body c).After-wide)).body + 1 + c.wide-len.result + a.more}
-    refl (omega (arith, c.wide.ensures.0, fits)) refl)
+    let p = goal.at.returns-then-leaves_over g c in
+    sym (named-over g.E.ReadBy.edition a.library.now (one_type a.kind) a.more a.at (framed g p.In-Some) (len g p.After-from) (omega (arith, c.from.ensures)) (omega (arith, fits g p.In-Some))
+    (sym c.leaves_over.ensures ∙ c.if-leaves_over.true))
 
-pub returns-in-Stop : goal.returns-in-Stop
-returns-in-Stop c =
-    let framed : (r : Framed) → c.record_at.result ≡ r → expected_by One c.args.library.now (one_type c.args.kind) c.args.at ≡ frame_read r = λ _ e. let a = c.args in first-expected a.library.now (one_type a.kind) a.at ∙ sym c.record_at.ensures ∙ ap frame_read e in
-    let a = c.args in
-    sym (record-framed One a.library.now (one_type a.kind) (name_with a.more a.library.now) a.at (framed _ c.in-Stop.is))
+pub overflow_add-result-2 : goal.overflow_add-result-2
+overflow_add-result-2 g c =
+    omega (arith, fits g (goal.at.overflow_add-result-2 g c).In-Some)
 
-pub returns-in-Refused : goal.returns-in-Refused
-returns-in-Refused c =
-    let framed : (r : Framed) → c.record_at.result ≡ r → expected_by One c.args.library.now (one_type c.args.kind) c.args.at ≡ frame_read r = λ _ e. let a = c.args in first-expected a.library.now (one_type a.kind) a.at ∙ sym c.record_at.ensures ∙ ap frame_read e in
+pub returns : goal.returns
+returns g c =
     let a = c.args in
-    sym (record-framed One a.library.now (one_type a.kind) (name_with a.more a.library.now) a.at (framed _ c.in-Refused.is))
+    let p = goal.at.returns g c in
+    sym (named-whole g.E.ReadBy.edition a.library.now (one_type a.kind) a.more a.at (framed g p.In-Some) (len g p.After-from) (omega (arith, c.from.ensures)) (omega (arith, fits g p.In-Some))
+    (sym c.leaves_over.ensures ∙ c.if-leaves_over.false))

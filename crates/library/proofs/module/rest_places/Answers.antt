@@ -1,40 +1,21 @@
 -- `rest_places`: definitions, contents, the end, each from where the one before ended. Assumes nothing.
-use mathlib.Core.Path.{◌≡◌, sym, ◌∙◌}
-use Rattle.omf51.specs.declared.Edition.TheVariants.{One}
-use Rattle.omf51.specs.declared.End.{End}
-use Rattle.omf51.specs.declared.entry.Entries.TheVariants.{Definitions}
-use Rattle.library.specs.Passes.{all_end_by}
+use Rattle.std.proofs.Common.{sym, ◌∙◌}
+use Rattle.omf51.proofs.Exits.{handed_on}
 use Rattle.library.specs.ModuleLaws.{rest-known, contents-known}
 use Rattle.library.proofs.module.rest_places.Goals as goal
 
-pub returns-in-At-skip_sections : goal.returns-in-At-skip_sections
-returns-in-At-skip_sections c =
-    let defined : (e : End) → c.skip.result ≡ e → all_end_by One Definitions c.args.library.now c.args.definitions ≡ e = λ _ e. sym c.skip.ensures ∙ e in
+pub returns-in_err-contents : goal.returns-in_err-contents
+returns-in_err-contents g c =
     let a = c.args in
-    c.last_places.ensures
-    ∙ sym (contents-known One a.library.now a.name a.definitions
-    (defined _ c.in-At.is) (sym c.skip_sections.ensures ∙ c.in-At-skip_sections.is))
+    rw (handed_on c.from_residual.result c.from_residual.ensures.1) (sym (rest-known g.E.ReadBy.edition a.library.now a.name a.definitions (sym c.in_err-contents.ensures)))
 
-pub returns-in-Stop-skip_sections : goal.returns-in-Stop-skip_sections
-returns-in-Stop-skip_sections c =
-    let defined : (e : End) → c.skip.result ≡ e → all_end_by One Definitions c.args.library.now c.args.definitions ≡ e = λ _ e. sym c.skip.ensures ∙ e in
+pub returns-in_err-at : goal.returns-in_err-at
+returns-in_err-at g c =
     let a = c.args in
-    sym (contents-known One a.library.now a.name a.definitions (defined _ c.in-At.is)
-    (sym c.skip_sections.ensures ∙ c.in-Stop-skip_sections.is))
+    rw (handed_on c.from_residual-in_err-at.result c.from_residual-in_err-at.ensures.1)
+    (sym (contents-known g.E.ReadBy.edition a.library.now a.name a.definitions (sym c.in_ok-contents.ensures) (sym c.in_err-at.ensures)))
 
-pub returns-in-Refused-skip_sections : goal.returns-in-Refused-skip_sections
-returns-in-Refused-skip_sections c =
-    let defined : (e : End) → c.skip.result ≡ e → all_end_by One Definitions c.args.library.now c.args.definitions ≡ e = λ _ e. sym c.skip.ensures ∙ e in
+pub returns : goal.returns
+returns g c =
     let a = c.args in
-    sym (contents-known One a.library.now a.name a.definitions (defined _ c.in-At.is)
-    (sym c.skip_sections.ensures ∙ c.in-Refused-skip_sections.is))
-
-pub returns-in-Stop : goal.returns-in-Stop
-returns-in-Stop c =
-    let defined : (e : End) → c.skip.result ≡ e → all_end_by One Definitions c.args.library.now c.args.definitions ≡ e = λ _ e. sym c.skip.ensures ∙ e in
-    let a = c.args in sym (rest-known One a.library.now a.name a.definitions (defined _ c.in-Stop.is))
-
-pub returns-in-Refused : goal.returns-in-Refused
-returns-in-Refused c =
-    let defined : (e : End) → c.skip.result ≡ e → all_end_by One Definitions c.args.library.now c.args.definitions ≡ e = λ _ e. sym c.skip.ensures ∙ e in
-    let a = c.args in sym (rest-known One a.library.now a.name a.definitions (defined _ c.in-Refused.is))
+    c.last_places.ensures ∙ sym (contents-known g.E.ReadBy.edition a.library.now a.name a.definitions (sym c.in_ok-contents.ensures) (sym c.in_ok-at.ensures))

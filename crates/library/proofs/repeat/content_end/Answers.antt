@@ -1,49 +1,58 @@
 -- `content_end`: the record, room for its id and offset, and then its fixups. Assumes nothing.
-use Prim.Native.Nat.{◌+◌}
-use mathlib.Core.Path.{◌≡◌, sym, ap, ◌∙◌}
+use Rattle.std.specs.Prelude.{◌+◌, ◌≡◌}
+use Rattle.std.proofs.Common.{sym, ◌∙◌}
 use native.Mathlib.Omega.{arith}
-use Rattle.omf51.specs.declared.Edition.TheVariants.{One}
-use Rattle.omf51.specs.declared.record.Framed.{Framed}
+use Rattle.omf51.specs.Reader.{read}
 use Rattle.omf51.specs.Record.{expected_by}
-use Rattle.omf51.proofs.RecordLaws.{Fits, read_by, first-expected}
+use Rattle.omf51.proofs.RecordLaws.{Fits, read_by}
+use Rattle.omf51.proofs.Exits.{handed_on}
 use Rattle.omf51.specs.Module.{fills}
-use Rattle.omf51.specs.Expected.{frame_read}
 use Rattle.library.specs.SectionLaws.{content-halts, content-refuses, content-cut, content-whole}
+use Rattle.library.proofs.repeat.content_end.Given as given
 use Rattle.library.proofs.repeat.content_end.Goals as goal
+use Rattle.library.proofs.repeat.content_end.Goals.{In-Some}
+
+framed : (g : given.Over) (c : In-Some g) → let a = c.args in expected_by g.E.ReadBy.edition a.library.now fills a.at ≡ read c.in-Some.f (c.in-Some.f.end + 1)
+framed g c =
+    let a = c.args in sym (rw c.in-Some.is at c.in_ok-f.ensures)
+
+fits : (g : given.Over) (c : In-Some g) → let a = c.args in Fits a.library.now a.at c.in-Some.f (c.in-Some.f.end + 1)
+fits g c =
+    let a = c.args in read_by a.library.now fills a.at g.E.ReadBy.edition (framed g c)
+
+pub returns-in_err-f : goal.returns-in_err-f
+returns-in_err-f g c =
+    let a = c.args in
+    handed_on c.from_residual.result c.from_residual.ensures.1 ∙ sym (content-refuses g.E.ReadBy.edition a.library.now a.at (sym c.in_err-f.ensures))
+
+pub returns-in_default : goal.returns-in_default
+returns-in_default g c =
+    let a = c.args in
+    sym (content-halts g.E.ReadBy.edition a.library.now a.at (sym (rw c.in_default.is at c.in_ok-f.ensures)))
 
 pub overflow_sub-end : goal.overflow_sub-end
-overflow_sub-end c =
-    let framed : (r : Framed) → c.record_at.result ≡ r → expected_by One c.args.library.now fills c.args.at ≡ frame_read r = λ _ e. let a = c.args in first-expected a.library.now fills a.at ∙ sym c.record_at.ensures ∙ ap frame_read e in
-    let fits : Fits c.args.library.now c.args.at c.in-Read.f (c.in-Read.f.end + 1) = let a = c.args in read_by a.library.now fills a.at One (framed _ c.in-Read.is) in
-    omega (arith, fits)
+overflow_sub-end g c =
+    omega (arith, fits g (goal.at.overflow_sub-end g c).In-Some)
 
 pub returns-then-end-body : goal.returns-then-end-body
-returns-then-end-body c =
-    let framed : (r : Framed) → c.record_at.result ≡ r → expected_by One c.args.library.now fills c.args.at ≡ frame_read r = λ _ e. let a = c.args in first-expected a.library.now fills a.at ∙ sym c.record_at.ensures ∙ ap frame_read e in
-    let fits : Fits c.args.library.now c.args.at c.in-Read.f (c.in-Read.f.end + 1) = let a = c.args in read_by a.library.now fills a.at One (framed _ c.in-Read.is) in
+returns-then-end-body g c =
     let a = c.args in
-    sym (content-cut One a.library.now a.at (framed _ c.in-Read.is) c.id_size.ensures.0 (omega (arith, fits)))
+    let p = (goal.at.returns-then-end-body g c).In-Some in
+    sym (content-cut g.E.ReadBy.edition a.library.now a.at (framed g p) c.id_size.ensures.0 (omega (arith, fits g p)))
 
 pub overflow_add-end : goal.overflow_add-end
-overflow_add-end c =
-    let framed : (r : Framed) → c.record_at.result ≡ r → expected_by One c.args.library.now fills c.args.at ≡ frame_read r = λ _ e. let a = c.args in first-expected a.library.now fills a.at ∙ sym c.record_at.ensures ∙ ap frame_read e in
-    let fits : Fits c.args.library.now c.args.at c.in-Read.f (c.in-Read.f.end + 1) = let a = c.args in read_by a.library.now fills a.at One (framed _ c.in-Read.is) in
-    omega (arith, fits)
+overflow_add-end g c =
+    omega (arith, fits g (goal.at.overflow_add-end g c).In-Some)
 
-pub returns-else-end-body : goal.returns-else-end-body
-returns-else-end-body c =
-    let framed : (r : Framed) → c.record_at.result ≡ r → expected_by One c.args.library.now fills c.args.at ≡ frame_read r = λ _ e. let a = c.args in first-expected a.library.now fills a.at ∙ sym c.record_at.ensures ∙ ap frame_read e in
-    let fits : Fits c.args.library.now c.args.at c.in-Read.f (c.in-Read.f.end + 1) = let a = c.args in read_by a.library.now fills a.at One (framed _ c.in-Read.is) in
+pub returns-in_err-skip : goal.returns-in_err-skip
+returns-in_err-skip g c =
     let a = c.args in
-    c.skip.ensures ∙ sym (content-whole One a.library.now a.at (framed _ c.in-Read.is)
-    c.id_size.ensures.0 (omega (arith, fits)))
+    let p = (goal.at.returns-in_err-skip g c).In-Some in
+    handed_on c.from_residual-in_err-skip.result c.from_residual-in_err-skip.ensures.1 ∙ c.in_err-skip.ensures
+    ∙ sym (content-whole g.E.ReadBy.edition a.library.now a.at (framed g p) c.id_size.ensures.0 (omega (arith, fits g p)))
 
-pub returns-in-Stop : goal.returns-in-Stop
-returns-in-Stop c =
-    let framed : (r : Framed) → c.record_at.result ≡ r → expected_by One c.args.library.now fills c.args.at ≡ frame_read r = λ _ e. let a = c.args in first-expected a.library.now fills a.at ∙ sym c.record_at.ensures ∙ ap frame_read e in
-    let a = c.args in sym (content-halts One a.library.now a.at (framed _ c.in-Stop.is))
-
-pub returns-in-Refused : goal.returns-in-Refused
-returns-in-Refused c =
-    let framed : (r : Framed) → c.record_at.result ≡ r → expected_by One c.args.library.now fills c.args.at ≡ frame_read r = λ _ e. let a = c.args in first-expected a.library.now fills a.at ∙ sym c.record_at.ensures ∙ ap frame_read e in
-    let a = c.args in sym (content-refuses One a.library.now a.at (framed _ c.in-Refused.is))
+pub returns : goal.returns
+returns g c =
+    let a = c.args in
+    let p = (goal.at.returns g c).In-Some in
+    c.in_ok-skip.ensures ∙ sym (content-whole g.E.ReadBy.edition a.library.now a.at (framed g p) c.id_size.ensures.0 (omega (arith, fits g p)))

@@ -1,45 +1,49 @@
 -- `section_end`: the type byte tells a content from a record that is skipped. Assumes nothing.
-use mathlib.Core.Path.{◌≡◌, sym, ap, ◌∙◌}
+use Rattle.std.specs.Prelude.{◌+◌, ◌≡◌, false}
+use Rattle.std.proofs.Common.{sym, ap, ◌∙◌}
 use native.Mathlib.Omega.{arith}
-use Rattle.omf51.specs.declared.Edition.TheVariants.{One}
-use Rattle.omf51.specs.declared.record.Framed.{Framed}
+use Rattle.omf51.specs.Reader.{read}
 use Rattle.omf51.specs.Record.{expected_by}
-use Rattle.omf51.proofs.RecordLaws.{read_by, first-expected}
-use Rattle.omf51.specs.Module.{fills, is_idle, sections_by}
-use Rattle.omf51.specs.Expected.{frame_read}
-use Rattle.omf51.specs.Ends.{end_of}
+use Rattle.lent.specs.Parts.{byte_at}
+use Rattle.omf51.proofs.RecordLaws.{read_by}
+use Rattle.omf51.proofs.Exits.{handed_on}
+use Rattle.omf51.specs.Module.{fills, is_idle}
 use Rattle.library.specs.SectionLaws.{section-content, section-idle}
+use Rattle.library.proofs.repeat.section_end.Given as given
 use Rattle.library.proofs.repeat.section_end.Goals as goal
+use Rattle.library.proofs.repeat.section_end.Goals.{In-Some, Else-fills}
+
+framed : (g : given.Over) (c : In-Some g) → let a = c.args in expected_by g.E.ReadBy.edition a.library.now is_idle a.at ≡ read c.in-Some.f (c.in-Some.f.end + 1)
+framed g c =
+    let a = c.args in sym (rw c.in-Some.is at c.in_ok-f.ensures)
+
+other : (g : given.Over) (c : Else-fills g) → fills (byte_at c.args.library.now c.args.at) ≡ false
+other g c =
+    ap fills (sym c.byte_at.ensures) ∙ sym c.fills.ensures ∙ c.if-fills.false
 
 pub returns-then-fills : goal.returns-then-fills
-returns-then-fills c =
+returns-then-fills g c =
     let a = c.args in
-    c.content_end.ensures ∙ sym (section-content One a.library.now a.at
-    (ap fills (sym c.byte_at.ensures) ∙ sym c.fills.ensures ∙ c.if-fills.true))
+    c.content_end.ensures ∙ sym (section-content g.E.ReadBy.edition a.library.now a.at (ap fills (sym c.byte_at.ensures) ∙ sym c.fills.ensures ∙ c.if-fills.true))
+
+pub returns-in_err-f : goal.returns-in_err-f
+returns-in_err-f g c =
+    let a = c.args in
+    handed_on c.from_residual.result c.from_residual.ensures.1
+    ∙ sym (section-idle g.E.ReadBy.edition a.library.now a.at (other g (goal.at.returns-in_err-f g c).Else-fills) (sym c.in_err-f.ensures))
+
+pub returns-in_default : goal.returns-in_default
+returns-in_default g c =
+    let a = c.args in
+    sym (section-idle g.E.ReadBy.edition a.library.now a.at (other g (goal.at.returns-in_default g c).Else-fills) (sym (rw c.in_default.is at c.in_ok-f.ensures)))
 
 pub overflow_add-result : goal.overflow_add-result
-overflow_add-result c =
-    let framed : (r : Framed) → c.record_at.result ≡ r → expected_by One c.args.library.now is_idle c.args.at ≡ frame_read r = λ _ e. let a = c.args in first-expected a.library.now is_idle a.at ∙ sym c.record_at.ensures ∙ ap frame_read e in
-    let a = c.args in omega
-    (arith, read_by a.library.now is_idle a.at One (framed _ c.in-Read.is))
+overflow_add-result g c =
+    let a = c.args in
+    omega (arith, read_by a.library.now is_idle a.at g.E.ReadBy.edition (framed g (goal.at.overflow_add-result g c).In-Some))
 
-pub returns-in-Read : goal.returns-in-Read
-returns-in-Read c =
-    let framed : (r : Framed) → c.record_at.result ≡ r → expected_by One c.args.library.now is_idle c.args.at ≡ frame_read r = λ _ e. let a = c.args in first-expected a.library.now is_idle a.at ∙ sym c.record_at.ensures ∙ ap frame_read e in
-    let idle : (r : Framed) → c.record_at.result ≡ r → end_of (sections_by One c.args.library.now c.args.at) ≡ end_of (frame_read r) = λ _ e. let a = c.args in
-    section-idle One a.library.now a.at (ap fills (sym c.byte_at.ensures) ∙ sym c.fills.ensures ∙ c.if-fills.false) (framed _ e) in
-    sym (idle _ c.in-Read.is)
-
-pub returns-in-Stop : goal.returns-in-Stop
-returns-in-Stop c =
-    let framed : (r : Framed) → c.record_at.result ≡ r → expected_by One c.args.library.now is_idle c.args.at ≡ frame_read r = λ _ e. let a = c.args in first-expected a.library.now is_idle a.at ∙ sym c.record_at.ensures ∙ ap frame_read e in
-    let idle : (r : Framed) → c.record_at.result ≡ r → end_of (sections_by One c.args.library.now c.args.at) ≡ end_of (frame_read r) = λ _ e. let a = c.args in
-    section-idle One a.library.now a.at (ap fills (sym c.byte_at.ensures) ∙ sym c.fills.ensures ∙ c.if-fills.false) (framed _ e) in
-    sym (idle _ c.in-Stop.is)
-
-pub returns-in-Refused : goal.returns-in-Refused
-returns-in-Refused c =
-    let framed : (r : Framed) → c.record_at.result ≡ r → expected_by One c.args.library.now is_idle c.args.at ≡ frame_read r = λ _ e. let a = c.args in first-expected a.library.now is_idle a.at ∙ sym c.record_at.ensures ∙ ap frame_read e in
-    let idle : (r : Framed) → c.record_at.result ≡ r → end_of (sections_by One c.args.library.now c.args.at) ≡ end_of (frame_read r) = λ _ e. let a = c.args in
-    section-idle One a.library.now a.at (ap fills (sym c.byte_at.ensures) ∙ sym c.fills.ensures ∙ c.if-fills.false) (framed _ e) in
-    sym (idle _ c.in-Refused.is)
+pub returns : goal.returns
+returns g c =
+    let a = c.args in
+    let p = goal.at.returns g c in
+    sym (section-idle g.E.ReadBy.edition a.library.now a.at (other g p.Else-fills) (framed g p.In-Some))

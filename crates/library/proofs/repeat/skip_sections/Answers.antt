@@ -1,21 +1,27 @@
-use mathlib.Core.Path.{sym, ◌∙◌}
+-- `skip_sections`: from content to content. Assumes nothing.
+use Rattle.std.proofs.Common.{sym, ◌∙◌}
 use native.Mathlib.Omega.{arith}
-use Rattle.omf51.specs.declared.Edition.TheVariants.{One}
+use Rattle.omf51.proofs.Exits.{handed_on}
 use Rattle.library.specs.SectionLaws.{sections-turn, section-moved}
 use Rattle.library.proofs.repeat.skip_sections.Goals as goal
 
+pub returns-in_err-next : goal.returns-in_err-next
+returns-in_err-next g c =
+    let a = c.args in
+    rw (handed_on c.from_residual.result c.from_residual.ensures.1)
+    (sym (sections-turn g.E.ReadBy.edition a.library.now c.loop-next.at (sym c.in_err-next.ensures)) ∙ c.loop-next.invariant)
+
 pub loop-next-smaller : goal.loop-next-smaller
-loop-next-smaller c =
-    omega (arith, section-moved One c.args.library.now c.loop-next.at (sym c.section_end.ensures ∙ c.in-At.is))
+loop-next-smaller g c =
+    let a = c.args in
+    omega (arith, section-moved g.E.ReadBy.edition a.library.now c.loop-next.at (sym (rw c.in-Some.is at c.in_ok-next.ensures)))
 
 pub loop-next-preserved : goal.loop-next-preserved
-loop-next-preserved c =
-    sym (sections-turn One c.args.library.now c.loop-next.at (sym c.section_end.ensures ∙ c.in-At.is)) ∙ c.loop-next.invariant
+loop-next-preserved g c =
+    let a = c.args in
+    sym (sections-turn g.E.ReadBy.edition a.library.now c.loop-next.at (sym (rw c.in-Some.is at c.in_ok-next.ensures))) ∙ c.loop-next.invariant
 
-pub returns-in-Stop : goal.returns-in-Stop
-returns-in-Stop c =
-    sym (sections-turn One c.args.library.now c.loop-next.at (sym c.section_end.ensures ∙ c.in-Stop.is)) ∙ c.loop-next.invariant
-
-pub returns-in-Refused : goal.returns-in-Refused
-returns-in-Refused c =
-    sym (sections-turn One c.args.library.now c.loop-next.at (sym c.section_end.ensures ∙ c.in-Refused.is)) ∙ c.loop-next.invariant
+pub returns : goal.returns
+returns g c =
+    let a = c.args in
+    sym (sections-turn g.E.ReadBy.edition a.library.now c.loop-next.at (sym (rw c.in_default.is at c.in_ok-next.ensures))) ∙ c.loop-next.invariant

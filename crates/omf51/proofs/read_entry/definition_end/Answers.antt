@@ -17,12 +17,12 @@ pub returns-then-end-name : goal.returns-then-end-name
 returns-then-end-name c =
     let a = c.args in
     let here = ap (λ n. a.at + n) c.name_offset-before.ensures.0 in
-    let len = c.wide-len.ensures.0 ∙ c.byte_at.ensures in
+    let len = c.from-len.ensures ∙ c.byte_at.ensures in
     sym (definition-cut a.library.now a.f a.at here (omega (arith, len)))
 
 pub returns : goal.returns
 returns c =
     let a = c.args in
     let here = ap (λ n. a.at + n) c.name_offset-before.ensures.0 in
-    let len = c.wide-len.ensures.0 ∙ c.byte_at.ensures in
+    let len = c.from-len.ensures ∙ c.byte_at.ensures in
     rw len (sym (definition-whole a.library.now a.f a.at here (omega (arith, len))))

@@ -15,19 +15,19 @@ returns-then-library-at c =
 pub returns-then-len-eq0 : goal.returns-then-len-eq0
 returns-then-len-eq0 c =
     let a = c.args in
-    sym (frame-empty a.library.now a.at (omega arith) (sym c.word_at-len.ensures ∙ c.if-len-eq0.true))
+    sym (frame-empty a.library.now a.at (omega arith) (sym (c.from-len.ensures ∙ c.word_at.ensures) ∙ c.if-len-eq0.true))
 
 pub returns-then-room-len : goal.returns-then-room-len
 returns-then-room-len c =
     let a = c.args in
-    sym (frame_past a.library.now a.at (omega arith) c.word_at-len.ensures c.if-len-eq0.false (omega arith))
+    sym (frame_past a.library.now a.at (omega arith) (c.from-len.ensures ∙ c.word_at.ensures) c.if-len-eq0.false (omega arith))
 
 pub returns-then-room-len-2 : goal.returns-then-room-len-2
 returns-then-room-len-2 c =
     let a = c.args in
-    sym (frame-unclosed a.library.now a.at (omega arith) c.word_at-len.ensures c.if-len-eq0.false (omega arith))
+    sym (frame-unclosed a.library.now a.at (omega arith) (c.from-len.ensures ∙ c.word_at.ensures) c.if-len-eq0.false (omega arith))
 
 pub returns : goal.returns
 returns c =
     let a = c.args in
-    sym (frame-whole a.library.now a.at (omega arith) c.word_at-len.ensures c.if-len-eq0.false (omega arith))
+    sym (frame-whole a.library.now a.at (omega arith) (c.from-len.ensures ∙ c.word_at.ensures) c.if-len-eq0.false (omega arith))

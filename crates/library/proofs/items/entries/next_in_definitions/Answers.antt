@@ -1,58 +1,52 @@
 -- `next_in_definitions`: in the cursor's body, or in the next record, or else as `next_entry` goes on from there. Assumes nothing.
-use Prim.Native.Nat.{suc}
-use mathlib.Core.Path.{◌≡◌, sym, ap, subst, ◌∙◌}
-use mathlib.Core.Path.{refl}
-use Prim.Native.Nat.{ℕ}
+use Rattle.std.specs.Prelude.{suc, ◌≡◌, length, None, Ok}
+use Rattle.std.proofs.Common.{sym, ap, subst, ◌∙◌, rules}
 use native.Mathlib.Omega.{arith}
-use lib.ListN.{length}
-use Rattle.omf51.specs.declared.End.{End}
-use Rattle.omf51.specs.declared.End.TheVariants.{At, Stop, Refused}
 use Rattle.omf51.specs.declared.entry.Entries.TheVariants.{Definitions}
 use Rattle.omf51.specs.declared.Edition.TheVariants.{One}
 use Rattle.library.specs.EndLaws.{Halts}
 use Rattle.library.specs.PassLaws.{record-moved}
-use Rattle.library.specs.items.Walk.{entry_in, next_entry}
+use Rattle.library.specs.items.Walk.{next_entry}
 use Rattle.library.specs.items.WalkLaws.{step-item, step-done, next-record}
 use Rattle.library.proofs.items.entries.next_in_definitions.Goals as goal
-use Rattle.library.proofs.items.entries.next_in_definitions.Goals.{In_default}
+use Rattle.library.proofs.items.entries.next_in_definitions.Goals.{After-entered-c}
 
-halts : (e : End) → ((k : ℕ) → e ≡ At k → ⊥) → Halts e
-halts (At k) never = absurd (never k refl)
-halts Stop never = tt
-halts (Refused r) never = tt
-
-no-entry : (c : In_default) → Halts (entry_in Definitions c.args.library.now c.args.from)
-no-entry c =
-    subst Halts c.entry_in-entry.ensures (halts c.entry_in-entry.result c.in_default.not-At)
-
-pub entered-c-requires : goal.entered-c-requires
-entered-c-requires c =
+-- in the record that follows
+moved : (c : After-entered-c) → let a = c.args in next_entry Definitions a.library.now a.from ≡ next_entry Definitions a.library.now c.entered-c.result
+moved c =
     let a = c.args in
-    record-moved One Definitions a.library.now a.from.next (sym c.record_end.ensures ∙ c.in-At-record_end.is)
+    next-record Definitions a.library.now a.from (subst Halts c.in_default.ensures tt) (sym (rw c.in-Ok-Some.field-0-is at c.in-Ok-Some.ensures))
+    ∙ ap (next_entry Definitions a.library.now) (sym c.entered-c.ensures)
 
-pub returns-in-At : goal.returns-in-At
-returns-in-At c =
+pub returns-in-Some : goal.returns-in-Some
+returns-in-Some c =
     let a = c.args in
-    sym (step-item (suc (length a.library.now)) Definitions a.library.now a.from (omega arith) (sym c.entry_in-entry.ensures ∙ c.in-At.is))
+    rw c.moved.ensures (sym (step-item (suc (length a.library.now)) Definitions a.library.now a.from (omega arith) (sym c.in-Some.ensures)))
 
 pub returns-in_default-record_end : goal.returns-in_default-record_end
 returns-in_default-record_end c =
     let a = c.args in
-    let none = subst Halts c.record_end.ensures (halts c.record_end.result c.in_default-record_end.not-At) in
-    sym (step-done (suc (length a.library.now)) Definitions a.library.now a.from (omega arith) (no-entry (goal.at.returns-in_default-record_end c).In_default) none)
+    let none : c.record_end.result ≡ Ok None = search rules in
+    sym (step-done (suc (length a.library.now)) Definitions a.library.now a.from (omega arith) (subst Halts c.in_default.ensures tt) (subst Halts (rw none at c.record_end.ensures) tt))
 
-pub returns-in-At-first : goal.returns-in-At-first
-returns-in-At-first c =
-    let entered : let a = c.args in next_entry Definitions a.library.now a.from ≡ next_entry Definitions a.library.now c.entered-c.result = let a = c.args in
-    next-record Definitions a.library.now a.from (no-entry (goal.at.returns-in-At-first c).In_default) (sym c.record_end.ensures ∙ c.in-At-record_end.is)
-    ∙ ap (next_entry Definitions a.library.now) (sym c.entered-c.ensures) in
+pub returns-in_default-record_end-2 : goal.returns-in_default-record_end-2
+returns-in_default-record_end-2 c =
     let a = c.args in
-    sym (entered ∙ step-item (suc (length a.library.now)) Definitions a.library.now c.entered-c.result (omega arith)
-    (sym c.entry_in-first.ensures ∙ c.in-At-first.is))
+    sym (step-done (suc (length a.library.now)) Definitions a.library.now a.from (omega arith) (subst Halts c.in_default.ensures tt)
+    (subst Halts (rw c.in_default-record_end.is at c.record_end.ensures) tt))
+
+pub entered-c-requires : goal.entered-c-requires
+entered-c-requires c =
+    let a = c.args in
+    record-moved One Definitions a.library.now a.from.next (sym (rw c.in-Ok-Some.field-0-is at c.in-Ok-Some.ensures))
+
+pub returns-in-Some-entry_in : goal.returns-in-Some-entry_in
+returns-in-Some-entry_in c =
+    let a = c.args in
+    rw c.moved-in-Some-entry_in.ensures
+    (sym (moved (goal.at.returns-in-Some-entry_in c).After-entered-c
+    ∙ step-item (suc (length a.library.now)) Definitions a.library.now c.entered-c.result (omega arith) (sym c.in-Some-entry_in.ensures)))
 
 pub returns : goal.returns
 returns c =
-    let entered : let a = c.args in next_entry Definitions a.library.now a.from ≡ next_entry Definitions a.library.now c.entered-c.result = let a = c.args in
-    next-record Definitions a.library.now a.from (no-entry (goal.at.returns c).In_default) (sym c.record_end.ensures ∙ c.in-At-record_end.is)
-    ∙ ap (next_entry Definitions a.library.now) (sym c.entered-c.ensures) in
-    c.next_entry.ensures ∙ sym (entered)
+    c.next_entry.ensures ∙ sym (moved (goal.at.returns c).After-entered-c)
