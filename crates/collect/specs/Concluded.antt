@@ -3,7 +3,7 @@ use Rattle.std.specs.Prelude.{ℕ, ◌≡◌, List}
 use Rattle.image.specs.declared.fixup.Rules.{Rules}
 use Rattle.omf51.specs.Module.{Module}
 use Rattle.segments.specs.Collect.{collect}
-use Rattle.collect.specs.declared.stored.Stored.{Stored}
+use Rattle.collect.specs.stored.Rows.{Stored}
 use Rattle.collect.specs.stored.Stores.{CollectLists, After, SameLengths}
 use Rattle.collect.specs.Outcome.{CollectOutcome, collection}
 

@@ -22,8 +22,8 @@ use Rattle.segments.proofs.SegmentRowLaws.{bytes_take, masks-take}
 use Rattle.collect.specs.declared.stored.CollectCounts.{CollectCounts}
 use Rattle.collect.specs.stored.Stores.{CollectLists, references_in, symbols_in, Room, Stores, SameLengths}
 use Rattle.collect.specs.stored.Segments.{lists}
-use Rattle.collect.specs.declared.Collection.{Collection}
-use Rattle.collect.specs.declared.Collection.TheVariants.{Done, Refused}
+use Rattle.std.specs.Prelude.{Result}
+use Rattle.std.specs.Prelude.{Ok, Err}
 use Rattle.collect.specs.all_modules.All.{nothing}
 use Rattle.collect.specs.all_modules.AllLaws.{stores-none}
 use Rattle.collect.specs.Outcome.{CollectOutcome, counted_in, too_few, refusal_of, collect_zeroed, collect_filled, collect_outcome_of, collection}
@@ -70,7 +70,7 @@ zeroed-lengths l e = rw e (record {
   masks = length-replicate (length l.masks) 0;
 })
 
-abbrev comes : Collection → CollectLists → CollectOutcome
+abbrev comes : Result CollectCounts Refusal → CollectLists → CollectOutcome
 comes answer left = record { answer = answer; left = left }
 
 module _ (rules : Rules) (library : List ℕ) (modules : List Module) (l after : CollectLists) (short : length library ≤ 1048576) (n : SameLengths l after) where
@@ -81,20 +81,20 @@ module _ (rules : Rules) (library : List ℕ) (modules : List Module) (l after :
   unfolding collection
   by-refusal e = ap (λ o. collect_outcome_of o gs l) (sym e)
 
-  pub done-is : {c : CollectCounts} → Stores gs after c → collect_refusal modules ≡ none → comes (Done c) after ≡ collection rules library modules l
+  pub done-is : {c : CollectCounts} → Stores gs after c → collect_refusal modules ≡ none → comes (Ok c) after ≡ collection rules library modules l
   done-is s r =
       rw (counted gs s, stored-fills gs n s) refl
       ∙ by-refusal (refused-late library modules l (counted_in gs) short (sym (few-same (counted_in gs) n) ∙ stored-room gs s) r)
 
-  zero_left : {left : CollectLists} (r : Refusal) → zeroes r ≡ true → left ≡ collect_zeroed after → comes (Refused r) left ≡ collect_outcome_of (some r) gs l
-  zero_left r h e = rw (h, e) (ap (comes (Refused r)) (zeroed-same n))
+  zero_left : {left : CollectLists} (r : Refusal) → zeroes r ≡ true → left ≡ collect_zeroed after → comes (Err r) left ≡ collect_outcome_of (some r) gs l
+  zero_left r h e = rw (h, e) (ap (comes (Err r)) (zeroed-same n))
 
-  pub lacks-is : {left : CollectLists} → (Room gs after → ⊥) → left ≡ collect_zeroed after → comes (Refused TooFewRows) left ≡ collection rules library modules l
+  pub lacks-is : {left : CollectLists} → (Room gs after → ⊥) → left ≡ collect_zeroed after → comes (Err TooFewRows) left ≡ collection rules library modules l
   lacks-is lacks e =
       let even = masks-take rules library modules ∙ sym (bytes_take gs) in
       zero_left TooFewRows refl e ∙ by-refusal (refused-9 library modules l (counted_in gs) short (sym (few-same (counted_in gs) n) ∙ no_room gs even lacks))
 
-  pub refused-is : {c : CollectCounts} {r : Refusal} {left : CollectLists} → Stores gs after c → collect_refusal modules ≡ some r → left ≡ collect_zeroed after → comes (Refused r) left ≡ collection rules library modules l
+  pub refused-is : {c : CollectCounts} {r : Refusal} {left : CollectLists} → Stores gs after c → collect_refusal modules ≡ some r → left ≡ collect_zeroed after → comes (Err r) left ≡ collection rules library modules l
   refused-is {c} {r} s q e =
       zero_left r (let n = collect-late modules q in zeroes-late r (omega (arith, n.0)) n.1) e ∙ by-refusal (refused-late library modules l (counted_in gs) short (sym (few-same (counted_in gs) n) ∙ stored-room gs s) q)
 
@@ -105,6 +105,6 @@ unfolding collect_zeroed
 zeroed-is l p q r s t = rw (p, q, r, s, t) refl
 
 -- a library that is too long: nothing is written
-pub long-is : (rules : Rules) (library : List ℕ) (modules : List Module) (l : CollectLists) → 1048576 < length library → comes (Refused LibraryTooLong) l ≡ collection rules library modules l
+pub long-is : (rules : Rules) (library : List ℕ) (modules : List Module) (l : CollectLists) → 1048576 < length library → comes (Err LibraryTooLong) l ≡ collection rules library modules l
 unfolding collection refusal_of leading
 long-is rules library modules l h = rw (lt-ltb 1048576 (length library) h) refl

@@ -11,8 +11,8 @@ use Rattle.segments.specs.Collect.{Collected, collect}
 use Rattle.segments.specs.SegmentRows.{segment_rows, pattern_bytes, pattern_masks}
 use Rattle.segments.specs.SegmentLayouts.{segment_layout, reference_layout, symbol_layout}
 use Rattle.collect.specs.declared.stored.CollectCounts.{CollectCounts}
-use Rattle.collect.specs.declared.stored.Stored.{Stored}
-use Rattle.collect.specs.declared.stored.Stored.TheVariants.{Rows, NoRoom}
+use Rattle.collect.specs.stored.Rows.{Stored}
+use Rattle.std.specs.Prelude.{Ok, Err}
 use Rattle.collect.specs.stored.Segments.{lists}
 use Rattle.collect.specs.stored.StoreLaws.{stored-count}
 use Rattle.collect.specs.stored.Stores.{CollectLists, references_in, symbols_in, Room, Stores, After, Extends, SameLengths}
@@ -37,7 +37,7 @@ same_lists a b c d e = rw (a, b, c, d, e) refl
 -- what the answer and memory are once segments are stored: the answer, and where there was room the lists
 pub record OneAfter (a : CollectLists) (w : Stored) (b : CollectLists) (v : Stored) : Type 0 where
   pub answer : w ≡ v
-  pub left : (c : CollectCounts) → w ≡ Rows c → a ≡ b
+  pub left : (c : CollectCounts) → w ≡ Ok c → a ≡ b
 
 module _ (gs : List Collected) (l a b : CollectLists) (to-a : SameLengths l a) (to-b : SameLengths l b) where
   has_room : {m : CollectLists} {c : CollectCounts} → Stores gs m c → Room gs m
@@ -59,7 +59,7 @@ module _ (gs : List Collected) (l a b : CollectLists) (to-a : SameLengths l a) (
   }
 
   pub after_one : (w v : Stored) → After gs a w → After gs b v → OneAfter a w b v
-  after_one (Rows c) (Rows d) s t = record { answer = ap Rows (counted gs s ∙ sym (counted gs t)); left = λ k e. same }
+  after_one (Ok c) (Ok d) s t = record { answer = ap Ok (counted gs s ∙ sym (counted gs t)); left = λ k e. same }
     where
       same : a ≡ b
       same =
@@ -68,9 +68,9 @@ module _ (gs : List Collected) (l a b : CollectLists) (to-a : SameLengths l a) (
           (same-padded (joined symbol_layout.cells (symbols_in gs)) (to-a.symbols ∙ sym to-b.symbols) s.symbols.memory t.symbols.memory)
           (same-padded (pattern_bytes gs) (to-a.bytes ∙ sym to-b.bytes) s.bytes.memory t.bytes.memory)
           (same-padded (pattern_masks gs) (to-a.masks ∙ sym to-b.masks) s.masks.memory t.masks.memory)
-  after_one (Rows c) NoRoom s lacks = absurd (lacks (moved to-a to-b (has_room s)))
-  after_one NoRoom (Rows d) lacks t = absurd (lacks (moved to-b to-a (has_room t)))
-  after_one NoRoom NoRoom s t = record { answer = refl; left = λ c e. cc }
+  after_one (Ok c) (Err e) s lacks = absurd (lacks (moved to-a to-b (has_room s)))
+  after_one (Err e) (Ok d) lacks t = absurd (lacks (moved to-b to-a (has_room t)))
+  after_one (Err e) (Err f) s t = record { answer = refl; left = λ c e. cc }
 
 -- the functions that store behind what was stored before, by `Extends`
 pub stored_one : (gs new : List Collected) (l a b : CollectLists) (c : CollectCounts) (w v : Stored) → Stores gs l c → SameLengths l a → SameLengths l b

@@ -14,12 +14,12 @@ use Rattle.segments.specs.Refuse.{collect_refusal}
 use Rattle.segments.specs.SegmentRows.{segment_width, reference_width, symbol_width, segment_numbers, reference_numbers, symbol_numbers, pattern_bytes, pattern_masks}
 use Rattle.collect.specs.declared.stored.CollectCounts.{CollectCounts}
 use Rattle.collect.specs.stored.Stores.{CollectLists}
-use Rattle.collect.specs.declared.Collection.{Collection}
-use Rattle.collect.specs.declared.Collection.TheVariants.{Done, Refused}
+use Rattle.std.specs.Prelude.{Result}
+use Rattle.std.specs.Prelude.{Ok, Err}
 
 -- the answer, and the lent lists afterwards
 pub record CollectOutcome : Type 0 where
-  pub answer : Collection
+  pub answer : Result CollectCounts Refusal
   pub left : CollectLists
 
 -- how many rows and pattern bytes segments take
@@ -65,8 +65,8 @@ collect_filled gs l = record {
 
 -- the outcome with a refusal or without: refusals up to 8 write nothing, 9 to 13 set all lent lists to zero
 abbrev pub collect_outcome_of : Option Refusal → List Collected → CollectLists → CollectOutcome
-collect_outcome_of none gs l = record { answer = Done (counted_in gs); left = collect_filled gs l }
-collect_outcome_of (some r) gs l = record { answer = Refused r; left = if zeroes r then collect_zeroed l else l }
+collect_outcome_of none gs l = record { answer = Ok (counted_in gs); left = collect_filled gs l }
+collect_outcome_of (some r) gs l = record { answer = Err r; left = if zeroes r then collect_zeroed l else l }
 
 -- the collection of the segments of all modules
 unfoldable pub collection : Rules → List ℕ → List Module → CollectLists → CollectOutcome

@@ -7,11 +7,11 @@ use Rattle.module_index.specs.Indexed.{Blank}
 use Rattle.module_index.specs.IndexedTableLaws.{zeros-blank}
 use Rattle.collect.specs.all_modules.Modules.{Workable}
 use Rattle.collect.specs.Sizes.{Sizes}
-use Rattle.tables.specs.zeros.Zeros.{zero_list}
+use Rattle.tables.specs.zeros.Zeros.{zero_list, repeated}
 use Rattle.tables.specs.zeros.ZeroLaws.{zero-length, zero-list}
 
 zero-tells : (n : ℕ) → 65536 * 3 ≤ n → Tells [] (zero_list n)
-unfolding zero_list
+unfolding repeated
 zero-tells n h = zeros-tell n h
 
 pub table-tells : {table : List ℕ} → table ≡ zero_list 196608 → Tells [] table

@@ -7,15 +7,15 @@ ghost use Rattle.collect.specs.absolute.Absolute.{StoresAbsolutes};
 pub mod one;
 
 use crate::absolute::one::{AbsoluteFrom, store_absolute};
-use crate::stored::{CollectCounts, Stored};
+use crate::stored::{CollectCounts, NoRoom};
 use library::items::NextContent;
 use library::items::contents::next_content;
 use tables::links::{next_at, place_at};
-use tables::zeros::block_flags;
+use tables::zeros::{BLOCK_FLAGS, zeros};
 
 // The absolute contents of a module: the link to the first of them, whether their symbols keep their own addresses (see
 // `is_own`), and the number of the module's first segment.
-#[derive(Clone, Copy)]
+#[derive(Clone, Copy, Debug, PartialEq, Eq)]
 pub struct Absolutes {
     pub link: u32,
     pub own: bool,
@@ -39,25 +39,27 @@ pub fn store_absolutes(
     bytes: &mut [u8],
     masks: &mut [u8],
     apart: &mut [u8],
-) -> Stored
+) -> Result<CollectCounts, NoRoom>
     requires { Placeable table.now absolutes.number 0 × ((65536 ≤ length apart.old) × (length publics.now ≤ 174848)) }
     ensures { StoresAbsolutes library.now absolutes table.now contents.now publics.now n heads.now before
         (lists segments.old references.old symbols.old bytes.old masks.old) apart.old
         (lists segments.new references.new symbols.new bytes.new masks.new) apart.new result }
 {
-    let mut flags = block_flags();
+    let mut flags: [u8; BLOCK_FLAGS] = zeros();
     let mut last = 0;
     let mut here = absolutes.link as usize;
     let mut c = before;
     while last < here {
         let place = place_at(contents, here - 1);
-        let NextContent::Item {
-            content,
-            fixups,
-            rest,
-        } = next_content(library, place)
+        let Some(
+            NextContent {
+                content,
+                fixups,
+                ..
+            },
+        ) = next_content(library, place)
         else {
-            return Stored::Rows(c);
+            return Ok(c);
         };
         let from = AbsoluteFrom {
             content,
@@ -65,7 +67,7 @@ pub fn store_absolutes(
             own: absolutes.own,
             n,
         };
-        let stored = store_absolute(
+        c = store_absolute(
             library,
             table,
             absolutes.number,
@@ -80,13 +82,9 @@ pub fn store_absolutes(
             masks,
             apart,
             &mut flags,
-        );
-        let Stored::Rows(more) = stored else {
-            return Stored::NoRoom;
-        };
-        c = more;
+        )?;
         last = here;
         here = next_at(contents, here - 1);
     }
-    Stored::Rows(c)
+    Ok(c)
 }

@@ -7,11 +7,8 @@ ghost use Rattle.collect.specs.stored.Segments.{lists};
 ghost use Rattle.collect.specs.Outcome.{collect_zeroed};
 ghost use Rattle.collect.specs.Concluded.{Concludes};
 
-use crate::Collection;
-use crate::stored::Stored;
+use crate::stored::{CollectCounts, NoRoom};
 use lent::refusal::Refusal;
-use lent::rows::{clear, clear_bytes};
-use module_ids::fault::Verdict;
 use module_ids::scan::scan;
 
 // Sets the five lists of the collection to zero: before anything is stored, and again where the collection is refused.
@@ -24,11 +21,11 @@ pub fn clear_all(
 )
     ensures { lists segments.new references.new symbols.new bytes.new masks.new ≡ collect_zeroed (lists segments.old references.old symbols.old bytes.old masks.old) }
 {
-    clear(segments);
-    clear(references);
-    clear(symbols);
-    clear_bytes(bytes);
-    clear_bytes(masks);
+    segments.fill(0);
+    references.fill(0);
+    symbols.fill(0);
+    bytes.fill(0);
+    masks.fill(0);
 }
 
 // What the collection of the modules from the place `from` on comes to, given what was stored in its five lists. Refusals
@@ -36,26 +33,25 @@ pub fn clear_all(
 pub fn conclude(
     library: &[u8],
     from: usize,
-    stored: Stored,
+    stored: Result<CollectCounts, NoRoom>,
     table: &mut [u32],
     segments: &mut [u64],
     references: &mut [u64],
     symbols: &mut [u64],
     bytes: &mut [u8],
     masks: &mut [u8],
-) -> Collection
+) -> Result<CollectCounts, Refusal>
     requires { Fillable library.now table.old }
     ensures { Concludes library.now (items_at library.now (module_at library.now) from) (lists segments.old references.old symbols.old bytes.old masks.old) stored
         (record { answer = result; left = lists segments.new references.new symbols.new bytes.new masks.new }) }
 {
-    let Stored::Rows(c) = stored else {
+    let Ok(c) = stored else {
         clear_all(segments, references, symbols, bytes, masks);
-        return Collection::Refused(Refusal::TooFewRows);
+        return Err(Refusal::TooFewRows);
     };
-    let verdict = scan(library, from, table);
-    if let Verdict::Refused(r) = verdict {
+    if let Err(r) = scan(library, from, table) {
         clear_all(segments, references, symbols, bytes, masks);
-        return Collection::Refused(r);
+        return Err(r);
     }
-    Collection::Done(c)
+    Ok(c)
 }

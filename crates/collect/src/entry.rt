@@ -9,15 +9,15 @@ ghost use Rattle.collect.specs.all_modules.All.{nothing, StoresAll};
 ghost use Rattle.collect.specs.Sizes.{Sizes};
 ghost use Rattle.collect.specs.Outcome.{collection};
 
-use crate::Collection;
 use crate::all_modules::all::store_all;
 use crate::conclude::{clear_all, conclude};
-use crate::stored::Stored;
+use crate::stored::{CollectCounts, NoRoom};
 use image::fixup::Rules;
 use lent::refusal::Refusal;
 use library::LONGEST_LIBRARY;
+use tables::by_name::KEYS;
 use tables::zeros::{
-    content_room, few_contents, few_publics, heads, id_table, many_contents, many_publics,
+    CONTENT_ROOM, FEW_CONTENTS, FEW_PUBLICS, ID_TABLE, MANY_CONTENTS, MANY_PUBLICS, zeros,
 };
 
 // A library up to this length is collected with small tables.
@@ -37,15 +37,15 @@ fn store_in(
     symbols: &mut [u64],
     bytes: &mut [u8],
     masks: &mut [u8],
-) -> Stored
+) -> Result<CollectCounts, NoRoom>
     requires { Sizes library.now contents.old publics.old × (Tells [] table.old × Stores [] (lists segments.old references.old symbols.old bytes.old masks.old) nothing) }
     ensures { StoresAll library.now rules (items_at library.now (module_at library.now) from) table.new
         (lists segments.old references.old symbols.old bytes.old masks.old)
         (lists segments.new references.new symbols.new bytes.new masks.new) result }
 {
-    let mut first = heads();
-    let mut names = heads();
-    let mut apart = content_room();
+    let mut first: [u32; KEYS] = zeros();
+    let mut names: [u32; KEYS] = zeros();
+    let mut apart: [u8; CONTENT_ROOM] = zeros();
     store_all(
         library, rules, from, table, contents, &mut first, publics, &mut names, segments,
         references, symbols, bytes, masks, &mut apart,
@@ -64,15 +64,15 @@ fn store(
     symbols: &mut [u64],
     bytes: &mut [u8],
     masks: &mut [u8],
-) -> Stored
+) -> Result<CollectCounts, NoRoom>
     requires { (length library.now ≤ 1048576) × (Tells [] table.old × Stores [] (lists segments.old references.old symbols.old bytes.old masks.old) nothing) }
     ensures { StoresAll library.now rules (items_at library.now (module_at library.now) from) table.new
         (lists segments.old references.old symbols.old bytes.old masks.old)
         (lists segments.new references.new symbols.new bytes.new masks.new) result }
 {
     if library.len() <= SHORT_LIBRARY {
-        let mut contents = few_contents();
-        let mut publics = few_publics();
+        let mut contents: [u64; FEW_CONTENTS] = zeros();
+        let mut publics: [u64; FEW_PUBLICS] = zeros();
         return store_in(
             library,
             rules,
@@ -87,8 +87,8 @@ fn store(
             masks,
         );
     }
-    let mut contents = many_contents();
-    let mut publics = many_publics();
+    let mut contents: [u64; MANY_CONTENTS] = zeros();
+    let mut publics: [u64; MANY_PUBLICS] = zeros();
     store_in(
         library,
         rules,
@@ -107,6 +107,8 @@ fn store(
 // Collects the segments of all modules from the place `from` on into the five lists of the collection: rows of
 // segments, of references and of symbols, pattern bytes, masks. A library above 1 MiB is refused, and nothing is
 // written; any other refusal leaves zeros.
+// The five lists are parameters of their own: with a struct of `&mut` slices, the proof of `collect` does not close, since no
+// fact ties what the lists hold at its end to what the struct led to.
 pub fn collect(
     library: &[u8],
     rules: Rules,
@@ -116,14 +118,14 @@ pub fn collect(
     symbols: &mut [u64],
     bytes: &mut [u8],
     masks: &mut [u8],
-) -> Collection
+) -> Result<CollectCounts, Refusal>
     ensures { record { answer = result; left = lists segments.new references.new symbols.new bytes.new masks.new }
         ≡ collection rules library.now (items_at library.now (module_at library.now) from) (lists segments.old references.old symbols.old bytes.old masks.old) }
 {
     if library.len() > LONGEST_LIBRARY {
-        return Collection::Refused(Refusal::LibraryTooLong);
+        return Err(Refusal::LibraryTooLong);
     }
-    let mut table = id_table();
+    let mut table: [u32; ID_TABLE] = zeros();
     clear_all(segments, references, symbols, bytes, masks);
     let stored = store(
         library, rules, from, &mut table, segments, references, symbols, bytes, masks,

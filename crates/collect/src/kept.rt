@@ -9,7 +9,7 @@ pub mod one;
 
 use crate::kept::one::{KeptFrom, store_kept};
 use crate::stored::row::since;
-use crate::stored::{CollectCounts, Stored};
+use crate::stored::{CollectCounts, NoRoom};
 use library::items::NextDefinition;
 use library::items::decoded::next_definition;
 use library::items::entries::start;
@@ -23,15 +23,8 @@ fn size_of(d: Definition) -> usize
     ensures { result ≡ size_of d }
 {
     match d {
-        Definition::Segment {
-            id,
-            info,
-            relocation,
-            size,
-            name,
-        } => size,
-        Definition::Public { id, offset, name } => 0,
-        Definition::External { id, info, name } => 0,
+        Definition::Segment { size, .. } => size,
+        Definition::Public { .. } | Definition::External { .. } => 0,
     }
 }
 
@@ -67,7 +60,7 @@ pub fn store_keeps(
     bytes: &mut [u8],
     masks: &mut [u8],
     apart: &mut [u8],
-) -> Stored
+) -> Result<CollectCounts, NoRoom>
     requires { Placeable table.now before.segments 0 × (65536 ≤ length apart.old) }
     ensures { StoresKeeps library.now from table.now first.now contents.now heads.now publics.now before
         (lists segments.old references.old symbols.old bytes.old masks.old) apart.old
@@ -76,26 +69,16 @@ pub fn store_keeps(
     let number = before.segments;
     let mut at = start(from);
     let mut c = before;
-    loop {
-        match next_definition(library, at) {
-            NextDefinition::Item { definition, rest } => {
-                if is_kept(definition) {
-                    let place = since(number, c.segments).len;
-                    let kept = kept_from(definition, place, table, first, heads);
-                    let stored = store_kept(
-                        library, table, number, kept, contents, publics, c, segments, references,
-                        symbols, bytes, masks, apart,
-                    );
-                    let Stored::Rows(more) = stored else {
-                        return Stored::NoRoom;
-                    };
-                    c = more;
-                }
-                at = rest;
-            }
-            NextDefinition::Done => {
-                return Stored::Rows(c);
-            }
+    while let Some(NextDefinition { definition, rest }) = next_definition(library, at) {
+        if is_kept(definition) {
+            let place = since(number, c.segments).len;
+            let kept = kept_from(definition, place, table, first, heads);
+            c = store_kept(
+                library, table, number, kept, contents, publics, c, segments, references, symbols,
+                bytes, masks, apart,
+            )?;
         }
+        at = rest;
     }
+    Ok(c)
 }

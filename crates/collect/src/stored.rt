@@ -3,7 +3,7 @@ pub mod row;
 pub mod rules;
 
 // How much is stored so far: rows of segments, references and symbols, and bytes of pattern memory.
-#[derive(Clone, Copy)]
+#[derive(Clone, Copy, Debug, PartialEq, Eq)]
 pub struct CollectCounts {
     pub segments: usize,
     pub references: usize,
@@ -11,9 +11,6 @@ pub struct CollectCounts {
     pub pattern: usize,
 }
 
-// Whether all that was asked for is stored; if there was no room, nobody looks at what the memory holds, and it is cleared.
-#[derive(Clone, Copy)]
-pub enum Stored {
-    Rows(CollectCounts),
-    NoRoom,
-}
+// There is no room for all that was to be stored; nobody looks at what the memory holds then, and it is cleared.
+#[derive(Clone, Copy, Debug, PartialEq, Eq)]
+pub struct NoRoom;

@@ -1,5 +1,5 @@
 -- The rows of ids are read back as they were written, and what is read fits; so does a row with one more definition. Assumes nothing.
-use Rattle.std.specs.Prelude.{ℕ, ◌+◌, ◌-◌, ◌*◌, ◌/◌, ◌%◌, ◌≤◌, ◌<◌, ◌≡◌, refl, Bool, true, false, ◌&&◌, List, eqb, ltb, length, get_or, if◌then◌else◌}
+use Rattle.std.specs.Prelude.{ℕ, ◌+◌, ◌-◌, ◌*◌, ◌/◌, ◌%◌, ◌≤◌, ◌<◌, ◌≡◌, refl, Bool, true, false, ◌&&◌, List, eqb, ltb, length, get_or, Some, None, Option, if◌then◌else◌}
 use Rattle.std.proofs.Common.{arith, ne_eqb}
 use Rattle.std.proofs.lemmas.Bool.{eqb-false}
 use Rattle.lent.specs.declared.part.Part.{Part}
@@ -15,8 +15,7 @@ use Rattle.library.specs.items.EntrySizeLaws.{Says}
 use Rattle.segments.specs.Ids.{is_kept}
 use Rattle.module_ids.specs.declared.Mark.{Mark}
 use Rattle.module_ids.specs.declared.Mark.TheVariants.{Missing, Other, Code}
-use Rattle.module_ids.specs.declared.KeptAs.{KeptAs}
-use Rattle.module_ids.specs.declared.KeptAs.TheVariants.{None, Place}
+use Rattle.module_ids.specs.declared.KeptSegment.{KeptSegment}
 use Rattle.module_ids.specs.declared.IdRow.{IdRow}
 use Rattle.module_ids.specs.IdRows.{mark_number, mark_from, kept_cells, kept_from, packed, id_layout, id_row_at, Small}
 use Rattle.module_ids.specs.Noted.{first_kept_as, first_name, changed}
@@ -41,9 +40,9 @@ mark-back Missing = refl
 mark-back Other = refl
 mark-back Code = refl
 
-kept_back : (k : KeptAs) → kept_from (kept_cells k).ordinal (kept_cells k).size ≡ k
+kept_back : (k : Option KeptSegment) → kept_from (kept_cells k).ordinal (kept_cells k).size ≡ k
 kept_back None = refl
-kept_back (Place place size) = let p : place + 1 - 1 ≡ place = omega arith in rw (ne_eqb (place + 1) 0 (λ e. omega (arith, e)), p)
+kept_back (Some k) = let p : k.place + 1 - 1 ≡ k.place = omega arith in rw (ne_eqb (k.place + 1) 0 (λ e. omega (arith, e)), p)
 
 pub id-back : (r : IdRow) → r.name.len < 256 → Back id_layout r
 id-back r h = rw (
@@ -66,7 +65,7 @@ cell-small table h i j = chosen (λ n. n < 4294967296) (has_row 3 table i && ltb
 from-small : (ordinal size : ℕ) → ordinal < 16777216 → size < 16777216 → let k = kept_cells (kept_from ordinal size) in (k.ordinal < 16777216) × (k.size < 16777216)
 from-small ordinal size h s = go (eqb ordinal 0) (eqb-false ordinal 0)
   where
-    go : (t : Bool) → (t ≡ false → ordinal ≡ 0 → ⊥) → let k = kept_cells (if t then None else Place (ordinal - 1) size) in (k.ordinal < 16777216) × (k.size < 16777216)
+    go : (t : Bool) → (t ≡ false → ordinal ≡ 0 → ⊥) → let k = kept_cells (if t then None else Some (record { place = ordinal - 1; size = size })) in (k.ordinal < 16777216) × (k.size < 16777216)
     go true n = (omega arith, omega arith)
     go false n = (omega (arith, n refl), s)
 
@@ -77,11 +76,11 @@ read_small table h id =
     record { ordinal-small = k.0; size_small = k.1; at_small = omega (arith, c 2); len-small = omega arith }
 
 -- and so has a row with one more definition of a library that is not too long
-kept_small : (k : KeptAs) (t : Bool) (n size : ℕ) → n < 16777215 → size < 16777216 → (kept_cells k).ordinal < 16777216 → (kept_cells k).size < 16777216
+kept_small : (k : Option KeptSegment) (t : Bool) (n size : ℕ) → n < 16777215 → size < 16777216 → (kept_cells k).ordinal < 16777216 → (kept_cells k).size < 16777216
     → let new = kept_cells (first_kept_as k t n size) in (new.ordinal < 16777216) × (new.size < 16777216)
 kept_small None true n size h s o z = (omega arith, s)
 kept_small None false n size h s o z = (o, z)
-kept_small (Place place own) t n size h s o z = (o, z)
+kept_small (Some k) t n size h s o z = (o, z)
 
 name-small : (e : Mark) (old new : Part) → old.at < 16777216 → old.len < 256 → new.at < 16777216 → new.len < 256
     → let name = first_name e old new in (name.at < 16777216) × (name.len < 256)

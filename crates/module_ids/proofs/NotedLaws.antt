@@ -1,5 +1,6 @@
 -- After one more definition was noted, the table tells what it says too. Assumes nothing.
-use Rattle.std.specs.Prelude.{ℕ, suc, ◌+◌, ◌<◌, ◌≤◌, ◌≡◌, refl, Bool, true, false, List, [], ◌∷◌, ◌++◌, eqb, length, if◌then◌else◌}
+use Rattle.std.specs.Prelude.{ℕ, suc, ◌+◌, ◌<◌, ◌≤◌, ◌≡◌, refl, Bool, true, false, List, [], ◌∷◌, ◌++◌, eqb, length, Some, None, if◌then◌else◌}
+use Rattle.std.specs.Prelude.{Option as Optional}
 use Rattle.std.proofs.Common.{sym, ap, subst, ◌∙◌, append-nil, arith, eq-eqb, ne_eqb, eqb-true, length-append}
 use Rattle.std.proofs.lemmas.Bool.{false≢true, eqb-false}
 use Rattle.std.proofs.Math.Option.{Option, none, some}
@@ -13,8 +14,7 @@ use Rattle.omf51.specs.declared.Definition.{Definition}
 use Rattle.omf51.specs.declared.Definition.TheVariants.{Segment, Public, External}
 use Rattle.segments.specs.Ids.{is_kept, segment_of, external_of, is_code, size_of, name_of, id_of, name_in}
 use Rattle.module_ids.specs.declared.Mark.TheVariants.{Other, Code}
-use Rattle.module_ids.specs.declared.KeptAs.{KeptAs}
-use Rattle.module_ids.specs.declared.KeptAs.TheVariants.{None, Place}
+use Rattle.module_ids.specs.declared.KeptSegment.{KeptSegment}
 use Rattle.module_ids.specs.declared.IdRow.{IdRow}
 use Rattle.module_ids.specs.IdRows.{mark_of, kept_as, kept_in, id_row, id_cells, id_layout, id_row_at, Small}
 use Rattle.module_ids.proofs.IdRowLaws.{id-wide, id-back}
@@ -94,7 +94,7 @@ module _ (id : ModuleId) (ds : List Definition) (d : Definition) where
   abbrev kept_before : List Definition
   kept_before = keep is_kept ds
 
-  abbrev kept_of : List Definition → KeptAs
+  abbrev kept_of : List Definition → Optional KeptSegment
   kept_of xs = kept_as (place_of (segment_of id) xs) (first (segment_of id) xs)
 
   kept_same : segment_of id d ≡ false → kept_in (ds ++ one d) id ≡ kept_in ds id
@@ -102,7 +102,7 @@ module _ (id : ModuleId) (ds : List Definition) (d : Definition) where
     where
       one_more : {a b : Option Definition} → FirstOf (segment_of id) kept_before d a b
           → kept_as (place_of (segment_of id) (kept_before ++ one d)) b ≡ kept_as (place_of (segment_of id) kept_before) a
-      one_more (stays y q) = ap (λ n. Place n (size_of y)) q
+      one_more (stays y q) = ap (λ n. Some (record { place = n; size = size_of y })) q
       one_more (comes h q) = absurd (false≢true (sym (sym h ∙ e)))
       one_more (lacks h) = refl
 
@@ -116,13 +116,13 @@ module _ (id : ModuleId) (ds : List Definition) (d : Definition) where
       one_more : {a b : Option Definition} → FirstOf (segment_of id) kept_before d a b
           → kept_as (place_of (segment_of id) (kept_before ++ one d)) b
           ≡ first_kept_as (kept_as (place_of (segment_of id) kept_before) a) true (length kept_before) (size_of d)
-      one_more (stays y q) = ap (λ n. Place n (size_of y)) q
-      one_more (comes h q) = ap (λ n. Place n (size_of d)) q
+      one_more (stays y q) = ap (λ n. Some (record { place = n; size = size_of y })) q
+      one_more (comes h q) = ap (λ n. Some (record { place = n; size = size_of d })) q
       one_more (lacks h) = absurd (false≢true (sym (sym e ∙ h)))
 
-      unkept : (k : KeptAs) → k ≡ first_kept_as k false (length kept_before) (size_of d)
+      unkept : (k : Optional KeptSegment) → k ≡ first_kept_as k false (length kept_before) (size_of d)
       unkept None = refl
-      unkept (Place p s) = refl
+      unkept (Some k) = refl
 
       go : (t : Bool) → kept_of (kept_before ++ (if t then one d else [])) ≡ first_kept_as (kept_of kept_before) t (length kept_before) (size_of d)
       go true = one_more (first-snoc (segment_of id) kept_before d)

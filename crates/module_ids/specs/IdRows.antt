@@ -1,4 +1,5 @@
 -- What the ids of a module lead to, as rows of numbers.
+use Rattle.std.specs.Prelude.{Some, None, Option as Optional}
 use Rattle.std.specs.Prelude.{ℕ, ◌+◌, ◌-◌, ◌*◌, ◌/◌, ◌%◌, ◌<◌, List, [], ◌∷◌, eqb, if◌then◌else◌}
 use Rattle.std.proofs.Math.Option.{Option, none, some}
 use Rattle.lent.specs.declared.part.Part.{Part}
@@ -9,8 +10,7 @@ use Rattle.omf51.specs.declared.Definition.{Definition}
 use Rattle.segments.specs.Ids.{is_kept, segment_of, external_of, is_code, size_of, name_in}
 use Rattle.module_ids.specs.declared.Mark.{Mark}
 use Rattle.module_ids.specs.declared.Mark.TheVariants.{Missing, Other, Code}
-use Rattle.module_ids.specs.declared.KeptAs.{KeptAs}
-use Rattle.module_ids.specs.declared.KeptAs.TheVariants.{None, Place}
+use Rattle.module_ids.specs.declared.KeptSegment.{KeptSegment}
 use Rattle.module_ids.specs.declared.IdRow.{IdRow}
 use Rattle.module_ids.specs.declared.row.KeptPair.{KeptPair}
 
@@ -19,11 +19,11 @@ abbrev pub mark_of : Option Definition → Mark
 mark_of none = Missing
 mark_of (some d) = if is_code (some d) then Code else Other
 
-abbrev pub kept_as : ℕ → Option Definition → KeptAs
+abbrev pub kept_as : ℕ → Option Definition → Optional KeptSegment
 kept_as place none = None
-kept_as place (some d) = Place place (size_of d)
+kept_as place (some d) = Some (record { place = place; size = size_of d })
 
-abbrev pub kept_in : List Definition → ModuleId → KeptAs
+abbrev pub kept_in : List Definition → ModuleId → Optional KeptSegment
 kept_in definitions id = kept_as (place_of (segment_of id) (keep is_kept definitions)) (first (segment_of id) (keep is_kept definitions))
 
 unfoldable pub id_row : List Definition → ModuleId → IdRow
@@ -44,12 +44,12 @@ abbrev pub mark_from : ℕ → Mark
 mark_from n = if eqb n 0 then Missing else if eqb n 1 then Other else Code
 
 -- the kept segment's numbers, as the code has them
-abbrev pub kept_cells : KeptAs → KeptPair
+abbrev pub kept_cells : Optional KeptSegment → KeptPair
 kept_cells None = record { ordinal = 0; size = 0 }
-kept_cells (Place place size) = record { ordinal = place + 1; size = size }
+kept_cells (Some k) = record { ordinal = k.place + 1; size = k.size }
 
-abbrev pub kept_from : ℕ → ℕ → KeptAs
-kept_from ordinal size = if eqb ordinal 0 then None else Place (ordinal - 1) size
+abbrev pub kept_from : ℕ → ℕ → Optional KeptSegment
+kept_from ordinal size = if eqb ordinal 0 then None else Some (record { place = ordinal - 1; size = size })
 
 -- two numbers in one
 abbrev pub packed : ℕ → ℕ → ℕ

@@ -1,5 +1,5 @@
 -- What one more definition changes in the row of its id, and what a table tells of a module's definitions.
-use Rattle.std.specs.Prelude.{ℕ, ◌+◌, ◌*◌, ◌<◌, ◌≤◌, ◌≡◌, Bool, List, [], length, if◌then◌else◌}
+use Rattle.std.specs.Prelude.{ℕ, ◌+◌, ◌*◌, ◌<◌, ◌≤◌, ◌≡◌, Bool, List, [], length, Some, None, Option, if◌then◌else◌}
 use Rattle.lent.specs.declared.part.Part.{Part}
 use Rattle.lent.specs.Lists.{keep}
 use Rattle.lent.specs.Rows.{flag, put_row}
@@ -10,8 +10,7 @@ use Rattle.library.specs.Longest.{Short}
 use Rattle.segments.specs.Ids.{code_info, is_kept, id_of}
 use Rattle.module_ids.specs.declared.Mark.{Mark}
 use Rattle.module_ids.specs.declared.Mark.TheVariants.{Missing, Other, Code}
-use Rattle.module_ids.specs.declared.KeptAs.{KeptAs}
-use Rattle.module_ids.specs.declared.KeptAs.TheVariants.{None, Place}
+use Rattle.module_ids.specs.declared.KeptSegment.{KeptSegment}
 use Rattle.module_ids.specs.declared.IdRow.{IdRow}
 use Rattle.module_ids.specs.IdRows.{id_row, id_cells, id_row_at, Small}
 
@@ -26,9 +25,9 @@ first_name Missing old new = new
 first_name Other old new = old
 first_name Code old new = old
 
-abbrev pub first_kept_as : KeptAs → Bool → ℕ → ℕ → KeptAs
-first_kept_as None kept place size = if kept then Place place size else None
-first_kept_as (Place p s) kept place size = Place p s
+abbrev pub first_kept_as : Option KeptSegment → Bool → ℕ → ℕ → Option KeptSegment
+first_kept_as None kept place size = if kept then Some (record { place = place; size = size }) else None
+first_kept_as (Some k) kept place size = Some k
 
 -- `n` segments were kept before this definition
 abbrev pub changed : IdRow → ℕ → Definition → IdRow

@@ -10,25 +10,25 @@ pub mod scan;
 pub mod table;
 
 // What the first definition of a sort (segment, external) says for an id: there is none, it is not code, or it is code.
-#[derive(Clone, Copy)]
+#[derive(Clone, Copy, Debug, PartialEq, Eq)]
 pub enum Mark {
     Missing,
     Other,
     Code,
 }
 
-// The place of the first kept segment of an id among the kept segments of its module, and its size.
-#[derive(Clone, Copy)]
-pub enum KeptAs {
-    None,
-    Place { place: usize, size: usize },
+// A kept segment: its place among the kept segments of its module, and its size.
+#[derive(Clone, Copy, Debug, PartialEq, Eq)]
+pub struct KeptSegment {
+    pub place: usize,
+    pub size: usize,
 }
 
 // What an id leads to: its first segment, its first kept segment, and its first external with its name.
-#[derive(Clone, Copy)]
+#[derive(Clone, Copy, Debug, PartialEq, Eq)]
 pub struct IdRow {
     pub segment: Mark,
-    pub kept: KeptAs,
+    pub kept: Option<KeptSegment>,
     pub external: Mark,
     pub name: Part,
 }

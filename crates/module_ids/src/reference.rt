@@ -2,41 +2,22 @@
 ghost use Rattle.std.specs.Prelude.{◌≡◌, ◌+◌, ◌<◌, ◌^◌};
 ghost use Rattle.module_ids.specs.reference.LeftReference.{code_named, place_in, goal_by, kind_known, leaves_by, left_by};
 
-use crate::fault::Verdict;
 use crate::fault::one::{fixup_fault, is_code};
-use crate::{IdRow, KeptAs};
+use crate::{IdRow, KeptSegment};
 use image::fixup::Kind;
 use omf51::Fixup;
 use segments::{Goal, Reference, SegmentNumber};
 
-// The kind of a fixup, if it is one of the three that leave a reference.
-#[derive(Clone, Copy)]
-pub enum Known {
-    Kind(Kind),
-    Other,
-}
-
-// The reference that a fixup leaves, or nothing.
-#[derive(Clone, Copy)]
-pub enum Leaves {
-    One(Reference),
-    Nothing,
-}
-
-// The kind of a number in the file.
-fn kind_of(n: u8) -> Known
+// The kind of a number in the file, if it is one of the three that leave a reference.
+fn kind_of(n: u8) -> Option<Kind>
     ensures { result ≡ kind_known n }
 {
-    if n == 2 {
-        return Known::Kind(Kind::Relative);
+    match n {
+        2 => Some(Kind::Relative),
+        4 => Some(Kind::Word),
+        5 => Some(Kind::Inblock),
+        _ => None,
     }
-    if n == 4 {
-        return Known::Kind(Kind::Word);
-    }
-    if n == 5 {
-        return Known::Kind(Kind::Inblock);
-    }
-    Known::Other
 }
 
 // Whether the definition that a fixup names is code: the first segment of its id for block 1, the first external for
@@ -44,24 +25,20 @@ fn kind_of(n: u8) -> Known
 fn code_named(row: IdRow, f: Fixup) -> bool
     ensures { result ≡ code_named row f }
 {
-    let segment = row.segment;
-    let external = row.external;
-    if f.block == 1 {
-        return is_code(segment);
+    match f.block {
+        1 => is_code(row.segment),
+        2 => is_code(row.external),
+        _ => false,
     }
-    if f.block == 2 {
-        return is_code(external);
-    }
-    false
 }
 
 // The place of a kept segment in its module, 0 where there is none.
-fn place_in(kept: KeptAs) -> usize
+fn place_in(kept: Option<KeptSegment>) -> usize
     ensures { result ≡ place_in kept }
 {
     match kept {
-        KeptAs::None => 0,
-        KeptAs::Place { place, size } => place,
+        None => 0,
+        Some(KeptSegment { place, .. }) => place,
     }
 }
 
@@ -71,34 +48,26 @@ fn goal_by(row: IdRow, number: usize, f: Fixup) -> Goal
     requires { number + place_in row.kept < 2 ^ 64 }
     ensures { result ≡ goal_by row number f }
 {
-    let kept = row.kept;
-    let name = row.name;
     if f.block == 1 {
-        return Goal::Segment(SegmentNumber(number + place_in(kept)));
+        return Goal::Segment(SegmentNumber(number + place_in(row.kept)));
     }
-    Goal::Name(name)
+    Goal::Name(row.name)
 }
 
 // What a fixup leaves if its id has this row: a reference if the fixup is not refused, names code, and is of one of
 // three kinds. `number` is that of the module's first segment; `base` is added to the fixup's location.
-pub fn reference_of(row: IdRow, number: usize, base: usize, f: Fixup) -> Leaves
+#[tactic(auto, unfolding(crate::specs::reference::LeftReference::leaves_by))]
+pub fn reference_of(row: IdRow, number: usize, base: usize, f: Fixup) -> Option<Reference>
     requires { (number + place_in row.kept < 2 ^ 64) × (base + f.location < 2 ^ 64) }
     ensures { left_by result ≡ leaves_by row number base f }
 {
-    let verdict = fixup_fault(row, f);
-    if let Verdict::Refused(r) = verdict {
-        return Leaves::Nothing;
+    if fixup_fault(row, f).is_err() || !code_named(row, f) {
+        return None;
     }
-    if !code_named(row, f) {
-        return Leaves::Nothing;
-    }
-    match kind_of(f.kind) {
-        Known::Kind(kind) => Leaves::One(Reference {
-            place: base + f.location,
-            kind,
-            offset: f.offset,
-            goal: goal_by(row, number, f),
-        }),
-        Known::Other => Leaves::Nothing,
-    }
+    Some(Reference {
+        place: base + f.location,
+        kind: kind_of(f.kind)?,
+        offset: f.offset,
+        goal: goal_by(row, number, f),
+    })
 }

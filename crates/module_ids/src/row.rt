@@ -3,7 +3,7 @@ ghost use Rattle.std.specs.Prelude.{◌≡◌, [], ◌∷◌, ◌≤◌, ◌<◌
 ghost use Rattle.lent.specs.Rows.{cell_of, put_row};
 ghost use Rattle.module_ids.specs.IdRows.{mark_number, mark_from, kept_cells, kept_from, name_from, packed as packed_number, id_cells, id_row_at, Small};
 
-use crate::{IdRow, KeptAs, Mark};
+use crate::{IdRow, KeptSegment, Mark};
 use lent::part::Part;
 use omf51::ModuleId;
 
@@ -14,41 +14,37 @@ struct KeptPair {
     size: usize,
 }
 
-// The number of a mark.
-fn mark_number(mark: Mark) -> usize
-    ensures { (result ≡ mark_number mark) × (result ≤ 2) }
-{
-    match mark {
-        Mark::Missing => 0,
-        Mark::Other => 1,
-        Mark::Code => 2,
+impl From<Mark> for usize {
+    ghost from_gives = { λ mark n. n ≡ mark_number mark };
+
+    fn from(mark: Mark) -> usize {
+        mark as usize
     }
 }
 
-// The mark of a number.
-fn mark_from(n: u32) -> Mark
-    ensures { result ≡ mark_from n }
-{
-    if n == 0 {
-        Mark::Missing
-    } else if n == 1 {
-        Mark::Other
-    } else {
-        Mark::Code
+impl From<u32> for Mark {
+    ghost from_gives = { λ n mark. mark ≡ mark_from n };
+
+    fn from(n: u32) -> Mark {
+        match n {
+            0 => Mark::Missing,
+            1 => Mark::Other,
+            _ => Mark::Code,
+        }
     }
 }
 
 // The two numbers of an id's first kept segment; zeros where there is none.
-fn kept_cells(kept: KeptAs) -> KeptPair
+fn kept_cells(kept: Option<KeptSegment>) -> KeptPair
     requires { (kept_cells kept).ordinal < 16777216 }
     ensures { result ≡ kept_cells kept }
 {
     match kept {
-        KeptAs::None => KeptPair {
+        None => KeptPair {
             ordinal: 0,
             size: 0,
         },
-        KeptAs::Place { place, size } => KeptPair {
+        Some(KeptSegment { place, size }) => KeptPair {
             ordinal: place + 1,
             size,
         },
@@ -56,16 +52,14 @@ fn kept_cells(kept: KeptAs) -> KeptPair
 }
 
 // An id's first kept segment, from its two numbers.
-fn kept_from(ordinal: u32, size: u32) -> KeptAs
+fn kept_from(ordinal: u32, size: u32) -> Option<KeptSegment>
     ensures { result ≡ kept_from ordinal size }
 {
-    if ordinal == 0 {
-        return KeptAs::None;
-    }
-    KeptAs::Place {
-        place: (ordinal - 1) as usize,
+    let place = ordinal.checked_sub(1)?;
+    Some(KeptSegment {
+        place: place as usize,
         size: size as usize,
-    }
+    })
 }
 
 // The name of an id's first external, from its place and length in one number.
@@ -115,9 +109,9 @@ pub fn id_row(table: &[u32], id: ModuleId) -> IdRow
 {
     let n = numbers(table, id);
     IdRow {
-        segment: mark_from(n[0] % 256),
+        segment: Mark::from(n[0] % 256),
         kept: kept_from(n[0] / 256, n[1] / 256),
-        external: mark_from(n[1] % 256),
+        external: Mark::from(n[1] % 256),
         name: name_from(n[2]),
     }
 }
@@ -127,12 +121,9 @@ pub fn put_id(table: &mut [u32], id: ModuleId, row: IdRow)
     requires { Small row }
     ensures { table.new ≡ put_row 3 table.old id.0 (id_cells row) }
 {
-    let segment = row.segment;
-    let kept = row.kept;
-    let external = row.external;
-    let k = kept_cells(kept);
-    let a = packed(k.ordinal, mark_number(segment));
-    let b = packed(k.size, mark_number(external));
+    let k = kept_cells(row.kept);
+    let a = packed(k.ordinal, usize::from(row.segment));
+    let b = packed(k.size, usize::from(row.external));
     let c = packed(row.name.at, row.name.len);
     put(table, id, a, b, c);
 }

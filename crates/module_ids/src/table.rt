@@ -7,7 +7,7 @@ ghost use Rattle.module_ids.specs.IdRows.{id_row_at, Small};
 ghost use Rattle.module_ids.specs.Noted.{first_mark, first_name, first_kept_as, changed as changed_row, note_in, StaysSmall, kept_after, no_row, Tells, Fillable, Filled};
 
 use crate::row::{id_row, put_id};
-use crate::{IdRow, KeptAs, Mark};
+use crate::{IdRow, KeptSegment, Mark};
 use lent::part::Part;
 use library::items::NextDefinition;
 use library::items::decoded::next_definition;
@@ -30,19 +30,9 @@ pub fn is_kept(d: Definition) -> bool
             id,
             info,
             relocation,
-            size,
-            name,
-        } => {
-            if id.0 == 0 {
-                return false;
-            }
-            if code_info(info) {
-                return relocation != 0;
-            }
-            false
-        }
-        Definition::Public { id, offset, name } => false,
-        Definition::External { id, info, name } => false,
+            ..
+        } => id.0 != 0 && code_info(info) && relocation != 0,
+        Definition::Public { .. } | Definition::External { .. } => false,
     }
 }
 
@@ -51,15 +41,9 @@ pub fn id_of(d: Definition) -> ModuleId
     ensures { (result ≡ id_of d) × (result.0 < 65536) }
 {
     match d {
-        Definition::Segment {
-            id,
-            info,
-            relocation,
-            size,
-            name,
-        } => id,
-        Definition::Public { id, offset, name } => id,
-        Definition::External { id, info, name } => id,
+        Definition::Segment { id, .. }
+        | Definition::Public { id, .. }
+        | Definition::External { id, .. } => id,
     }
 }
 
@@ -68,14 +52,9 @@ fn first_mark(old: Mark, code: bool) -> Mark
     ensures { result ≡ first_mark old code }
 {
     match old {
-        Mark::Missing => {
-            if code {
-                return Mark::Code;
-            }
-            Mark::Other
-        }
-        Mark::Other => Mark::Other,
-        Mark::Code => Mark::Code,
+        Mark::Missing if code => Mark::Code,
+        Mark::Missing => Mark::Other,
+        Mark::Other | Mark::Code => old,
     }
 }
 
@@ -85,23 +64,22 @@ fn first_name(mark: Mark, old: Part, new: Part) -> Part
 {
     match mark {
         Mark::Missing => new,
-        Mark::Other => old,
-        Mark::Code => old,
+        Mark::Other | Mark::Code => old,
     }
 }
 
 // The first kept segment of an id after one more segment: the first kept one stays.
-fn first_kept(old: KeptAs, kept: bool, place: usize, size: usize) -> KeptAs
+fn first_kept(
+    old: Option<KeptSegment>,
+    kept: bool,
+    place: usize,
+    size: usize,
+) -> Option<KeptSegment>
     ensures { result ≡ first_kept_as old kept place size }
 {
     match old {
-        KeptAs::None => {
-            if kept {
-                return KeptAs::Place { place, size };
-            }
-            KeptAs::None
-        }
-        KeptAs::Place { place: p, size: s } => KeptAs::Place { place: p, size: s },
+        None if kept => Some(KeptSegment { place, size }),
+        _ => old,
     }
 }
 
@@ -109,29 +87,17 @@ fn first_kept(old: KeptAs, kept: bool, place: usize, size: usize) -> KeptAs
 fn changed(row: IdRow, n: usize, d: Definition) -> IdRow
     ensures { result ≡ changed_row row n d }
 {
-    let segment = row.segment;
-    let kept = row.kept;
-    let external = row.external;
-    let old = row.name;
     match d {
-        Definition::Segment {
-            id,
-            info,
-            relocation,
-            size,
-            name,
-        } => IdRow {
-            segment: first_mark(segment, code_info(info)),
-            kept: first_kept(kept, is_kept(d), n, size),
-            external,
-            name: old,
+        Definition::Segment { info, size, .. } => IdRow {
+            segment: first_mark(row.segment, code_info(info)),
+            kept: first_kept(row.kept, is_kept(d), n, size),
+            ..row
         },
-        Definition::Public { id, offset, name } => row,
-        Definition::External { id, info, name } => IdRow {
-            segment,
-            kept,
-            external: first_mark(external, code_info(info)),
-            name: first_name(external, old, name),
+        Definition::Public { .. } => row,
+        Definition::External { info, name, .. } => IdRow {
+            external: first_mark(row.external, code_info(info)),
+            name: first_name(row.external, row.name, name),
+            ..row
         },
     }
 }
@@ -142,7 +108,7 @@ fn note(table: &mut [u32], n: usize, d: Definition)
     ensures { (table.new ≡ note_in table.old n d) × ((id_of d).0 < 65536) × Small (changed_row (id_row_at table.old (id_of d)) n d) }
 {
     let id = id_of(d);
-    if let Definition::Public { id, offset, name } = d {
+    if let Definition::Public { .. } = d {
         return;
     }
     let row = id_row(table, id);
@@ -154,10 +120,7 @@ fn kept_after(n: usize, d: Definition) -> usize
     requires { n + 1 < 2 ^ 64 }
     ensures { result ≡ kept_after n d }
 {
-    if is_kept(d) {
-        return n + 1;
-    }
-    n
+    n + usize::from(is_kept(d))
 }
 
 // Fills a clear table from all definitions of a module, from a place on, and answers how many segments are kept.
@@ -167,18 +130,12 @@ pub fn fill(library: &[u8], at: usize, table: &mut [u32]) -> usize
 {
     let mut c = start(at);
     let mut n = 0;
-    loop {
-        match next_definition(library, c) {
-            NextDefinition::Item { definition, rest } => {
-                note(table, n, definition);
-                n = kept_after(n, definition);
-                c = rest;
-            }
-            NextDefinition::Done => {
-                return n;
-            }
-        }
+    while let Some(NextDefinition { definition, rest }) = next_definition(library, c) {
+        note(table, n, definition);
+        n = kept_after(n, definition);
+        c = rest;
     }
+    n
 }
 
 // Clears the rows of all ids that the definitions from a place on have, which are mostly far fewer than the table has.
@@ -187,16 +144,9 @@ pub fn clear(library: &[u8], at: usize, table: &mut [u32])
     ensures { Tells [] table.new }
 {
     let mut c = start(at);
-    loop {
-        match next_definition(library, c) {
-            NextDefinition::Item { definition, rest } => {
-                put_id(table, id_of(definition), no_row());
-                c = rest;
-            }
-            NextDefinition::Done => {
-                return;
-            }
-        }
+    while let Some(NextDefinition { definition, rest }) = next_definition(library, c) {
+        put_id(table, id_of(definition), no_row());
+        c = rest;
     }
 }
 
@@ -206,7 +156,7 @@ fn no_row() -> IdRow
 {
     IdRow {
         segment: Mark::Missing,
-        kept: KeptAs::None,
+        kept: None,
         external: Mark::Missing,
         name: Part { at: 0, len: 0 },
     }

@@ -2,7 +2,7 @@
 ghost use Rattle.std.specs.Prelude.{◌≡◌, get_or};
 ghost use Rattle.module_index.specs.owner.Owned.{is_first, link_at};
 
-use module_ids::{IdRow, KeptAs};
+use module_ids::{IdRow, KeptSegment};
 use omf51::ModuleId;
 use tables::links::number_at;
 
@@ -14,13 +14,10 @@ pub fn head_of(heads: &[u32], id: ModuleId) -> u32
 }
 
 // Whether the segment at this place among the module's kept segments is the first kept segment of its id.
-fn is_first(kept: KeptAs, place: usize) -> bool
+fn is_first(kept: Option<KeptSegment>, place: usize) -> bool
     ensures { result ≡ is_first kept place }
 {
-    match kept {
-        KeptAs::None => false,
-        KeptAs::Place { place: p, size } => p == place,
-    }
+    kept.is_some_and(|k| k.place == place)
 }
 
 // The link to the first content that goes to the kept segment at a place. All contents of an id go to the first kept
@@ -28,8 +25,7 @@ fn is_first(kept: KeptAs, place: usize) -> bool
 pub fn link_at(heads: &[u32], id: ModuleId, row: IdRow, place: usize) -> u32
     ensures { result ≡ link_at heads.now id row place }
 {
-    let kept = row.kept;
-    if is_first(kept, place) {
+    if is_first(row.kept, place) {
         return head_of(heads, id);
     }
     0

@@ -17,7 +17,7 @@ inside-test at len offset h = rw (le-leb at offset h) (go (ltb (offset - at) len
     go true e = sym (lt-ltb offset (at + len) (omega (arith, ltb-true (offset - at) len e)))
     go false e = sym (le-ltb offset (at + len) (omega (arith, ltb-false (offset - at) len e)))
 
-module _ {c : Carried} {at len : ℕ} {own : Bool} (e : c ≡ Inside at len own) (offset : ℕ) where
+module _ {c : Carried} {at len : ℕ} {own : Bool} (e : c ≡ Inside (record { at = at; len = len; own = own })) (offset : ℕ) where
   pub not_carried : offset < at → false ≡ carries_at c offset
   not_carried h = rw (e, lt-leb at offset h) refl
 

@@ -15,12 +15,12 @@ use Rattle.segment_parts.specs.declared.carried.Carried.TheVariants.{All, Inside
 
 abbrev pub carries_at : Carried → ℕ → Bool
 carries_at All offset = true
-carries_at (Inside at len own) offset = leb at offset && ltb offset (at + len)
+carries_at (Inside w) offset = leb w.at offset && ltb offset (w.at + w.len)
 
 -- what is taken from their offsets
 abbrev pub base_of : Carried → ℕ
 base_of All = 0
-base_of (Inside at len own) = if own then at else 0
+base_of (Inside w) = if w.own then w.at else 0
 
 abbrev pub symbol_by : Carried → Definition → List Symbol
 symbol_by c (Segment id info relocation size name) = []

@@ -15,7 +15,7 @@ use omf51::Content;
 use tables::links::{next_at, place_at};
 
 // Where a content is merged: the start and size of its segment's pattern, and the offset in it.
-#[derive(Clone, Copy)]
+#[derive(Clone, Copy, Debug, PartialEq, Eq)]
 pub struct Spot {
     pub start: usize,
     pub size: usize,
@@ -78,11 +78,13 @@ pub fn merge_along(
     let mut here = link as usize;
     while last < here {
         let place = place_at(contents, here - 1);
-        let NextContent::Item {
-            content,
-            fixups,
-            rest,
-        } = next_content(library, place)
+        let Some(
+            NextContent {
+                content,
+                fixups,
+                ..
+            },
+        ) = next_content(library, place)
         else {
             return;
         };

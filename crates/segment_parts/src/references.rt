@@ -10,19 +10,19 @@ ghost use Rattle.segment_parts.specs.AddedReferences.{Placeable, Refers, RefersA
 use library::items::contents::next_content;
 use library::items::decoded::next_fixup;
 use library::items::{Cursor, NextContent, NextFixup};
-use module_ids::reference::{Leaves, reference_of};
+use module_ids::reference::reference_of;
 use module_ids::row::id_row;
-use segments::append::append_reference;
-use tables::fill::Fill;
+use segments::Reference;
+use tables::fill::{Fill, append};
 use tables::links::{next_at, place_at};
 
 // Puts the reference that a fixup leaves, if it leaves one.
-fn append_left(leaves: Leaves, m: &mut [u64], f: Fill) -> Fill
-    ensures { Adds reference_layout (left_by leaves) m.old f m.new result × (length m.new ≡ length m.old) }
+fn append_left(left: Option<Reference>, m: &mut [u64], f: Fill) -> Fill
+    ensures { Adds reference_layout (left_by left) m.old f m.new result × (length m.new ≡ length m.old) }
 {
-    match leaves {
-        Leaves::One(reference) => append_reference(m, f, reference),
-        Leaves::Nothing => f,
+    match left {
+        Some(reference) => append(m, f, reference),
+        None => f,
     }
 }
 
@@ -42,19 +42,13 @@ pub fn refer(
 {
     let mut c = from;
     let mut f = before;
-    loop {
-        match next_fixup(library, c) {
-            NextFixup::Item { fixup, rest } => {
-                let row = id_row(table, fixup.id);
-                let leaves = reference_of(row, number, base, fixup);
-                f = append_left(leaves, m, f);
-                c = rest;
-            }
-            NextFixup::Done => {
-                return f;
-            }
-        }
+    while let Some(NextFixup { fixup, rest }) = next_fixup(library, c) {
+        let row = id_row(table, fixup.id);
+        let left = reference_of(row, number, base, fixup);
+        f = append_left(left, m, f);
+        c = rest;
     }
+    f
 }
 
 // Puts the references of all contents that are met from a link on, each with its content's offset added to its
@@ -76,11 +70,13 @@ pub fn refer_along(
     let mut f = before;
     while last < here {
         let place = place_at(contents, here - 1);
-        let NextContent::Item {
-            content,
-            fixups,
-            rest,
-        } = next_content(library, place)
+        let Some(
+            NextContent {
+                content,
+                fixups,
+                ..
+            },
+        ) = next_content(library, place)
         else {
             return f;
         };

@@ -8,8 +8,7 @@ use lent::part::Part;
 use library::items::decoded::word;
 use omf51::read_record::byte_at;
 use segments::Symbol;
-use segments::append::append_symbol;
-use tables::fill::Fill;
+use tables::fill::{Fill, append};
 use tables::links::{next_at, place_at};
 
 // Whether a segment carries a public definition of its id with this offset.
@@ -18,12 +17,7 @@ fn carries(c: Carried, offset: usize) -> bool
 {
     match c {
         Carried::All => true,
-        Carried::Inside { at, len, own } => {
-            if offset < at {
-                return false;
-            }
-            offset - at < len
-        }
+        Carried::Inside(window) => window.contains(offset),
     }
 }
 
@@ -32,24 +26,9 @@ fn offset_in(c: Carried, offset: usize) -> usize
     ensures { result ≡ offset - base_of c }
 {
     match c {
-        Carried::All => offset,
-        Carried::Inside { at, len, own } => {
-            if own {
-                if offset < at {
-                    return 0;
-                }
-                return offset - at;
-            }
-            offset
-        }
+        Carried::Inside(window) if window.own => offset.saturating_sub(window.at),
+        Carried::Inside(_) | Carried::All => offset,
     }
-}
-
-// A byte as a size.
-fn wide(x: u8) -> usize
-    ensures { result ≡ x }
-{
-    x as usize
 }
 
 // Puts the symbol of a public definition, if the segment carries it. `place` is where the definition's offset stands in
@@ -63,11 +42,11 @@ pub fn append_public(library: &[u8], place: usize, c: Carried, m: &mut [u64], f:
         let symbol = Symbol {
             name: Part {
                 at: place + 4,
-                len: wide(byte_at(library, place + 3)),
+                len: usize::from(byte_at(library, place + 3)),
             },
             offset: offset_in(c, offset),
         };
-        return append_symbol(m, f, symbol);
+        return append(m, f, symbol);
     }
     f
 }

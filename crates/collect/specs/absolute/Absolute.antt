@@ -12,7 +12,7 @@ use Rattle.module_index.specs.gather.Publics.{zero_publics}
 use Rattle.segment_parts.specs.symbols_by_offset.Inside.{Standing}
 use Rattle.collect.specs.declared.absolute.Absolutes.{Absolutes}
 use Rattle.collect.specs.declared.stored.CollectCounts.{CollectCounts}
-use Rattle.collect.specs.declared.stored.Stored.{Stored}
+use Rattle.collect.specs.stored.Rows.{Stored}
 use Rattle.collect.specs.stored.Stores.{CollectLists, Extends, SameLengths}
 use Rattle.collect.specs.stored.Segments.{own_by}
 

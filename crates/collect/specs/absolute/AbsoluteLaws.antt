@@ -12,8 +12,9 @@ use Rattle.tables.specs.links.ThingLaws.{keys-long}
 use Rattle.tables.specs.links.Follow.{Follows}
 use Rattle.tables.specs.links.FollowLaws.{Met, follows-end, follows-step}
 use Rattle.collect.specs.declared.stored.CollectCounts.{CollectCounts}
-use Rattle.collect.specs.declared.stored.Stored.{Stored}
-use Rattle.collect.specs.declared.stored.Stored.TheVariants.{Rows, NoRoom}
+use Rattle.collect.specs.stored.Rows.{Stored}
+use Rattle.std.specs.Prelude.{Ok}
+use Rattle.collect.specs.stored.Rows.{without_room}
 use Rattle.collect.specs.stored.Stores.{CollectLists, Room, Stores, Extends}
 use Rattle.collect.specs.stored.Progress.{Progress}
 use Rattle.collect.specs.stored.ProgressLaws.{progress-starts, progress-on, progress-lacks, progress-ends}
@@ -46,14 +47,14 @@ module _ (is : ℕ → Section → Type 0) (next : List ℕ) (rules : Rules) (li
     split : Progress gs all (one (absolute_segment rules library m number met.head) ++ rest) l c
     split = subst (λ ss. Progress gs all (map (absolute_segment rules library m number) ss) l c) met.whole p.progress
 
-    pub absolutes-on : {more : CollectCounts} → w ≡ Rows more → Storing is next rules library m number gs here (get_or next (here - 1) 0) after more
+    pub absolutes-on : {more : CollectCounts} → w ≡ Ok more → Storing is next rules library m number gs here (get_or next (here - 1) 0) after more
     absolutes-on q = record {
       left = met.rest;
       follows = met.goes_on;
       progress = progress-on gs all (one (absolute_segment rules library m number met.head)) rest after w split (x met.head met.stands) q;
     }
 
-    pub absolutes-lack : w ≡ NoRoom → Room (gs ++ all) after → ⊥
+    pub absolutes-lack : w ≡ without_room → Room (gs ++ all) after → ⊥
     absolutes-lack q = progress-lacks gs all (one (absolute_segment rules library m number met.head)) rest after w split (x met.head met.stands) q
 
   pub absolutes-end : (last here : ℕ) {l : CollectLists} {c : CollectCounts} → here ≤ last → Storing is next rules library m number gs last here l c → Stores (gs ++ all) l c

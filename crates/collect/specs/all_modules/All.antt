@@ -5,7 +5,7 @@ use Rattle.omf51.specs.Module.{Module}
 use Rattle.segments.specs.Collect.{collect}
 use Rattle.module_ids.specs.Noted.{Tells}
 use Rattle.collect.specs.declared.stored.CollectCounts.{CollectCounts}
-use Rattle.collect.specs.declared.stored.Stored.{Stored}
+use Rattle.collect.specs.stored.Rows.{Stored}
 use Rattle.collect.specs.stored.Stores.{CollectLists, After, SameLengths}
 
 -- nothing is stored yet

@@ -13,8 +13,9 @@ use Rattle.segments.specs.Collect.{Collected, module_segments, collect}
 use Rattle.segments.specs.SegmentRows.{segment_rows_from, pattern_bytes, pattern_masks}
 use Rattle.segments.specs.SegmentLayouts.{segment_layout, reference_layout, symbol_layout}
 use Rattle.collect.specs.declared.stored.CollectCounts.{CollectCounts}
-use Rattle.collect.specs.declared.stored.Stored.{Stored}
-use Rattle.collect.specs.declared.stored.Stored.TheVariants.{Rows, NoRoom}
+use Rattle.collect.specs.stored.Rows.{Stored}
+use Rattle.std.specs.Prelude.{Ok}
+use Rattle.collect.specs.stored.Rows.{without_room}
 use Rattle.collect.specs.stored.Rows.{filled_to}
 use Rattle.collect.specs.stored.Stores.{CollectLists, Room, Stores, After, Extends}
 use Rattle.collect.specs.stored.StoreLaws.{stored-count}
@@ -91,8 +92,8 @@ module _ (rules : Rules) (library : List ℕ) where
     turned : collect_on rules library more-segments rest ≡ collect rules library all
     turned = sym (collect-turn rules library p.segments e) ∙ p.same
 
-    pub collecting-on : {more : CollectCounts} → w ≡ Rows more → Collecting rules library all rest after more
+    pub collecting-on : {more : CollectCounts} → w ≡ Ok more → Collecting rules library all rest after more
     collecting-on q = record { segments = more-segments; stored = rw q at extended; same = turned }
 
-    pub collecting-lacks : w ≡ NoRoom → Room (collect rules library all) after → ⊥
+    pub collecting-lacks : w ≡ without_room → Room (collect rules library all) after → ⊥
     collecting-lacks q room = (rw q at extended) (room-before rules library more-segments rest after (subst (λ gs. Room gs after) (sym turned) room))

@@ -2,6 +2,7 @@
 use Rattle.std.specs.Prelude.{ℕ, zero, suc, ◌+◌, ◌<◌, ◌≤◌, ◌^◌, ◌≡◌, refl, Bool, true, false, List, [], ◌∷◌, length, if◌then◌else◌}
 use Rattle.std.proofs.Common.{ap, ◌∙◌, arith}
 use Rattle.std.proofs.Math.Option.{Option, none, some}
+use Rattle.std.specs.Prelude.{Option as Answer, Some, None}
 use Rattle.lent.specs.Lists.{keep, place_of, first}
 use Rattle.omf51.specs.declared.ModuleId.{ModuleId}
 use Rattle.omf51.specs.declared.Definition.{Definition}
@@ -9,7 +10,6 @@ use Rattle.omf51.specs.Module.{definitions_at}
 use Rattle.library.specs.Gathered.{items_at}
 use Rattle.library.specs.declared.items.Cursor.{Cursor}
 use Rattle.library.specs.declared.items.NextDefinition.{NextDefinition}
-use Rattle.library.specs.declared.items.NextDefinition.TheVariants.{Item, Done}
 use Rattle.library.specs.items.Walk.{start_at}
 use Rattle.library.specs.items.Items.{next_definition}
 use Rattle.library.specs.items.Left.{definitions_left}
@@ -25,13 +25,13 @@ left-few : (library : List ℕ) (n : ℕ) (c : Cursor) → Ordered c → c.at �
 left-few library zero c o h e = omega arith
 left-few library (suc n) c o h e = go (next_definition library c) refl (left-few library n)
   where
-    go : (s : NextDefinition) → next_definition library c ≡ s → ((k : Cursor) → Ordered k → k.at ≤ length library → length (definitions_left library k) ≡ n → k.at + n ≤ length library)
+    go : (s : Answer NextDefinition) → next_definition library c ≡ s → ((k : Cursor) → Ordered k → k.at ≤ length library → length (definitions_left library k) ≡ n → k.at + n ≤ length library)
         → c.at + suc n ≤ length library
-    go (Item d rest) q again =
+    go (Some next) q again =
         let f = definition-goes library c o q in
-        let l : length (definitions_left library c) ≡ suc (length (definitions_left library rest)) = ap length (next-definition-yields library c ∙ ap (definitions_after library) q) in
-        omega (arith, f.later, again rest f.ordered f.inside (omega (arith, l, e)))
-    go Done q again =
+        let l : length (definitions_left library c) ≡ suc (length (definitions_left library next.rest)) = ap length (next-definition-yields library c ∙ ap (definitions_after library) q) in
+        omega (arith, f.later, again next.rest f.ordered f.inside (omega (arith, l, e)))
+    go None q again =
         let l : length (definitions_left library c) ≡ 0 = ap length (next-definition-yields library c ∙ ap (definitions_after library) q) in
         absurd (omega (arith, l, e))
 

@@ -9,7 +9,7 @@ use Rattle.module_ids.specs.Noted.{Tells}
 use Rattle.module_index.specs.Indexed.{Blank}
 use Rattle.collect.specs.declared.one_module.ModuleTask.{ModuleTask}
 use Rattle.collect.specs.declared.stored.CollectCounts.{CollectCounts}
-use Rattle.collect.specs.declared.stored.Stored.{Stored}
+use Rattle.collect.specs.stored.Rows.{Stored}
 use Rattle.collect.specs.stored.Stores.{CollectLists, Extends, SameLengths}
 use Rattle.collect.specs.stored.Segments.{own_by}
 

@@ -11,7 +11,7 @@ use Rattle.module_index.specs.owner.Owned.{link_at}
 use Rattle.module_index.specs.Indexed.{Indexed}
 use Rattle.collect.specs.declared.kept.one.KeptFrom.{KeptFrom}
 use Rattle.collect.specs.declared.stored.CollectCounts.{CollectCounts}
-use Rattle.collect.specs.declared.stored.Stored.{Stored}
+use Rattle.collect.specs.stored.Rows.{Stored}
 use Rattle.collect.specs.stored.Stores.{CollectLists, Extends, SameLengths}
 
 -- from what the kept segment that d defines is stored, by the tables of its module; `place` is its place among the kept ones

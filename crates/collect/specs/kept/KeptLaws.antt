@@ -18,8 +18,9 @@ use Rattle.module_index.specs.gather.Places.{SectionIs}
 use Rattle.module_ids.specs.IdRows.{kept_as, id_row, id_row_at}
 use Rattle.module_index.specs.Indexed.{Indexed}
 use Rattle.collect.specs.declared.stored.CollectCounts.{CollectCounts}
-use Rattle.collect.specs.declared.stored.Stored.{Stored}
-use Rattle.collect.specs.declared.stored.Stored.TheVariants.{Rows, NoRoom}
+use Rattle.collect.specs.stored.Rows.{Stored}
+use Rattle.std.specs.Prelude.{Ok}
+use Rattle.collect.specs.stored.Rows.{without_room}
 use Rattle.collect.specs.stored.Stores.{CollectLists, Room, Extends}
 use Rattle.collect.specs.stored.Progress.{Progress}
 use Rattle.collect.specs.stored.ProgressLaws.{progress-count, progress-begun, progress-on, progress-lacks}
@@ -110,13 +111,13 @@ module _ (library : List ℕ) (m : Module) (number : ℕ) (gs : List Collected) 
   extended : Extends (one (kept_segment library m number (place, d))) l c after w
   extended = x (omega (arith, counted, n, progress-begun gs all p))
 
-  pub keeps_on : {more : CollectCounts} → w ≡ Rows more → Progress gs all (kept_rest library m number (more.segments - number) rest) after more
+  pub keeps_on : {more : CollectCounts} → w ≡ Ok more → Progress gs all (kept_rest library m number (more.segments - number) rest) after more
   keeps_on {more} q =
       let r = progress-on gs all (one (kept_segment library m number (place, d))) (kept_rest library m number (place + 1) rest) after w here extended q in
       let s : place + 1 ≡ more.segments - number = omega (arith, counted, n, progress-begun gs all p, progress-count gs all (kept_rest library m number (place + 1) rest) r, kept-many library m number) in
       subst (λ j. Progress gs all (kept_rest library m number j rest) after more) s r
 
-  pub keeps-lack : w ≡ NoRoom → Room (gs ++ all) after → ⊥
+  pub keeps-lack : w ≡ without_room → Room (gs ++ all) after → ⊥
   keeps-lack q = progress-lacks gs all (one (kept_segment library m number (place, d))) (kept_rest library m number (place + 1) rest) after w here extended q
 
 pub keeps-start : (library : List ℕ) (m : Module) (number : ℕ) {left : List Definition} → left ≡ m.definitions → kept_segments library m number ≡ kept_rest library m number 0 left

@@ -13,8 +13,9 @@ use Rattle.module_index.specs.gather.Publics.{offset_key, zero_publics}
 use Rattle.module_index.specs.IndexedTables.{IndexedInto}
 use Rattle.segment_parts.specs.symbols_by_offset.Inside.{Standing}
 use Rattle.collect.specs.declared.stored.CollectCounts.{CollectCounts}
-use Rattle.collect.specs.declared.stored.Stored.{Stored}
-use Rattle.collect.specs.declared.stored.Stored.TheVariants.{Rows, NoRoom}
+use Rattle.collect.specs.stored.Rows.{Stored}
+use Rattle.std.specs.Prelude.{Ok}
+use Rattle.collect.specs.stored.Rows.{without_room}
 use Rattle.collect.specs.stored.Stores.{CollectLists, Room, After, Extends, Stores}
 use Rattle.collect.specs.stored.ProgressLaws.{room-front}
 use Rattle.collect.specs.kept.Kept.{kept_segments}
@@ -27,7 +28,7 @@ module _ (rules : Rules) (library : List ℕ) (m : Module) (number : ℕ) where
   two-parts = refl
 
   -- the second part behind the first
-  pub both_stored : (l middle after : CollectLists) (c : CollectCounts) {more : CollectCounts} (v w : Stored) → Extends (kept_segments library m number) l c middle v → v ≡ Rows more
+  pub both_stored : (l middle after : CollectLists) (c : CollectCounts) {more : CollectCounts} (v w : Stored) → Extends (kept_segments library m number) l c middle v → v ≡ Ok more
       → Extends (absolute_segments rules library m number) middle more after w → Extends (module_segments rules library number m) l c after w
   both_stored l middle after c {more} v w a e b gs s =
       subst (λ xs. After xs after w) (append_assoc gs (kept_segments library m number) (absolute_segments rules library m number) ∙ sym (rest gs))
@@ -37,7 +38,7 @@ module _ (rules : Rules) (library : List ℕ) (m : Module) (number : ℕ) where
       rest gs = rw two-parts refl
 
   -- no room for the first part is no room for both; then nothing more is stored
-  pub first-lacks : (l middle : CollectLists) (c : CollectCounts) (v : Stored) → Extends (kept_segments library m number) l c middle v → v ≡ NoRoom → Extends (module_segments rules library number m) l c middle NoRoom
+  pub first-lacks : (l middle : CollectLists) (c : CollectCounts) (v : Stored) → Extends (kept_segments library m number) l c middle v → v ≡ without_room → Extends (module_segments rules library number m) l c middle without_room
   first-lacks l middle c v a e gs s room =
       (rw e at (a gs s)) (room-front (gs ++ kept_segments library m number) (absolute_segments rules library m number) middle
       (subst (λ xs. Room xs middle) (rw two-parts refl ∙ sym (append_assoc gs (kept_segments library m number) (absolute_segments rules library m number))) room))
@@ -54,7 +55,7 @@ by-offset {library} {m} {contents = contents} {definitions = definitions} {n = n
 
 -- a module without absolute contents has nothing in its second part
 pub none-absolute : (rules : Rules) {library : List ℕ} {m : Module} (number : ℕ) {from : ℕ} {table first contents : List ℕ} → get_or first 0 0 ≡ 0 → Known library m from table first contents
-    → (l : CollectLists) (c : CollectCounts) → Extends (absolute_segments rules library m number) l c l (Rows c)
+    → (l : CollectLists) (c : CollectCounts) → Extends (absolute_segments rules library m number) l c l (Ok c)
 none-absolute rules {library} {m} number {first = first} {contents = contents} e k l c gs stores =
     let none = follows-end (SectionIs library (places_of contents)) (next_of contents) 0 (get_or first 0 0) (sections_of m absolute_id) (omega (arith, e)) (k.sections 0 (omega arith)) in
     subst (λ xs. Stores xs l c) (sym (append-nil gs) ∙ ap (λ ss. gs ++ map (absolute_segment rules library m number) ss) (sym none)) stores

@@ -11,7 +11,7 @@ use Rattle.module_index.specs.Indexed.{Blank, Meets}
 use Rattle.collect.specs.declared.absolute.Absolutes.{Absolutes}
 use Rattle.collect.specs.declared.one_module.ModuleTask.{ModuleTask}
 use Rattle.collect.specs.declared.stored.CollectCounts.{CollectCounts}
-use Rattle.collect.specs.declared.stored.Stored.{Stored}
+use Rattle.collect.specs.stored.Rows.{Stored}
 use Rattle.collect.specs.stored.Stores.{CollectLists, Extends, SameLengths}
 use Rattle.collect.specs.stored.Segments.{own_by}
 use Rattle.collect.specs.kept.Kept.{kept_segments}

@@ -6,7 +6,7 @@ use Rattle.tables.specs.declared.fill.Fill.{Fill}
 use Rattle.image.specs.declared.Seat.{Seat}
 use Rattle.image.specs.declared.fixup.Rules.{Rules}
 use Rattle.collect.specs.declared.stored.CollectCounts.{CollectCounts}
-use Rattle.collect.specs.declared.stored.Stored.{Stored}
+use Rattle.collect.specs.stored.Rows.{Stored}
 use Rattle.collect.specs.stored.Rows.{filled_to, finished, finished_in}
 use Rattle.collect.specs.stored.Segments.{own_by}
 

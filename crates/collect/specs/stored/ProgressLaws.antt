@@ -6,8 +6,9 @@ use Rattle.lent.specs.ListLaws.{joined-append}
 use Rattle.segments.specs.Collect.{Collected}
 use Rattle.segments.specs.SegmentRows.{pattern_bytes, pattern_masks}
 use Rattle.collect.specs.declared.stored.CollectCounts.{CollectCounts}
-use Rattle.collect.specs.declared.stored.Stored.{Stored}
-use Rattle.collect.specs.declared.stored.Stored.TheVariants.{Rows, NoRoom}
+use Rattle.collect.specs.stored.Rows.{Stored}
+use Rattle.std.specs.Prelude.{Ok}
+use Rattle.collect.specs.stored.Rows.{without_room}
 use Rattle.collect.specs.stored.Stores.{CollectLists, Room, Stores, Extends, SameLengths}
 use Rattle.collect.specs.stored.StoreLaws.{stored-count}
 use Rattle.collect.specs.stored.Progress.{Progress}
@@ -40,10 +41,10 @@ module _ (before all : List Collected) where
     together : (p.done ++ new) ++ rest ≡ all
     together = append_assoc p.done new rest ∙ p.whole
 
-    pub progress-on : {more : CollectCounts} → w ≡ Rows more → Progress before all rest after more
+    pub progress-on : {more : CollectCounts} → w ≡ Ok more → Progress before all rest after more
     progress-on {more} e = record { done = p.done ++ new; whole = together; stored = subst (λ gs. Stores gs after more) (append_assoc before p.done new) (rw e at (x (before ++ p.done) p.stored)) }
 
-    pub progress-lacks : w ≡ NoRoom → Room (before ++ all) after → ⊥
+    pub progress-lacks : w ≡ without_room → Room (before ++ all) after → ⊥
     progress-lacks e room =
         (rw e at (x (before ++ p.done) p.stored))
         (room-front ((before ++ p.done) ++ new) rest after (subst (λ gs. Room gs after) (ap (λ gs. before ++ gs) (sym together) ∙ sym (append_assoc before (p.done ++ new) rest) ∙ ap (λ gs. gs ++ rest) (sym (append_assoc before p.done new))) room))

@@ -10,7 +10,8 @@ use Rattle.tables.specs.fill.FilledRowLaws.{put-more-length}
 use Rattle.image.specs.declared.Seat.{Seat}
 use Rattle.segments.specs.SegmentLayouts.{segment_layout}
 use Rattle.collect.specs.declared.stored.CollectCounts.{CollectCounts}
-use Rattle.collect.specs.declared.stored.Stored.TheVariants.{Rows, NoRoom}
+use Rattle.std.specs.Prelude.{Ok}
+use Rattle.collect.specs.stored.Rows.{without_room}
 use Rattle.collect.specs.stored.Rows.{filled_to, since, row_of, stored_to, finished, finished_in}
 
 -- room for more, without the sum
@@ -25,12 +26,12 @@ pub since-back : (start end : ℕ) → end < start → ◌≡◌ {A = Part} (rec
 since-back start end h = let e : 0 ≡ end - start = omega arith in ap (λ n. record { at = start; len = n }) e
 
 module _ (seat : Seat) (c : CollectCounts) (end : ℕ) (references symbols : Fill) (m : List ℕ) where
-  pub without-references : references.over ≡ true → (NoRoom ≡ finished c end references symbols (length m)) × (m ≡ finished_in seat c end references symbols m)
+  pub without-references : references.over ≡ true → (without_room ≡ finished c end references symbols (length m)) × (m ≡ finished_in seat c end references symbols m)
   unfolding finished finished_in
   without-references e = rw e (refl, refl)
 
   module _ (r : references.over ≡ false) where
-    pub without-symbols : symbols.over ≡ true → (NoRoom ≡ finished c end references symbols (length m)) × (m ≡ finished_in seat c end references symbols m)
+    pub without-symbols : symbols.over ≡ true → (without_room ≡ finished c end references symbols (length m)) × (m ≡ finished_in seat c end references symbols m)
     unfolding finished finished_in
     without-symbols e = rw (r, e) (refl, refl)
 
@@ -42,11 +43,11 @@ module _ (seat : Seat) (c : CollectCounts) (end : ℕ) (references symbols : Fil
 
 -- whether the row itself had room
 module _ (end : ℕ) (references symbols segments : Fill) where
-  pub row-lacks : segments.over ≡ true → NoRoom ≡ stored_to end references symbols segments
+  pub row-lacks : segments.over ≡ true → without_room ≡ stored_to end references symbols segments
   row-lacks e = rw e refl
 
   pub row_fits : segments.over ≡ false
-      → Rows (record { segments = segments.rows; references = references.rows; symbols = symbols.rows; pattern = end }) ≡ stored_to end references symbols segments
+      → Ok (record { segments = segments.rows; references = references.rows; symbols = symbols.rows; pattern = end }) ≡ stored_to end references symbols segments
   row_fits e = rw e refl
 
 -- memory keeps its length

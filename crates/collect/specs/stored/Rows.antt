@@ -1,5 +1,5 @@
 -- The row of a segment, as the code puts it together.
-use Rattle.std.specs.Prelude.{ℕ, ◌-◌, false, List, if◌then◌else◌}
+use Rattle.std.specs.Prelude.{ℕ, ◌-◌, false, List, Result, Ok, Err, if◌then◌else◌}
 use Rattle.lent.specs.declared.part.Part.{Part}
 use Rattle.tables.specs.declared.fill.Fill.{Fill}
 use Rattle.tables.specs.fill.FilledRows.{one_more, put_more}
@@ -7,8 +7,14 @@ use Rattle.image.specs.declared.Seat.{Seat}
 use Rattle.segments.specs.declared.SegmentRow.{SegmentRow}
 use Rattle.segments.specs.SegmentLayouts.{segment_layout}
 use Rattle.collect.specs.declared.stored.CollectCounts.{CollectCounts}
-use Rattle.collect.specs.declared.stored.Stored.{Stored}
-use Rattle.collect.specs.declared.stored.Stored.TheVariants.{Rows, NoRoom}
+use Rattle.collect.specs.declared.stored.NoRoom.{NoRoom}
+
+-- how much is stored so far, or that there was no room
+abbrev pub Stored : Type 0
+Stored = Result CollectCounts NoRoom
+
+abbrev pub without_room : Stored
+without_room = Err (record {})
 
 -- so many rows, and room for more
 abbrev pub filled_to : ℕ → Fill
@@ -28,12 +34,12 @@ row_of seat c end references symbols = record {
 -- nothing is stored any more where something had no room
 abbrev pub stored_to : ℕ → Fill → Fill → Fill → Stored
 stored_to end references symbols segments =
-    if segments.over then NoRoom
-    else Rows (record { segments = segments.rows; references = references.rows; symbols = symbols.rows; pattern = end })
+    if segments.over then without_room
+    else Ok (record { segments = segments.rows; references = references.rows; symbols = symbols.rows; pattern = end })
 
 unfoldable pub finished : CollectCounts → ℕ → Fill → Fill → ℕ → Stored
 finished c end references symbols len =
-    if references.over then NoRoom else if symbols.over then NoRoom else stored_to end references symbols (one_more (filled_to c.segments) 8 len)
+    if references.over then without_room else if symbols.over then without_room else stored_to end references symbols (one_more (filled_to c.segments) 8 len)
 
 unfoldable pub finished_in : Seat → CollectCounts → ℕ → Fill → Fill → List ℕ → List ℕ
 finished_in seat c end references symbols m =

@@ -66,8 +66,8 @@ pub absolute-by : (rules : Rules) (library : List ℕ) (m : Module) (number : �
     → absolute_segment rules library m number s ≡ absolute_of library m.definitions number (own_by rules) s.content s.fixups (publics_of m absolute_id)
 unfolding absolute_segment
 absolute-by rules library m number s =
-    rw (symbols-by m absolute_id (inside_of s.content) (symbol_base rules s.content) (Inside s.content.offset s.content.part.len (own_by rules)) (λ offset. refl) (go rules), references-by m number 0 s) refl
+    rw (symbols-by m absolute_id (inside_of s.content) (symbol_base rules s.content) (Inside (record { at = s.content.offset; len = s.content.part.len; own = own_by rules })) (λ offset. refl) (go rules), references-by m number 0 s) refl
   where
-    go : (r : Rules) → symbol_base r s.content ≡ base_of (Inside s.content.offset s.content.part.len (own_by r))
+    go : (r : Rules) → symbol_base r s.content ≡ base_of (Inside (record { at = s.content.offset; len = s.content.part.len; own = own_by r }))
     go AsFound = refl
     go Documented = refl

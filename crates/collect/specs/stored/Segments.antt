@@ -26,7 +26,7 @@ use Rattle.segment_parts.specs.symbols_by_offset.Inside.{Offered}
 use Rattle.collect.specs.declared.kept.one.KeptFrom.{KeptFrom}
 use Rattle.collect.specs.declared.absolute.one.AbsoluteFrom.{AbsoluteFrom}
 use Rattle.collect.specs.declared.stored.CollectCounts.{CollectCounts}
-use Rattle.collect.specs.declared.stored.Stored.{Stored}
+use Rattle.collect.specs.stored.Rows.{Stored}
 use Rattle.collect.specs.stored.Stores.{CollectLists, Extends, SameLengths}
 
 abbrev pub lists : List ℕ → List ℕ → List ℕ → List ℕ → List ℕ → CollectLists
@@ -47,7 +47,7 @@ absolute_of library definitions number own content fixups publics = record {
   bytes = bytes_of library content.part;
   masks = masks_of (length (bytes_of library content.part)) fixups;
   references = joined (leaves_in definitions number 0) fixups;
-  symbols = joined (symbol_by (Inside content.offset content.part.len own)) publics;
+  symbols = joined (symbol_by (Inside (record { at = content.offset; len = content.part.len; own = own }))) publics;
 }
 
 -- the public definitions of an id, as they are gathered

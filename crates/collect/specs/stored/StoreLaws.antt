@@ -16,7 +16,7 @@ use Rattle.segments.specs.SegmentRows.{following, segment_rows_from, segment_row
 use Rattle.segments.specs.SegmentLayouts.{segment_layout, reference_layout, symbol_layout}
 use Rattle.segments.proofs.SegmentLayoutLaws.{segment-width}
 use Rattle.collect.specs.declared.stored.CollectCounts.{CollectCounts}
-use Rattle.collect.specs.declared.stored.Stored.{Stored}
+use Rattle.collect.specs.stored.Rows.{Stored}
 use Rattle.collect.specs.stored.Rows.{filled_to, since, row_of, stored_to, finished, finished_in}
 use Rattle.collect.specs.stored.RowLaws.{without-references, without-symbols, with_row, row-lacks, row_fits}
 use Rattle.collect.specs.stored.Stores.{CollectLists, references_in, symbols_in, Room, Padded, Stores, After}

@@ -9,8 +9,8 @@ use Rattle.segments.specs.Collect.{Collected}
 use Rattle.segments.specs.SegmentRows.{segment_rows, pattern_bytes, pattern_masks}
 use Rattle.segments.specs.SegmentLayouts.{segment_layout, reference_layout, symbol_layout}
 use Rattle.collect.specs.declared.stored.CollectCounts.{CollectCounts}
-use Rattle.collect.specs.declared.stored.Stored.{Stored}
-use Rattle.collect.specs.declared.stored.Stored.TheVariants.{Rows, NoRoom}
+use Rattle.collect.specs.stored.Rows.{Stored}
+use Rattle.std.specs.Prelude.{Ok, Err}
 use Rattle.collect.specs.stored.Rows.{filled_to}
 
 -- the lists that are lent to the collection
@@ -52,8 +52,8 @@ pub record Stores (gs : List Collected) (l : CollectLists) (c : CollectCounts) :
   pub even : length (pattern_masks gs) ≡ length (pattern_bytes gs)
 
 abbrev pub After : List Collected → CollectLists → Stored → Type 0
-After gs l (Rows c) = Stores gs l c
-After gs l NoRoom = Room gs l → ⊥
+After gs l (Ok c) = Stores gs l c
+After gs l (Err e) = Room gs l → ⊥
 
 -- whatever was stored before, these are stored behind it, or there is no room for all
 abbrev pub Extends : List Collected → CollectLists → CollectCounts → CollectLists → Stored → Type 0

@@ -5,10 +5,11 @@ ghost use Rattle.segment_parts.specs.symbols_by_offset.Flags.{Clear};
 ghost use Rattle.collect.specs.stored.Segments.{lists, WholeContent, StoresAbsolute};
 
 use crate::stored::row::{filled_to, finish, fits};
-use crate::stored::{CollectCounts, Stored};
+use crate::stored::{CollectCounts, NoRoom};
 use image::Seat;
 use library::items::Cursor;
 use omf51::Content;
+use segment_parts::carried::Window;
 use segment_parts::patterns::{Spot, merge_content};
 use segment_parts::references::refer;
 use segment_parts::symbols_by_offset::names::name_inside;
@@ -41,7 +42,7 @@ pub fn store_absolute(
     masks: &mut [u8],
     apart: &mut [u8],
     flags: &mut [u8],
-) -> Stored
+) -> Result<CollectCounts, NoRoom>
     requires { Placeable table.now number 0 × ((65536 ≤ length apart.old) × (WholeContent library.now from.content × Clear flags.old)) }
     ensures { StoresAbsolute library.now table.now number from publics.now heads.now c
         (lists segments.old references.old symbols.old bytes.old masks.old) apart.old flags.old
@@ -50,12 +51,16 @@ pub fn store_absolute(
     let content = from.content;
     let fixups = from.fixups;
     let size = content.part.len;
-    let at = content.offset;
+    let window = Window {
+        at: content.offset,
+        len: size,
+        own: from.own,
+    };
     if !fits(c.pattern, size, bytes.len()) {
-        return Stored::NoRoom;
+        return Err(NoRoom);
     }
     if !fits(c.pattern, size, masks.len()) {
-        return Stored::NoRoom;
+        return Err(NoRoom);
     }
     let spot = Spot {
         start: c.pattern,
@@ -74,9 +79,7 @@ pub fn store_absolute(
     );
     let y = name_inside(
         library,
-        at,
-        size,
-        from.own,
+        window,
         publics,
         from.n,
         heads,
@@ -84,5 +87,12 @@ pub fn store_absolute(
         symbols,
         filled_to(c.symbols),
     );
-    finish(Seat::Only(at), c, c.pattern + size, r, y, segments)
+    finish(
+        Seat::Only(content.offset),
+        c,
+        c.pattern + size,
+        r,
+        y,
+        segments,
+    )
 }

@@ -10,9 +10,9 @@ ghost use Rattle.collect.specs.all_modules.All.{nothing, StoresAll};
 use crate::all_modules::module::store_module;
 use crate::one_module::ModuleTask;
 use crate::stored::rules::is_own;
-use crate::stored::{CollectCounts, Stored};
+use crate::stored::{CollectCounts, NoRoom};
 use image::fixup::Rules;
-use library::ModuleAt;
+use library::edition::EditionOne;
 use library::module::module_at;
 
 // The counts before anything is stored.
@@ -45,7 +45,7 @@ pub fn store_all(
     bytes: &mut [u8],
     masks: &mut [u8],
     apart: &mut [u8],
-) -> Stored
+) -> Result<CollectCounts, NoRoom>
     requires { Workable library.now 0 table.old contents.old first.old publics.old heads.old apart.old × Stores [] (lists segments.old references.old symbols.old bytes.old masks.old) nothing }
     ensures { StoresAll library.now rules (items_at library.now (module_at library.now) from) table.new
         (lists segments.old references.old symbols.old bytes.old masks.old)
@@ -54,11 +54,8 @@ pub fn store_all(
     let own = is_own(rules);
     let mut at = from;
     let mut c = none_yet();
-    loop {
-        let ModuleAt::Whole(module) = module_at(library, at) else {
-            return Stored::Rows(c);
-        };
-        let stored = store_module(
+    while let Ok(Some(module)) = module_at::<EditionOne>(library, at) {
+        c = store_module(
             library,
             ModuleTask { at: module, own },
             c,
@@ -73,11 +70,8 @@ pub fn store_all(
             bytes,
             masks,
             apart,
-        );
-        let Stored::Rows(more) = stored else {
-            return Stored::NoRoom;
-        };
-        c = more;
+        )?;
         at = module.next;
     }
+    Ok(c)
 }

@@ -4,7 +4,7 @@ ghost use Rattle.collect.specs.all_modules.Modules.{Workable, StoresModule};
 
 use crate::one_module::ModuleTask;
 use crate::one_module::both::both_parts;
-use crate::stored::{CollectCounts, Stored};
+use crate::stored::{CollectCounts, NoRoom};
 use module_ids::table::{clear, fill};
 use module_index::index_sections;
 use tables::links::unlink;
@@ -26,7 +26,7 @@ pub fn store_module(
     bytes: &mut [u8],
     masks: &mut [u8],
     apart: &mut [u8],
-) -> Stored
+) -> Result<CollectCounts, NoRoom>
     requires { Workable library.now c.segments table.old contents.old first.old publics.old heads.old apart.old }
     ensures { StoresModule library.now task c table.new contents.new first.new publics.new heads.new
         (lists segments.old references.old symbols.old bytes.old masks.old) apart.old

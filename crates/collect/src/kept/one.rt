@@ -4,7 +4,7 @@ ghost use Rattle.segment_parts.specs.AddedReferences.{Placeable};
 ghost use Rattle.collect.specs.stored.Segments.{lists, StoresKept};
 
 use crate::stored::row::{filled_to, finish, fits};
-use crate::stored::{CollectCounts, Stored};
+use crate::stored::{CollectCounts, NoRoom};
 use image::Seat;
 use segment_parts::carried::Carried;
 use segment_parts::patterns::merge_along;
@@ -12,7 +12,7 @@ use segment_parts::references::refer_along;
 use segment_parts::symbols::name_along;
 
 // From what a kept segment is stored: the links to its first content and to its first public definition, and its size.
-#[derive(Clone, Copy)]
+#[derive(Clone, Copy, Debug, PartialEq, Eq)]
 pub struct KeptFrom {
     pub content: u32,
     pub public: u32,
@@ -36,7 +36,7 @@ pub fn store_kept(
     bytes: &mut [u8],
     masks: &mut [u8],
     apart: &mut [u8],
-) -> Stored
+) -> Result<CollectCounts, NoRoom>
     requires { Placeable table.now number 0 × (65536 ≤ length apart.old) }
     ensures { StoresKept library.now table.now number from contents.now publics.now c
         (lists segments.old references.old symbols.old bytes.old masks.old) apart.old
@@ -44,10 +44,10 @@ pub fn store_kept(
 {
     let size = from.size;
     if !fits(c.pattern, size, bytes.len()) {
-        return Stored::NoRoom;
+        return Err(NoRoom);
     }
     if !fits(c.pattern, size, masks.len()) {
-        return Stored::NoRoom;
+        return Err(NoRoom);
     }
     merge_along(
         library,

@@ -8,7 +8,7 @@ ghost use Rattle.collect.specs.one_module.Parts.{StoresBothParts};
 use crate::absolute::Absolutes;
 use crate::one_module::ModuleTask;
 use crate::one_module::part::{first_part, second_part};
-use crate::stored::{CollectCounts, Stored};
+use crate::stored::{CollectCounts, NoRoom};
 use module_index::owner::head_of;
 use omf51::ModuleId;
 
@@ -30,13 +30,13 @@ pub fn both_parts(
     bytes: &mut [u8],
     masks: &mut [u8],
     apart: &mut [u8],
-) -> Stored
+) -> Result<CollectCounts, NoRoom>
     requires { Placeable table.now c.segments 0 × ((65536 ≤ length apart.old) × (Blank 6 library.now publics.old heads.old × (length publics.old ≤ 174848))) }
     ensures { StoresBothParts library.now task table.now first.now contents.now c publics.new heads.new
         (lists segments.old references.old symbols.old bytes.old masks.old) apart.old
         (lists segments.new references.new symbols.new bytes.new masks.new) apart.new result }
 {
-    let stored = first_part(
+    let more = first_part(
         library,
         task.at.definitions,
         table,
@@ -51,10 +51,7 @@ pub fn both_parts(
         bytes,
         masks,
         apart,
-    );
-    let Stored::Rows(more) = stored else {
-        return Stored::NoRoom;
-    };
+    )?;
     let absolutes = Absolutes {
         link: head_of(first, ModuleId(0)),
         own: task.own,

@@ -8,7 +8,7 @@ ghost use Rattle.collect.specs.one_module.Parts.{StoresFirstPart, StoresSecondPa
 
 use crate::absolute::{Absolutes, store_absolutes};
 use crate::kept::store_keeps;
-use crate::stored::{CollectCounts, Stored};
+use crate::stored::{CollectCounts, NoRoom};
 use module_index::gather::publics::PublicsBy;
 use module_index::index_publics;
 use tables::links::unlink;
@@ -31,7 +31,7 @@ pub fn first_part(
     bytes: &mut [u8],
     masks: &mut [u8],
     apart: &mut [u8],
-) -> Stored
+) -> Result<CollectCounts, NoRoom>
     requires { Placeable table.now c.segments 0 × ((65536 ≤ length apart.old) × Blank 6 library.now publics.old heads.old) }
     ensures { StoresFirstPart library.now from table.now first.now contents.now c publics.new heads.new
         (lists segments.old references.old symbols.old bytes.old masks.old) apart.old
@@ -64,14 +64,14 @@ pub fn second_part(
     bytes: &mut [u8],
     masks: &mut [u8],
     apart: &mut [u8],
-) -> Stored
+) -> Result<CollectCounts, NoRoom>
     requires { Placeable table.now absolutes.number 0 × ((65536 ≤ length apart.old) × (Blank 6 library.now publics.old heads.old × (length publics.old ≤ 174848))) }
     ensures { StoresSecondPart library.now from absolutes table.now contents.now c publics.new heads.new
         (lists segments.old references.old symbols.old bytes.old masks.old) apart.old
         (lists segments.new references.new symbols.new bytes.new masks.new) apart.new result }
 {
     if absolutes.link == 0 {
-        return Stored::Rows(c);
+        return Ok(c);
     }
     let n = index_publics(library, from, PublicsBy::Offset, publics, heads);
     let stored = store_absolutes(

@@ -2,12 +2,11 @@
 ghost use Rattle.std.specs.Prelude.{◌≡◌, ◌+◌, ◌-◌, leb, length};
 ghost use Rattle.collect.specs.stored.Rows.{filled_to, finished, finished_in};
 
-use crate::stored::{CollectCounts, Stored};
+use crate::stored::{CollectCounts, NoRoom};
 use image::Seat;
 use lent::part::Part;
 use segments::SegmentRow;
-use segments::append::append_segment;
-use tables::fill::Fill;
+use tables::fill::{Fill, append};
 
 // The fill of memory that holds so many rows and may take more.
 pub fn filled_to(rows: usize) -> Fill
@@ -20,27 +19,22 @@ pub fn filled_to(rows: usize) -> Fill
 pub fn fits(used: usize, more: usize, len: usize) -> bool
     ensures { result ≡ leb (used + more) len }
 {
-    if len < used {
-        return false;
-    }
-    more <= len - used
+    used <= len && more <= len - used
 }
 
 // The part from `start` up to `end`; an `end` before `start` makes it empty.
 pub fn since(start: usize, end: usize) -> Part
     ensures { result ≡ record { at = start; len = end - start } }
 {
-    if end < start {
-        return Part { at: start, len: 0 };
-    }
     Part {
         at: start,
-        len: end - start,
+        len: end.saturating_sub(start),
     }
 }
 
 // Puts the row of a segment into the rows of segments `m`, if nothing has run out of room. `c` is what was stored
 // before the segment; its pattern goes up to `end`, and its references and symbols as far as these are filled now.
+#[tactic(auto, unfolding(crate::specs::stored::Rows::finished, crate::specs::stored::Rows::finished_in))]
 pub fn finish(
     seat: Seat,
     c: CollectCounts,
@@ -48,14 +42,11 @@ pub fn finish(
     references: Fill,
     symbols: Fill,
     m: &mut [u64],
-) -> Stored
+) -> Result<CollectCounts, NoRoom>
     ensures { (result ≡ finished c end references symbols (length m.old)) × (m.new ≡ finished_in seat c end references symbols m.old) }
 {
-    if references.over {
-        return Stored::NoRoom;
-    }
-    if symbols.over {
-        return Stored::NoRoom;
+    if references.over || symbols.over {
+        return Err(NoRoom);
     }
     let row = SegmentRow {
         seat,
@@ -63,11 +54,11 @@ pub fn finish(
         references: since(c.references, references.rows),
         symbols: since(c.symbols, symbols.rows),
     };
-    let segments = append_segment(m, filled_to(c.segments), row);
+    let segments = append(m, filled_to(c.segments), row);
     if segments.over {
-        return Stored::NoRoom;
+        return Err(NoRoom);
     }
-    Stored::Rows(CollectCounts {
+    Ok(CollectCounts {
         segments: segments.rows,
         references: references.rows,
         symbols: symbols.rows,

@@ -9,8 +9,5 @@ use image::fixup::Rules;
 pub fn is_own(rules: Rules) -> bool
     ensures { result ≡ own_by rules }
 {
-    match rules {
-        Rules::AsFound => false,
-        Rules::Documented => true,
-    }
+    matches!(rules, Rules::Documented)
 }

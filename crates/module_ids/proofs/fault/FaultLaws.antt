@@ -1,5 +1,5 @@
 -- What the row of an id says is what the module's definitions say. Assumes nothing.
-use Rattle.std.specs.Prelude.{ℕ, suc, ◌+◌, ◌≤◌, ◌<◌, ◌≡◌, refl, Bool, true, false, not, ◌&&◌, ◌||◌, List, [], ◌∷◌, eqb, ltb, if◌then◌else◌}
+use Rattle.std.specs.Prelude.{ℕ, suc, ◌+◌, ◌≤◌, ◌<◌, ◌≡◌, refl, Bool, true, false, not, ◌&&◌, ◌||◌, List, [], ◌∷◌, eqb, ltb, is_some, Some, None, if◌then◌else◌}
 use Rattle.std.proofs.Common.{sym, ap}
 use Rattle.std.proofs.Math.Option.{Option, none, some}
 use borrow.Author.Tests.{eq-eqb, ne_eqb, lt-ltb, le-ltb}
@@ -14,10 +14,10 @@ use Rattle.omf51.specs.Module.{Module}
 use Rattle.segments.specs.Ids.{is_kept, segment_of, external_of, kept, named, is_code}
 use Rattle.segments.specs.Refuse.{fixup_refusal, passes, content_refusal}
 use Rattle.module_ids.specs.declared.Mark.TheVariants.{Other, Code}
-use Rattle.module_ids.specs.declared.KeptAs.TheVariants.{None, Place}
+use Rattle.module_ids.specs.declared.KeptSegment.{KeptSegment}
 use Rattle.module_ids.specs.declared.IdRow.{IdRow}
 use Rattle.module_ids.specs.IdRows.{mark_of, kept_as, id_row}
-use Rattle.module_ids.specs.fault.Faults.{is_code_mark, is_kept_as, passes_kept, fixup_fault, content_fault}
+use Rattle.module_ids.specs.fault.Faults.{is_code_mark, passes_kept, fixup_fault, content_fault}
 
 -- a mark says whether the definition is code
 pub mark_code : (o : Option Definition) → is_code_mark (mark_of o) ≡ is_code o
@@ -42,7 +42,7 @@ any-first p (x ∷ xs) = go (p x) (any-first p xs)
     go true e = refl
     go false e = e
 
-kept_there : (place : ℕ) (o : Option Definition) → is_kept_as (kept_as place o) ≡ there o
+kept_there : (place : ℕ) (o : Option Definition) → is_some (kept_as place o) ≡ there o
 kept_there place none = refl
 kept_there place (some d) = refl
 
@@ -58,7 +58,7 @@ fixup-refusal m f =
   where
     go : (t : Bool)
         → (t && is_code (if t then first (segment_of f.id) m.definitions else if eqb f.block 2 then first (external_of f.id) m.definitions else none) && not (any (segment_of f.id) (keep is_kept m.definitions)))
-        ≡ (t && is_code_mark (mark_of (first (segment_of f.id) m.definitions)) && not (is_kept_as (kept_as (place_of (segment_of f.id) (keep is_kept m.definitions)) (first (segment_of f.id) (keep is_kept m.definitions)))))
+        ≡ (t && is_code_mark (mark_of (first (segment_of f.id) m.definitions)) && not (is_some (kept_as (place_of (segment_of f.id) (keep is_kept m.definitions)) (first (segment_of f.id) (keep is_kept m.definitions)))))
     go true = rw (mark_code, kept_there, any-first)
     go false = refl
 
@@ -91,7 +91,7 @@ module _ (row : IdRow) (f : Fixup) where
         unfolding fixup_fault
         not_code e t = rw (ne_eqb f.block 3 other, le-ltb 7 f.kind low, le-ltb 3 f.block small, eq-eqb f.block 1 e, t)
 
-        pub segment-fault : {t k : Bool} → f.block ≡ 1 → is_code_mark row.segment ≡ t → is_kept_as row.kept ≡ k → fixup_fault row f ≡ when (t && not k) NoKeptSegment
+        pub segment-fault : {t k : Bool} → f.block ≡ 1 → is_code_mark row.segment ≡ t → is_some row.kept ≡ k → fixup_fault row f ≡ when (t && not k) NoKeptSegment
         unfolding fixup_fault
         segment-fault e t k = rw (ne_eqb f.block 3 other, le-ltb 7 f.kind low, le-ltb 3 f.block small, eq-eqb f.block 1 e, t, k)
 
@@ -100,11 +100,11 @@ module _ (row : IdRow) (c : Content) where
   unfolding content_fault
   no-segment e = rw e
 
-  module _ {place size : ℕ} (k : row.kept ≡ Place place size) where
-    pub fits : c.offset + c.part.len ≤ size → content_fault row c ≡ none
+  module _ {kept : KeptSegment} (k : row.kept ≡ Some kept) where
+    pub fits : c.offset + c.part.len ≤ kept.size → content_fault row c ≡ none
     unfolding content_fault
-    fits h = rw (k, le-ltb size (c.offset + c.part.len) h)
+    fits h = rw (k, le-ltb kept.size (c.offset + c.part.len) h)
 
-    pub too_long : size < c.offset + c.part.len → content_fault row c ≡ some ContentPastSegment
+    pub too_long : kept.size < c.offset + c.part.len → content_fault row c ≡ some ContentPastSegment
     unfolding content_fault
-    too_long h = rw (k, lt-ltb size (c.offset + c.part.len) h)
+    too_long h = rw (k, lt-ltb kept.size (c.offset + c.part.len) h)

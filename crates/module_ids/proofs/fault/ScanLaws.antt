@@ -1,5 +1,5 @@
 -- The scan comes to the definition's first refusal. Assumes nothing.
-use Rattle.std.specs.Prelude.{◌≡◌, refl, List, [], ◌∷◌, ◌++◌, map}
+use Rattle.std.specs.Prelude.{◌≡◌, refl, List, [], ◌∷◌, ◌++◌, map, Ok, Err, Result}
 use Rattle.std.proofs.Common.{sym, ap, ◌∙◌}
 use Rattle.std.proofs.Math.Option.{Option, none, some}
 use Rattle.lent.specs.declared.refusal.Refusal.{Refusal}
@@ -7,8 +7,6 @@ use Rattle.lent.specs.Choice.{or_else, leading}
 use Rattle.lent.specs.Lists.{one, joined}
 use Rattle.omf51.specs.Module.{Section, Module}
 use Rattle.segments.specs.Refuse.{content_refusal, Test, of_fixup, of_content, test_refusal, tests, collect_refusal}
-use Rattle.module_ids.specs.declared.fault.Verdict.{Verdict}
-use Rattle.module_ids.specs.declared.fault.Verdict.TheVariants.{Passed, Refused}
 use Rattle.module_ids.specs.fault.Faults.{verdict_of}
 use Rattle.module_ids.proofs.fault.FaultLaws.{fixup-refusal, content-refusal}
 use Rattle.module_ids.specs.fault.Scan.{one_fault, section_fault, sections_fault}
@@ -76,13 +74,13 @@ unfolding collect_refusal tests joined leading
 no-module = refl
 
 -- a verdict tells its refusal
-abbrev refusal_in : Verdict → Option Refusal
-refusal_in Passed = none
-refusal_in (Refused r) = some r
+abbrev refusal_in : Result Unit Refusal → Option Refusal
+refusal_in (Ok u) = none
+refusal_in (Err r) = some r
 
 refusal-back : (o : Option Refusal) → refusal_in (verdict_of o) ≡ o
 refusal-back none = refl
 refusal-back (some r) = refl
 
-pub told : {o : Option Refusal} {v : Verdict} → verdict_of o ≡ v → o ≡ refusal_in v
+pub told : {o : Option Refusal} {v : Result Unit Refusal} → verdict_of o ≡ v → o ≡ refusal_in v
 told {o} e = sym (refusal-back o) ∙ ap refusal_in e

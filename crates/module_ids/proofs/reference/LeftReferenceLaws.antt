@@ -1,5 +1,6 @@
 -- What a fixup leaves by a row is what the definition says it leaves. Assumes nothing.
-use Rattle.std.specs.Prelude.{ℕ, ◌+◌, ◌≡◌, Bool, not, ◌&&◌, [], eqb, ltb, if◌then◌else◌}
+use Rattle.std.specs.Prelude.{ℕ, ◌+◌, ◌≡◌, Bool, not, ◌&&◌, [], eqb, ltb, is_some, Some, None, if◌then◌else◌}
+use Rattle.std.specs.Prelude.{Option as Optional}
 use Rattle.std.proofs.Math.Path.{refl, sym, ap}
 use Rattle.std.proofs.Common.{◌∙◌, arith}
 use Rattle.std.proofs.Math.Bool.{true, false}
@@ -21,9 +22,8 @@ use Rattle.segments.specs.Ids.{is_kept, segment_of, external_of, kept, kept_plac
 use Rattle.segments.specs.Collect.{left, is_none, goal_of, leaves}
 use Rattle.module_ids.specs.declared.IdRow.{IdRow}
 use Rattle.module_ids.specs.IdRows.{mark_of, kept_as, id_row}
-use Rattle.module_ids.specs.fault.Faults.{is_code_mark, is_kept_as, fixup_fault}
+use Rattle.module_ids.specs.fault.Faults.{is_code_mark, fixup_fault}
 use Rattle.module_ids.proofs.fault.FaultLaws.{fixup-refusal, mark_code}
-use Rattle.module_ids.specs.declared.reference.Known.{Known}
 use Rattle.module_ids.specs.reference.LeftReference.{code_named, place_in, goal_by, leaves_by, known_of, kind_known}
 
 -- the cases that the code tells apart
@@ -58,9 +58,9 @@ module _ (m : Module) (number : ℕ) (f : Fixup) where
       go false false = refl
 
   -- a block_1 fixup that is not refused and names code has a kept segment
-  kept_there : eqb f.block 1 ≡ true → is_code_mark row.segment ≡ true → fixup_fault row f ≡ none → is_kept_as row.kept ≡ true
+  kept_there : eqb f.block 1 ≡ true → is_code_mark row.segment ≡ true → fixup_fault row f ≡ none → is_some row.kept ≡ true
   unfolding fixup_fault
-  kept_there b c e = go (ltb 7 f.kind) (ltb 3 f.block) (is_kept_as row.kept) (rw (ne_eqb f.block 3 other, b, c) at e)
+  kept_there b c e = go (ltb 7 f.kind) (ltb 3 f.block) (is_some row.kept) (rw (ne_eqb f.block 3 other, b, c) at e)
     where
       other : f.block ≡ 3 → ⊥
       other q = omega (arith, eqb-true f.block 1 b)
@@ -71,7 +71,7 @@ module _ (m : Module) (number : ℕ) (f : Fixup) where
       go false true false q = absurd (none≢some (sym q))
       go false false false q = absurd (none≢some (sym q))
 
-  place-there : (place : ℕ) (o : Option Definition) → is_kept_as (kept_as place o) ≡ true → place_in (kept_as place o) ≡ place
+  place-there : (place : ℕ) (o : Option Definition) → is_some (kept_as place o) ≡ true → place_in (kept_as place o) ≡ place
   place-there place none e = absurd (false≢true e)
   place-there place (some d) e = refl
 
@@ -104,13 +104,13 @@ module _ (m : Module) (number : ℕ) (f : Fixup) where
       go none e true c = ap (left true (kind_of f.kind) (base + f.location) f.offset) (same-goal c e)
 
 -- a kind that is known
-abbrev kind_in : Known → Option Kind
-kind_in (Known.Kind kind) = some kind
-kind_in Known.Other = none
+abbrev kind_in : Optional Kind → Option Kind
+kind_in (Some kind) = some kind
+kind_in None = none
 
 kind-back : (o : Option Kind) → kind_in (known_of o) ≡ o
 kind-back none = refl
 kind-back (some kind) = refl
 
-pub known : (n : ℕ) {k : Known} → kind_known n ≡ k → kind_of n ≡ kind_in k
+pub known : (n : ℕ) {k : Optional Kind} → kind_known n ≡ k → kind_of n ≡ kind_in k
 known n e = sym (kind-back (kind_of n)) ∙ ap kind_in e

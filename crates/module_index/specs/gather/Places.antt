@@ -1,6 +1,6 @@
 -- How a module's contents and public definitions are gathered: for each its id as a key, and a place in the library at
 -- which it is read again.
-use Rattle.std.specs.Prelude.{ℕ, ◌+◌, ◌<◌, ◌≡◌, Bool, true, false, List, [], map, length, get_or, take}
+use Rattle.std.specs.Prelude.{ℕ, ◌+◌, ◌<◌, ◌≡◌, Bool, true, false, List, [], map, length, get_or, take, Option, Some, None}
 use Rattle.lent.specs.Lists.{one}
 use Rattle.lent.specs.Parts.{byte_at, word_at}
 use Rattle.omf51.specs.declared.ModuleId.{ModuleId}
@@ -8,15 +8,14 @@ use Rattle.omf51.specs.declared.Definition.{Definition}
 use Rattle.omf51.specs.declared.Definition.TheVariants.{Segment, Public, External}
 use Rattle.omf51.specs.Module.{Section}
 use Rattle.library.specs.declared.items.NextContent.{NextContent}
-use Rattle.library.specs.declared.items.NextContent.TheVariants.{Item, Done}
 use Rattle.library.specs.items.Left.{fixups_left}
 use Rattle.library.specs.items.Contents.{next_content}
 use Rattle.segments.specs.Ids.{id_of}
 
 -- a content, with the fixups that follow it, is read again from the place where it was sought
-abbrev pub section_in : List ℕ → NextContent → List Section
-section_in library (Item content fixups rest) = one (record { content = content; fixups = fixups_left library fixups })
-section_in library Done = []
+abbrev pub section_in : List ℕ → Option NextContent → List Section
+section_in library (Some n) = one (record { content = n.content; fixups = fixups_left library n.fixups })
+section_in library None = []
 
 abbrev pub SectionIs : List ℕ → List ℕ → ℕ → Section → Type 0
 SectionIs library places j s = section_in library (next_content library (get_or places j 0)) ≡ one s

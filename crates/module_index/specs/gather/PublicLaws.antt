@@ -1,5 +1,5 @@
 -- Public definitions are kept and read again. Assumes nothing.
-use Rattle.std.specs.Prelude.{ℕ, ◌+◌, ◌-◌, Bool, List, [], ◌∷◌, ◌++◌, if◌then◌else◌}
+use Rattle.std.specs.Prelude.{ℕ, ◌+◌, ◌-◌, Bool, List, [], ◌∷◌, ◌++◌, Some, None, if◌then◌else◌}
 use Rattle.std.proofs.Math.Path.{◌≡◌, refl}
 use Rattle.std.proofs.Common.{ap, ◌∙◌, append-nil, arith}
 use Rattle.std.proofs.Math.Bool.{true, false}
@@ -12,7 +12,6 @@ use Rattle.omf51.specs.declared.Definition.TheVariants.{Public}
 use Rattle.library.specs.items.EntrySizeLaws.{PublicAgain}
 use Rattle.module_index.specs.declared.gather.publics.PublicsBy.{PublicsBy}
 use Rattle.module_index.specs.declared.gather.publics.PublicsBy.TheVariants.{Id, Offset}
-use Rattle.module_index.specs.declared.gather.publics.Keyed.TheVariants.{By, Apart}
 use Rattle.module_index.specs.gather.Places.{public_at, public_key, is_public_definition}
 use Rattle.module_index.specs.gather.Publics.{zero_publics, key_by, publics_by, keyed_by}
 
@@ -51,27 +50,27 @@ module _ (by : PublicsBy) (ds : List Definition) (id : ModuleId) (offset : ℕ) 
   this = Public id offset name
 
   -- one that has a key is gathered by it, and one that has none is passed over
-  pub keyed-gathered : {key : ℕ} → keyed_by by id offset ≡ By key → (publics_by by (ds ++ one this) ≡ publics_by by ds ++ one this) × (key_by by this ≡ key)
+  pub keyed-gathered : {key : ℕ} → keyed_by by id offset ≡ Some key → (publics_by by (ds ++ one this) ≡ publics_by by ds ++ one this) × (key_by by this ≡ key)
   unfolding keep
   keyed-gathered {key} = go by
     where
-      zero : (t : Bool) → eqb id.0 0 ≡ t → (if t then By offset else Apart) ≡ By key → (zero_publics (ds ++ one this) ≡ zero_publics ds ++ one this) × (offset ≡ key)
+      zero : (t : Bool) → eqb id.0 0 ≡ t → (if t then Some offset else None) ≡ Some key → (zero_publics (ds ++ one this) ≡ zero_publics ds ++ one this) × (offset ≡ key)
       zero true e k = (zero-split ds this refl ∙ rw e, (cc))
       zero false e k = absurd (let z : ◌≡◌ {A = ℕ} 0 1 = cc in omega arith)
 
-      go : (b : PublicsBy) → keyed_by b id offset ≡ By key → (publics_by b (ds ++ one this) ≡ publics_by b ds ++ one this) × (key_by b this ≡ key)
+      go : (b : PublicsBy) → keyed_by b id offset ≡ Some key → (publics_by b (ds ++ one this) ≡ publics_by b ds ++ one this) × (key_by b this ≡ key)
       go Id k = (public-kept ds this refl, (cc))
       go Offset k = zero (eqb id.0 0) refl k
 
-  pub apart-passed : keyed_by by id offset ≡ Apart → publics_by by (ds ++ one this) ≡ publics_by by ds
+  pub apart-passed : keyed_by by id offset ≡ None → publics_by by (ds ++ one this) ≡ publics_by by ds
   unfolding keep
   apart-passed = go by
     where
-      zero : (t : Bool) → eqb id.0 0 ≡ t → (if t then By offset else Apart) ≡ Apart → zero_publics (ds ++ one this) ≡ zero_publics ds
+      zero : (t : Bool) → eqb id.0 0 ≡ t → (if t then Some offset else None) ≡ None → zero_publics (ds ++ one this) ≡ zero_publics ds
       zero true e k = absurd (let z : ◌≡◌ {A = ℕ} 0 1 = cc in omega arith)
       zero false e k = zero-split ds this refl ∙ rw e (append-nil (zero_publics ds))
 
-      go : (b : PublicsBy) → keyed_by b id offset ≡ Apart → publics_by b (ds ++ one this) ≡ publics_by b ds
+      go : (b : PublicsBy) → keyed_by b id offset ≡ None → publics_by b (ds ++ one this) ≡ publics_by b ds
       go Id k = absurd (let z : ◌≡◌ {A = ℕ} 0 1 = cc in omega arith)
       go Offset k = zero (eqb id.0 0) refl k
 

@@ -12,32 +12,24 @@ use library::items::entries::start;
 use omf51::{Definition, ModuleId};
 use tables::links::thing;
 
-// Which public definitions are gathered, and by which key: all of them by id, or those of id 0 by offset.
-#[derive(Clone, Copy)]
+// Which public definitions are gathered, and by which key: all of them by id, or those of id 0 by offset. This is an enum
+// and no closure, since the definitions of what is gathered (`publics_by`, `key_by`) go by it.
+#[derive(Clone, Copy, Debug, PartialEq, Eq)]
 pub enum PublicsBy {
     Id,
     Offset,
 }
 
-// The key of a public definition, or that it is not one of those that are gathered.
-#[derive(Clone, Copy)]
-enum Keyed {
-    By(u16),
-    Apart,
-}
-
-// The key of a public definition of this id and offset.
-fn key_by(by: PublicsBy, id: ModuleId, offset: usize) -> Keyed
-    requires { offset < 65536 }
-    ensures { result ≡ keyed_by by id offset }
-{
-    match by {
-        PublicsBy::Id => Keyed::By(id.0),
-        PublicsBy::Offset => {
-            if id.0 == 0 {
-                return Keyed::By(offset as u16);
-            }
-            Keyed::Apart
+impl PublicsBy {
+    // The key of a public definition of this id and offset, if it is one of those that are gathered.
+    fn key(self, id: ModuleId, offset: usize) -> Option<u16>
+        requires { offset < 65536 }
+        ensures { result ≡ keyed_by self id offset }
+    {
+        match self {
+            PublicsBy::Id => Some(id.0),
+            PublicsBy::Offset if id.0 == 0 => Some(offset as u16),
+            PublicsBy::Offset => None,
         }
     }
 }
@@ -50,20 +42,14 @@ pub fn gather_publics(library: &[u8], from: usize, by: PublicsBy, things: &mut [
 {
     let mut c = start(from);
     let mut n = 0;
-    loop {
-        match next_definition(library, c) {
-            NextDefinition::Item { definition, rest } => {
-                if let Definition::Public { id, offset, name } = definition {
-                    if let Keyed::By(key) = key_by(by, id, offset) {
-                        things[n] = thing(key, name.at - 4);
-                        n += 1;
-                    }
-                }
-                c = rest;
-            }
-            NextDefinition::Done => {
-                return n;
+    while let Some(NextDefinition { definition, rest }) = next_definition(library, c) {
+        if let Definition::Public { id, offset, name } = definition {
+            if let Some(key) = by.key(id, offset) {
+                things[n] = thing(key, name.at - 4);
+                n += 1;
             }
         }
+        c = rest;
     }
+    n
 }

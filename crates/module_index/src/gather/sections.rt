@@ -15,20 +15,17 @@ pub fn gather_sections(library: &[u8], from: usize, things: &mut [u64]) -> usize
 {
     let mut at = from;
     let mut n = 0;
-    loop {
-        match next_content(library, at) {
-            NextContent::Item {
-                content,
-                fixups,
-                rest,
-            } => {
-                things[n] = thing(content.id.0, at);
-                n += 1;
-                at = rest;
-            }
-            NextContent::Done => {
-                return n;
-            }
-        }
+    while let Some(
+        NextContent {
+            content,
+            fixups,
+            rest,
+        },
+    ) = next_content(library, at)
+    {
+        things[n] = thing(content.id.0, at);
+        n += 1;
+        at = rest;
     }
+    n
 }

@@ -29,3 +29,12 @@ or-over (x ∷ old) [] zero h = refl
 or-over (x ∷ old) [] (suc i) h = refl
 or-over (x ∷ old) (y ∷ new) zero h = absurd (omega arith)
 or-over (x ∷ old) (y ∷ new) (suc i) h = ap (λ rest. bit_or x y ∷ rest) (or-over old new i (omega arith))
+
+-- where either has no byte left, all are in
+pub or-end : (old new : List ℕ) (i : ℕ) → (i < length old → i < length new → ⊥) → ored old (take i new) ≡ ored old new
+unfolding ored
+or-end [] new i h = refl
+or-end (x ∷ old) [] zero h = refl
+or-end (x ∷ old) [] (suc i) h = refl
+or-end (x ∷ old) (y ∷ new) zero h = absurd (h (omega arith) (omega arith))
+or-end (x ∷ old) (y ∷ new) (suc i) h = ap (λ rest. bit_or x y ∷ rest) (or-end old new i (λ a b. h (omega arith) (omega arith)))

@@ -103,6 +103,15 @@ covers-on keys first next at i flags₀ {flags} {flags'} {s} {s'} l wide long wo
         let same : key_at keys j ≡ at + i = omega arith in
         f.met keys first (at + i) l (omega (arith, wide, long)) (l.starts (at + i) (omega (arith, words j h))) j h same
 
+pub covers-on-to : (keys first next : List ℕ) (at offset : ℕ) → at ≤ offset → (flags₀ : List ℕ) {flags flags' : List ℕ} {s s' : Blocks} → Linked keys 0 first next → Wide keys flags₀ → length flags ≡ length flags₀ → Words keys
+    → FlagsAlong (get_or first offset 0) next flags s flags' s' → Covers keys at offset flags s → Covers keys at (offset + 1) flags' s'
+covers-on-to keys first next at offset h flags₀ {flags} {flags'} {s} {s'} l wide long words f c =
+    let now : at + (offset - at) ≡ offset = omega arith in
+    let then : at + (offset - at + 1) ≡ offset + 1 = omega arith in
+    subst (λ k. Covers keys at k flags' s') then
+    (covers-on keys first next at (offset - at) flags₀ {flags = flags} {flags' = flags'} {s = s} {s' = s'} l wide long words
+    (subst (λ k. FlagsAlong (get_or first k 0) next flags s flags' s') (sym now) f) (subst (λ k. Covers keys at k flags s) (sym now) c))
+
 pub words-taken : (keys : List ℕ) (n : ℕ) → ((j : ℕ) → get_or keys j 0 < 65536) → Words (take n keys)
 words-taken keys n w j h = omega (arith, w j, get_or-take n keys j 0 (omega (arith, length-take n keys)))
 

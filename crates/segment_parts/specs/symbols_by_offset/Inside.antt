@@ -27,15 +27,15 @@ pub record Offered (library keys : List ℕ) (n : ℕ) (places first next flags 
 
 pub record NamesAt (library : List ℕ) (at len : ℕ) (own : Bool) (keys places : List ℕ) (j : ℕ) (m : List ℕ) (f : Fill) (m' : List ℕ) (g : Fill) : Type 0 where
   pub long : length m' ≡ length m
-  pub adds : (d : Definition) → get_or keys j 0 ≡ offset_key d → PublicIs library places j d → Adds symbol_layout (symbol_by (Inside at len own) d) m f m' g
+  pub adds : (d : Definition) → get_or keys j 0 ≡ offset_key d → PublicIs library places j d → Adds symbol_layout (symbol_by (Inside (record { at = at; len = len; own = own })) d) m f m' g
 
 pub record NamesBlocks (library : List ℕ) (at len : ℕ) (own : Bool) (keys : List ℕ) (n : ℕ) (places : List ℕ) (s : Blocks) (flags m : List ℕ) (f : Fill) (m' : List ℕ) (g : Fill) : Type 0 where
   pub long : length m' ≡ length m
   pub adds : (publics : List Definition) → Standing library keys n places publics → Covers (take n keys) at (at + len) flags s
-      → Adds symbol_layout (joined (symbol_by (Inside at len own)) publics) m f m' g
+      → Adds symbol_layout (joined (symbol_by (Inside (record { at = at; len = len; own = own }))) publics) m f m' g
 
 pub record NamesInside (library : List ℕ) (at len : ℕ) (own : Bool) (keys : List ℕ) (n : ℕ) (places first next flags flags' m : List ℕ) (f : Fill) (m' : List ℕ) (g : Fill) : Type 0 where
   pub long : length m' ≡ length m
   pub flags_long : length flags' ≡ length flags
   pub clear : Clear flags'
-  pub adds : (publics : List Definition) → Offered library keys n places first next flags publics → Adds symbol_layout (joined (symbol_by (Inside at len own)) publics) m f m' g
+  pub adds : (publics : List Definition) → Offered library keys n places first next flags publics → Adds symbol_layout (joined (symbol_by (Inside (record { at = at; len = len; own = own }))) publics) m f m' g

@@ -37,7 +37,7 @@ joined-past of none xs (suc n) i h = go (dec_lt i (length xs)) (joined-past of n
     go (no l) rest = joined_end of (drop_of_length-le xs {i = i} (omega arith)) ∙ sym (joined_end of (drop_of_length-le xs {i = i + suc n} (omega arith)))
 
 -- one whose offset is not inside has no symbol
-pub not-inside : (at len : ℕ) (own : Bool) (d : Definition) {v : ℕ} → v ≡ offset_key d → (leb at v && ltb v (at + len)) ≡ false → symbol_by (Inside at len own) d ≡ []
+pub not-inside : (at len : ℕ) (own : Bool) (d : Definition) {v : ℕ} → v ≡ offset_key d → (leb at v && ltb v (at + len)) ≡ false → symbol_by (Inside (record { at = at; len = len; own = own })) d ≡ []
 not-inside at len own (Segment id info relocation size name) e t = refl
 not-inside at len own (Public id offset name) e t = rw (← e, t) refl
 not-inside at len own (External id info name) e t = refl
@@ -51,7 +51,7 @@ module _ (library keys : List ℕ) (n : ℕ) (places : List ℕ) (publics : List
 
   module _ (at len : ℕ) (own : Bool) (s : Blocks) (flags : List ℕ) (c : Covers (take n keys) at (at + len) flags s) (m₀ : List ℕ) (f₀ : Fill) where
     abbrev of : Definition → List Symbol
-    of = symbol_by (Inside at len own)
+    of = symbol_by (Inside (record { at = at; len = len; own = own }))
 
     -- what is left from a place on
     abbrev pub Left : ℕ → List ℕ → Fill → Type 0

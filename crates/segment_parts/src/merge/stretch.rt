@@ -8,13 +8,8 @@ ghost use Rattle.segment_parts.specs.merge.MergedAt.{merged_at};
 fn or_into(old: &mut [u8], new: &[u8])
     ensures { old.new ≡ ored old.old new.now }
 {
-    let mut i = 0;
-    while i < old.len() {
-        if i == new.len() {
-            return;
-        }
-        old[i] = old[i] | new[i];
-        i += 1;
+    for i in 0..old.len().min(new.len()) {
+        old[i] |= new[i];
     }
 }
 
@@ -33,9 +28,7 @@ pub fn merge(pattern: &mut [u8], offset: usize, new: &[u8])
 pub fn merge_at(memory: &mut [u8], start: usize, size: usize, offset: usize, new: &[u8])
     ensures { memory.new ≡ merged_at memory.old start size offset new.now }
 {
-    if start <= memory.len() {
-        if size <= memory.len() - start {
-            merge(&mut memory[start..start + size], offset, new);
-        }
+    if start <= memory.len() && size <= memory.len() - start {
+        merge(&mut memory[start..start + size], offset, new);
     }
 }

@@ -7,7 +7,7 @@ ghost use Rattle.segment_parts.specs.symbols_by_offset.Flags.{FlagsBlock, FlagsA
 use tables::links::{next_at, number_at};
 
 // Bounds of the flagged blocks: all of them lie from `low` on and below `high`.
-#[derive(Clone, Copy)]
+#[derive(Clone, Copy, Debug, PartialEq, Eq)]
 pub struct Blocks {
     pub low: usize,
     pub high: usize,
@@ -17,10 +17,7 @@ pub struct Blocks {
 pub fn flag_at(flags: &[u8], b: usize) -> u8
     ensures { result ≡ get_or flags.now b 0 }
 {
-    if b < flags.len() {
-        return flags[b];
-    }
-    0
+    flags.get(b).copied().unwrap_or(0)
 }
 
 // Puts the flag of a block; past the end of the flags nothing changes.
@@ -32,27 +29,6 @@ fn put_flag(flags: &mut [u8], b: usize, flag: u8)
     }
 }
 
-// The lower bound once block b is flagged too.
-fn lower(low: usize, b: usize) -> usize
-    ensures { (result ≤ low) × (result ≤ b) }
-{
-    if b < low {
-        return b;
-    }
-    low
-}
-
-// The upper bound once block b is flagged too.
-fn higher(high: usize, b: usize) -> usize
-    requires { b < 2 ^ 32 }
-    ensures { (high ≤ result) × ((b < result) × (high ≤ 2 ^ 32 → result ≤ 2 ^ 32)) }
-{
-    if high <= b {
-        return b + 1;
-    }
-    high
-}
-
 // Flags block b, and widens the bounds so that they include it.
 fn flag_block(flags: &mut [u8], s: Blocks, b: usize) -> Blocks
     requires { b < 2 ^ 32 }
@@ -60,8 +36,8 @@ fn flag_block(flags: &mut [u8], s: Blocks, b: usize) -> Blocks
 {
     put_flag(flags, b, 1);
     Blocks {
-        low: lower(s.low, b),
-        high: higher(s.high, b),
+        low: s.low.min(b),
+        high: s.high.max(b + 1),
     }
 }
 
@@ -95,10 +71,8 @@ pub fn flag_inside(
         low: 4294967296,
         high: 0,
     };
-    let mut i = 0;
-    while i < len {
-        s = flag_along(number_at(first, at + i), publics, s, flags);
-        i += 1;
+    for offset in at..at + len {
+        s = flag_along(number_at(first, offset), publics, s, flags);
     }
     s
 }
@@ -107,9 +81,7 @@ pub fn flag_inside(
 pub fn clear_blocks(flags: &mut [u8], s: Blocks)
     ensures { Clears s flags.old flags.new }
 {
-    let mut b = s.low;
-    while b < s.high {
+    for b in s.low..s.high {
         put_flag(flags, b, 0);
-        b += 1;
     }
 }

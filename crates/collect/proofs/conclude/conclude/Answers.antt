@@ -21,21 +21,21 @@ returns-in_default c =
           (subst (After (collect rules lib modules) after) c.in_default.is s) c.clear_all.ensures;
     }
 
-pub scan-verdict-requires : goal.scan-verdict-requires
-scan-verdict-requires c =
+pub scan-requires : goal.scan-requires
+scan-requires c =
     c.requires
 
-pub returns-in-Refused : goal.returns-in-Refused
-returns-in-Refused c =
+pub returns-in-Err : goal.returns-in-Err
+returns-in-Err c =
     let a = c.args in
     let lib = a.library.now in
     let after = lists a.segments.now a.references.now a.symbols.now a.bytes.now a.masks.now in
     let modules = items_at lib (module_at lib) a.from in
     record {
       concludes = λ rules l n s. refused-is rules lib modules l after c.requires.short n
-          (subst (After (collect rules lib modules) after) c.in-Rows.is s)
-          (told {o = collect_refusal modules} (sym c.scan-verdict.ensures.says ∙
-          c.in-Refused.is)) c.clear_all-in-Refused.ensures;
+          (subst (After (collect rules lib modules) after) c.in-Ok.is s)
+          (told {o = collect_refusal modules} (sym c.scan.ensures.says ∙
+          c.in-Err.is)) c.clear_all-in-Err.ensures;
     }
 
 pub returns : goal.returns
@@ -46,6 +46,6 @@ returns c =
     let modules = items_at lib (module_at lib) a.from in
     record {
       concludes = λ rules l n s. done-is rules lib modules l after c.requires.short n
-          (subst (After (collect rules lib modules) after) c.in-Rows.is s)
-          (told {o = collect_refusal modules} (sym c.scan-verdict.ensures.says ∙ c.in_default-verdict.is));
+          (subst (After (collect rules lib modules) after) c.in-Ok.is s)
+          (told {o = collect_refusal modules} (sym c.scan.ensures.says ∙ c.in_default-scan.is));
     }

@@ -17,7 +17,7 @@ pub store-stored-requires : goal.store-stored-requires
 store-stored-requires c =
     let a = c.args in
     let l = lists a.segments.now a.references.now a.symbols.now a.bytes.now a.masks.now in
-    (omega (arith, c.if-library-gt-LONGEST_LIBRARY.false), (table-tells c.id_table-table.ensures, zeroed-stores l c.clear_all.ensures))
+    (omega (arith, c.if-library-gt-LONGEST_LIBRARY.false), (table-tells c.zeros-table.ensures, zeroed-stores l c.clear_all.ensures))
 
 pub conclude-requires : goal.conclude-requires
 conclude-requires c =

@@ -7,7 +7,7 @@ pub store_in-requires : goal.store_in-requires
 store_in-requires c =
     let p = c.requires in
     let h = c.if-library-le-SHORT_LIBRARY.true in
-    (zeros-size 9363 10923 c.few_contents-contents.ensures c.few_publics-publics.ensures p.0 (omega (arith, h)) (omega (arith, h)) (omega arith) (omega arith), p.1)
+    (zeros-size 9363 10923 c.zeros-contents.ensures c.zeros-publics.ensures p.0 (omega (arith, h)) (omega (arith, h)) (omega arith) (omega arith), p.1)
 
 pub returns-then-library-le-SHORT_LIBRARY : goal.returns-then-library-le-SHORT_LIBRARY
 returns-then-library-le-SHORT_LIBRARY c =
@@ -17,7 +17,7 @@ pub store_in-requires-2 : goal.store_in-requires-2
 store_in-requires-2 c =
     let p = c.requires in
     let h = p.0 in
-    (zeros-size 149797 174763 c.many_contents-contents.ensures c.many_publics-publics.ensures h (omega (arith, h)) (omega (arith, h)) (omega arith) (omega arith), p.1)
+    (zeros-size 149797 174763 c.zeros-contents-2.ensures c.zeros-publics-2.ensures h (omega (arith, h)) (omega (arith, h)) (omega arith) (omega arith), p.1)
 
 pub returns : goal.returns
 returns c =

@@ -5,4 +5,4 @@ use Rattle.collect.proofs.entry.store_in.Goals as goal
 pub store_all-requires : goal.store_all-requires
 store_all-requires c =
     let p = c.requires in
-    (tables-work p.0 p.1.0 c.heads-first.ensures c.heads-names.ensures c.content_room-apart.ensures, p.1.1)
+    (tables-work p.0 p.1.0 c.zeros-first.ensures c.zeros-names.ensures c.zeros-apart.ensures, p.1.1)

@@ -3,17 +3,8 @@ use Prim.Native.Nat.{suc, ◌+◌, ◌*◌}
 use mathlib.Core.Path.{◌≡◌, sym}
 use mathlib.Core.List.{[], ◌∷◌}
 use native.Mathlib.Omega.{arith}
-use lib.ListN.{length-set}
 use Rattle.lent.specs.RowLaws.{put-there, put-lacks}
 use Rattle.module_ids.proofs.row.put.Goals as goal
-
-pub bounds-table-at-then-at-table : goal.bounds-table-at-then-at-table
-bounds-table-at-then-at-table c =
-    simp length-set (omega arith)
-
-pub bounds-table-at-then-at-table-2 : goal.bounds-table-at-then-at-table-2
-bounds-table-at-then-at-table-2 c =
-    simp length-set (omega arith)
 
 pub returns-then-at-table : goal.returns-then-at-table
 returns-then-at-table c =

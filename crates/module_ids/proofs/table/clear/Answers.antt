@@ -11,9 +11,9 @@ use Rattle.module_ids.proofs.ClearLaws.{Clearing, clearing-starts, none-small, c
 use Rattle.module_ids.proofs.table.clear.Goals as goal
 use Rattle.module_ids.proofs.table.clear.Goals.{After-no_row}
 
-yields : (c : After-no_row) → definitions_left c.args.library.now c.loop-definition.c ≡ c.in-Item.definition ∷ definitions_left c.args.library.now c.in-Item.rest
+yields : (c : After-no_row) → definitions_left c.args.library.now c.loop-definition.c ≡ c.in-Some.field-0.definition ∷ definitions_left c.args.library.now c.in-Some.field-0.rest
 yields c =
-    let a = c.args in next-definition-yields a.library.now c.loop-definition.c ∙ ap (definitions_after a.library.now) (sym c.next_definition.ensures ∙ c.in-Item.is)
+    let a = c.args in next-definition-yields a.library.now c.loop-definition.c ∙ ap (definitions_after a.library.now) (sym c.next_definition.ensures ∙ c.in-Some.is)
 
 pub loop-definition-init : goal.loop-definition-init
 loop-definition-init c =
@@ -31,7 +31,7 @@ loop-definition-smaller c =
 pub loop-definition-preserved : goal.loop-definition-preserved
 loop-definition-preserved c =
     let l = c.loop-definition in
-    let d = c.in-Item.definition in
+    let d = c.in-Some.field-0.definition in
     let i = c.id_of.ensures in
     let e = c.put_id.ensures in
     record {
@@ -40,9 +40,9 @@ loop-definition-preserved c =
           (clearing-step d _ l.table (subst (λ (x : ModuleId). x.0 < 65536) i.0 i.1) (rw (yields (goal.at.loop-definition-preserved c).After-no_row) at l.invariant.clearing));
     }
 
-pub returns-in-Done : goal.returns-in-Done
-returns-in-Done c =
+pub returns : goal.returns
+returns c =
     let l = c.loop-definition in
     let lib = c.args.library.now in
-    let e = next-definition-yields lib l.c ∙ ap (definitions_after lib) (sym c.next_definition.ensures ∙ c.in-Done.is) in
+    let e = next-definition-yields lib l.c ∙ ap (definitions_after lib) (sym c.next_definition.ensures ∙ c.in_default.is) in
     cleared l.table (subst (λ xs. Clearing xs l.table) e l.invariant.clearing)

@@ -12,9 +12,9 @@ use Rattle.module_ids.proofs.NotedLaws.{noted, kept_more, kept_step, none_kept, 
 use Rattle.module_ids.proofs.table.fill.Goals as goal
 use Rattle.module_ids.proofs.table.fill.Goals.{After-kept_after-n}
 
-yields : (c : After-kept_after-n) → definitions_left c.args.library.now c.loop-definition.c ≡ c.in-Item.definition ∷ definitions_left c.args.library.now c.in-Item.rest
+yields : (c : After-kept_after-n) → definitions_left c.args.library.now c.loop-definition.c ≡ c.in-Some.field-0.definition ∷ definitions_left c.args.library.now c.in-Some.field-0.rest
 yields c =
-    let a = c.args in next-definition-yields a.library.now c.loop-definition.c ∙ ap (definitions_after a.library.now) (sym c.next_definition.ensures ∙ c.in-Item.is)
+    let a = c.args in next-definition-yields a.library.now c.loop-definition.c ∙ ap (definitions_after a.library.now) (sym c.next_definition.ensures ∙ c.in-Some.is)
 
 pub loop-definition-init : goal.loop-definition-init
 loop-definition-init c =
@@ -31,16 +31,16 @@ loop-definition-init c =
 
 pub note-requires : goal.note-requires
 note-requires c =
-    let goes : Forward c.args.library.now c.loop-definition.c c.in-Item.rest = definition-goes c.args.library.now c.loop-definition.c c.loop-definition.invariant.ordered
-    (sym c.next_definition.ensures ∙ c.in-Item.is) in
+    let goes : Forward c.args.library.now c.loop-definition.c c.in-Some.field-0.rest = definition-goes c.args.library.now c.loop-definition.c c.loop-definition.invariant.ordered
+    (sym c.next_definition.ensures ∙ c.in-Some.is) in
     let lib = c.args.library.now in
-    changed-small lib c.loop-definition.n c.in-Item.definition (λ i. omega (arith, c.shared_slice_known-1.given i)) c.requires.short
-    (omega (arith, c.loop-definition.invariant.few, goes)) (definition-says lib c.loop-definition.c (sym c.next_definition.ensures ∙ c.in-Item.is))
+    changed-small lib c.loop-definition.n c.in-Some.field-0.definition (λ i. omega (arith, c.shared_slice_known-1.given i)) c.requires.short
+    (omega (arith, c.loop-definition.invariant.few, goes)) (definition-says lib c.loop-definition.c (sym c.next_definition.ensures ∙ c.in-Some.is))
 
 pub kept_after-n-requires : goal.kept_after-n-requires
 kept_after-n-requires c =
-    let goes : Forward c.args.library.now c.loop-definition.c c.in-Item.rest = definition-goes c.args.library.now c.loop-definition.c c.loop-definition.invariant.ordered
-    (sym c.next_definition.ensures ∙ c.in-Item.is) in
+    let goes : Forward c.args.library.now c.loop-definition.c c.in-Some.field-0.rest = definition-goes c.args.library.now c.loop-definition.c c.loop-definition.invariant.ordered
+    (sym c.next_definition.ensures ∙ c.in-Some.is) in
     omega (
       arith,
       c.loop-definition.invariant.few,
@@ -54,10 +54,10 @@ loop-definition-smaller c =
 
 pub loop-definition-preserved : goal.loop-definition-preserved
 loop-definition-preserved c =
-    let goes : Forward c.args.library.now c.loop-definition.c c.in-Item.rest = definition-goes c.args.library.now c.loop-definition.c c.loop-definition.invariant.ordered
-    (sym c.next_definition.ensures ∙ c.in-Item.is) in
+    let goes : Forward c.args.library.now c.loop-definition.c c.in-Some.field-0.rest = definition-goes c.args.library.now c.loop-definition.c c.loop-definition.invariant.ordered
+    (sym c.next_definition.ensures ∙ c.in-Some.is) in
     let i = c.loop-definition.invariant in
-    let d = c.in-Item.definition in
+    let d = c.in-Some.field-0.definition in
     let f = goes in
     record {
       long = ap length c.note.ensures.0 ∙ note-length
@@ -71,9 +71,9 @@ loop-definition-preserved c =
       ordered = f.ordered;
     }
 
-pub returns-in-Done : goal.returns-in-Done
-returns-in-Done c =
+pub returns : goal.returns
+returns c =
     let l = c.loop-definition in
     let lib = c.args.library.now in
-    let e = next-definition-yields lib l.c ∙ ap (definitions_after lib) (sym c.next_definition.ensures ∙ c.in-Done.is) in
+    let e = next-definition-yields lib l.c ∙ ap (definitions_after lib) (sym c.next_definition.ensures ∙ c.in_default.is) in
     all_noted l.table l.invariant.whole e l.invariant.tells l.invariant.number

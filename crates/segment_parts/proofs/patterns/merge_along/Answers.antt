@@ -62,7 +62,7 @@ pub merge_content-requires : goal.merge_content-requires
 merge_content-requires c =
     let a = c.args in
     let g = content-goes a.library.now c.place_at-place.result
-    (sym c.next_content.ensures ∙ c.in-Item.is) in
+    (sym c.next_content.ensures ∙ c.in-Some.is) in
     (omega (arith, c.requires, c.loop-last.invariant.apart-long), g.data-small (λ i. omega (arith, c.shared_slice_known-1.given i)))
 
 pub loop-last-smaller : goal.loop-last-smaller
@@ -72,12 +72,12 @@ loop-last-smaller c =
 pub loop-last-preserved : goal.loop-last-preserved
 loop-last-preserved c =
     let same-section : (s : Section) → SectionIs c.args.library.now (places_of c.args.contents.now) (c.loop-last.here - 1) s → section_with
-    c.args.library.now c.in-Item.content c.in-Item.fixups ≡ s = λ s i. let lib = c.args.library.now in
-    section-met lib (sym c.next_content.ensures ∙ c.in-Item.is)
+    c.args.library.now c.in-Some.field-0.content c.in-Some.field-0.fixups ≡ s = λ s i. let lib = c.args.library.now in
+    section-met lib (sym c.next_content.ensures ∙ c.in-Some.is)
     (ap (λ p. section_in lib (next_content lib p)) c.place_at-place.ensures ∙ i) in
     let goes_on : (of : Section → List ℕ) (m₀ m n : List ℕ) → Goes c.args.library.now c.args.link (next_of c.args.contents.now)
     (places_of c.args.contents.now) (merged_one c.args.start c.args.size of) m₀ c.loop-last.last c.loop-last.here m → n ≡ merged_one c.args.start
-    c.args.size of m (section_with c.args.library.now c.in-Item.content c.in-Item.fixups) → Goes c.args.library.now c.args.link
+    c.args.size of m (section_with c.args.library.now c.in-Some.field-0.content c.in-Some.field-0.fixups) → Goes c.args.library.now c.args.link
     (next_of c.args.contents.now) (places_of c.args.contents.now) (merged_one c.args.start c.args.size of) m₀ c.loop-last.here c.next_at-here.result n = λ of m₀ m n g e. λ sections f.
     let a = c.args in
     let l = c.loop-last in

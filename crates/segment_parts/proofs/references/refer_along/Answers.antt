@@ -40,7 +40,7 @@ returns-in_default c =
 pub refer-f-requires : goal.refer-f-requires
 refer-f-requires c =
     let a = c.args in
-    let g = content-goes a.library.now c.place_at-place.result (sym c.next_content.ensures ∙ c.in-Item.is) in
+    let g = content-goes a.library.now c.place_at-place.result (sym c.next_content.ensures ∙ c.in-Some.is) in
     record { numbers = c.requires.numbers; places = omega (arith, g.offset-small (λ i. omega (arith, c.shared_slice_known-1.given i))) }
 
 pub loop-last-smaller : goal.loop-last-smaller
@@ -62,7 +62,7 @@ loop-last-preserved c =
           l.f r.result (omega arith) (l.invariant.adding ds ss t f)
           (λ s i. subst (λ x. Adds reference_layout (section_leaves ds a.number x) l.m l.f new r.result)
           (section-met a.library.now (sym c.next_content.ensures ∙
-          c.in-Item.is)
+          c.in-Some.is)
           (ap (λ p. section_in a.library.now (next_content a.library.now p)) c.place_at-place.ensures ∙ i)) (r.ensures.adds ds t)));
     }
 

@@ -102,7 +102,7 @@ returns c =
           (stored_more gs (absolute_of lib ds a.number a.from.own a.from.content fixups ps) l a.c s size wide even refs syms bytes masks r.result y.result
           (subst (λ k. Adds reference_layout (joined (leaves_in ds a.number 0) fixups) a.references.now k refs r.result)
           c.filled_to.ensures (r.ensures.adds ds t))
-          (subst (λ k. Adds symbol_layout (joined (symbol_by (Inside a.from.content.offset size a.from.own)) ps) a.symbols.now k syms y.result)
+          (subst (λ k. Adds symbol_layout (joined (symbol_by (Inside (record { at = a.from.content.offset; len = size; own = a.from.own }))) ps) a.symbols.now k syms y.result)
           c.filled_to-2.ensures (y.ensures.adds ps p))
           (copied-region (pattern_bytes gs) a.bytes.now a.c.pattern size s.bytes (sym s.pattern)
           (leb-true end (length a.bytes.now) (sym c.fits.ensures ∙ c.if-not-fits.false)) new wide m.ensures.bytes-are)

@@ -1,30 +1,37 @@
-use mathlib.Core.Path.{◌≡◌, refl, sym, ap, subst, ◌∙◌}
+use mathlib.Core.Path.{◌≡◌, refl, sym, subst, ◌∙◌}
 use mathlib.Core.List.{[]}
 use native.Mathlib.Omega.{arith}
 use Rattle.image.specs.declared.fixup.Rules.{Rules}
 use Rattle.omf51.specs.declared.Edition.TheVariants.{One}
 use Rattle.omf51.specs.Module.{module_at}
-use Rattle.library.specs.declared.Places.{Places}
-use Rattle.library.specs.declared.ModuleAt.{ModuleAt}
-use Rattle.library.specs.declared.ModuleAt.TheVariants.{Whole, Stop, Refused}
+use Rattle.std.specs.Prelude.{Some, Ok}
+use Rattle.std.proofs.Common.{rules}
 use Rattle.library.specs.Gathered.{items_at}
 use Rattle.library.specs.Passes.{places_read, places_at}
 use Rattle.library.specs.WholeLaws.{module_of, modules-step, modules-end, module-moved, Ended}
-use Rattle.collect.specs.stored.Stores.{CollectLists, Stores}
+use Rattle.omf51.proofs.Exits.{handed_on}
+use Rattle.segments.specs.Collect.{collect}
+use Rattle.collect.specs.stored.Stores.{CollectLists, Stores, After}
 use Rattle.collect.specs.stored.ProgressLaws.{same-lengths, lengths-on}
 use Rattle.collect.specs.stored.Segments.{lists, own_by}
 use Rattle.collect.specs.all_modules.AllLaws.{Collecting, collecting-starts, collecting-on, collecting-lacks, collecting-ends, stored-few}
+use Rattle.collect.specs.all_modules.All.{StoresAll}
+use Rattle.std.specs.Prelude.{Ok}
 use Rattle.collect.proofs.all_modules.all.store_all.Goals as goal
-use Rattle.collect.proofs.all_modules.all.store_all.Goals.{At-loop-module}
+use Rattle.collect.proofs.all_modules.all.store_all.Goals.{After-module_at, After-store_module}
 
-ends : (r : ModuleAt) → ((p : Places) → r ≡ Whole p → ⊥) → Ended r
-ends (Whole p) never = absurd (never p refl)
-ends Stop never = tt
-ends (Refused r) never = tt
-
-abbrev held : (c : At-loop-module) → CollectLists
+-- the lists before a module, and after it
+abbrev held : (c : After-store_module) → CollectLists
 held c =
     let l = c.loop-module in lists l.segments l.references l.symbols l.bytes l.masks
+
+abbrev left : (c : After-store_module) → CollectLists
+left c =
+    let s = c.store_module in lists s.new.segments s.new.references s.new.symbols s.new.bytes s.new.masks
+
+stands : (c : After-store_module) → places_at c.args.library.now c.loop-module.at ≡ places_read (Ok (Some c.in-Ok-Some.module))
+stands c =
+    sym (rw c.in-Ok-Some.field-0-is at c.in-Ok-Some.ensures)
 
 pub loop-module-init : goal.loop-module-init
 loop-module-init c =
@@ -44,17 +51,30 @@ loop-module-init c =
       },
     )
 
-pub returns-in_default : goal.returns-in_default
-returns-in_default c =
+-- no module stands there
+all-stored : (c : After-module_at) → Ended c.module_at.result → StoresAll c.args.library.now c.args.rules (items_at c.args.library.now (module_at c.args.library.now) c.args.from) c.loop-module.table
+    (lists c.args.segments.now c.args.references.now c.args.symbols.now c.args.bytes.now c.args.masks.now)
+    (lists c.loop-module.segments c.loop-module.references c.loop-module.symbols c.loop-module.bytes c.loop-module.masks) (Ok c.loop-module.c)
+all-stored c ended =
     let a = c.args in
     let lib = a.library.now in
     let l = c.loop-module in
     let i = l.invariant.1 in
-    let none = modules-end One lib l.at c.module_at.result (sym c.module_at.ensures) (ends c.module_at.result c.in_default.not-Whole) in
+    let none = modules-end One lib l.at c.module_at.result (sym c.module_at.ensures) ended in
     record { tells = i.tells; long = i.long; stored = collecting-ends a.rules lib none (i.collecting a.rules c.is_own-own.ensures) }
 
-pub store_module-stored-requires : goal.store_module-stored-requires
-store_module-stored-requires c =
+pub returns-in_default : goal.returns-in_default
+returns-in_default c =
+    let ended : Ended c.module_at.result = search rules in
+    all-stored (goal.at.returns-in_default c).After-module_at ended
+
+pub returns-in_default-2 : goal.returns-in_default-2
+returns-in_default-2 c =
+    let ended : Ended c.module_at.result = search rules in
+    all-stored (goal.at.returns-in_default-2 c).After-module_at ended
+
+pub store_module-requires : goal.store_module-requires
+store_module-requires c =
     let i = c.loop-module.invariant.1 in
     let p = c.requires.0 in
     record {
@@ -67,47 +87,38 @@ store_module-stored-requires c =
       short = p.short;
     }
 
-pub returns-in_default-stored : goal.returns-in_default-stored
-returns-in_default-stored c =
-    let stands : places_at c.args.library.now c.loop-module.at ≡ places_read (Whole c.in-Whole.module) = sym c.module_at.ensures ∙ ap places_read c.in-Whole.is in
-    let left : CollectLists = let s = c.store_module-stored in
-    lists s.new.segments s.new.references s.new.symbols
-    s.new.bytes s.new.masks in
+pub returns-in_err-c : goal.returns-in_err-c
+returns-in_err-c c =
     let a = c.args in
     let lib = a.library.now in
     let l = c.loop-module in
     let i = l.invariant.1 in
-    let s = c.store_module-stored in
+    let s = c.store_module in
     let o = c.is_own-own.ensures in
-    let p = c.in-Whole.module in
+    let p = c.in-Ok-Some.module in
     record {
       tells = s.ensures.tells;
       long = lengths-on i.long s.ensures.long;
-      stored = collecting-lacks a.rules lib (items_at lib (module_at lib) a.from) (held (goal.at.returns-in_default-stored c).At-loop-module) (left) l.c s.result (module_of One lib p)
-          (modules-step One lib l.at (stands)) (i.collecting a.rules o) (s.ensures.extends a.rules o) c.in_default-stored.is;
+      stored = subst (After (collect a.rules lib (items_at lib (module_at lib) a.from)) (left (goal.at.returns-in_err-c c).After-store_module)) (sym (handed_on c.from_residual.result c.from_residual.ensures.1)) (collecting-lacks a.rules lib (items_at lib (module_at lib) a.from) (held (goal.at.returns-in_err-c c).After-store_module) (left (goal.at.returns-in_err-c c).After-store_module) l.c s.result (module_of One lib p)
+          (modules-step One lib l.at (stands (goal.at.returns-in_err-c c).After-store_module)) (i.collecting a.rules o) (s.ensures.extends a.rules o) c.in_err-c.was);
     }
 
 pub loop-module-smaller : goal.loop-module-smaller
 loop-module-smaller c =
-    let stands : places_at c.args.library.now c.loop-module.at ≡ places_read (Whole c.in-Whole.module) = sym c.module_at.ensures ∙ ap places_read c.in-Whole.is in
-    omega (arith, module-moved One c.args.library.now c.loop-module.at (stands))
+    omega (arith, module-moved One c.args.library.now c.loop-module.at (stands (goal.at.loop-module-smaller c).After-store_module))
 
 pub loop-module-preserved : goal.loop-module-preserved
 loop-module-preserved c =
-    let stands : places_at c.args.library.now c.loop-module.at ≡ places_read (Whole c.in-Whole.module) = sym c.module_at.ensures ∙ ap places_read c.in-Whole.is in
-    let left : CollectLists = let s = c.store_module-stored in
-    lists s.new.segments s.new.references s.new.symbols
-    s.new.bytes s.new.masks in
     let a = c.args in
     let lib = a.library.now in
     let l = c.loop-module in
     let i = l.invariant.1 in
-    let s = c.store_module-stored in
-    let p = c.in-Whole.module in
+    let s = c.store_module in
+    let p = c.in-Ok-Some.module in
     let on : (rules : Rules) → c.is_own-own.result ≡ own_by rules → Collecting rules lib (items_at lib (module_at lib) a.from)
-    (items_at lib (module_at lib) p.next) (left) c.in-Rows.more = λ rules o. collecting-on rules lib
-    (items_at lib (module_at lib) a.from) (held (goal.at.loop-module-preserved c).At-loop-module) (left) l.c s.result (module_of One lib p) (modules-step One lib l.at (stands))
-    (i.collecting rules o) (s.ensures.extends rules o) c.in-Rows.is in (
+    (items_at lib (module_at lib) p.next) (left (goal.at.loop-module-preserved c).After-store_module) c.in_ok-c.c = λ rules o. collecting-on rules lib
+    (items_at lib (module_at lib) a.from) (held (goal.at.loop-module-preserved c).After-store_module) (left (goal.at.loop-module-preserved c).After-store_module) l.c s.result (module_of One lib p) (modules-step One lib l.at (stands (goal.at.loop-module-preserved c).After-store_module))
+    (i.collecting rules o) (s.ensures.extends rules o) c.in_ok-c.was in (
       record {
         table-long = c.table-1.given ∙ l.invariant.0.table-long;
         contents-long = c.contents-1.given ∙ l.invariant.0.contents-long;

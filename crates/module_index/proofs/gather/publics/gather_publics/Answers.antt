@@ -9,7 +9,7 @@ use Rattle.lent.specs.declared.part.Part.{Part}
 use Rattle.lent.specs.Lists.{one}
 use Rattle.omf51.specs.declared.Definition.{Definition}
 use Rattle.omf51.specs.declared.Definition.TheVariants.{Segment, Public, External}
-use Rattle.library.specs.declared.items.NextDefinition.TheVariants.{Item}
+use Rattle.std.specs.Prelude.{Some}
 use Rattle.library.specs.items.Items.{next_definition}
 use Rattle.library.specs.items.Yields.{definitions_after, next-definition-yields, definitions-start}
 use Rattle.library.specs.items.Fewer.{fewer-definitions}
@@ -23,7 +23,7 @@ use Rattle.module_index.specs.gather.GatherLaws.{none-gathered, gather-turn, all
 use Rattle.module_index.specs.gather.PublicLaws.{not-public-passed, keyed-gathered, apart-passed, none_kept, read_again}
 use Rattle.module_index.specs.gather.Publics.{key_by, publics_by}
 use Rattle.module_index.proofs.gather.publics.gather_publics.Goals as goal
-use Rattle.module_index.proofs.gather.publics.gather_publics.Goals.{In-Public}
+use Rattle.module_index.proofs.gather.publics.gather_publics.Goals.{In-Some, In-Public}
 use Rattle.module_index.proofs.gather.publics.gather_publics.Invariants.{Inv, Some-held}
 
 abbrev Read : List ℕ → ℕ → Definition → Type 0
@@ -37,6 +37,53 @@ not-public (External id info name) never = refl
 abbrev this : (c : In-Public) → Definition
 this c =
     Public c.in-Public.id c.in-Public.offset c.in-Public.name
+
+step : (c : In-Some) → next_definition c.args.library.now c.loop-definition.c ≡ Some c.in-Some.field-0
+step c =
+    sym c.next_definition.ensures ∙ c.in-Some.is
+
+goes : (c : In-Some) → Sized c.args.library.now 5 c.loop-definition.c c.in-Some.field-0.rest
+goes c =
+    definition-sized c.args.library.now c.loop-definition.c c.loop-definition.invariant.ordered (step c)
+
+-- the invariant behind one more definition, once it is said what is held then
+goes-on : (c : In-Some) (n : ℕ) (things : List ℕ) (d : Definition) → d ≡ c.in-Some.field-0.definition → length things ≡ length c.args.things.now → 6 * n ≤ c.in-Some.field-0.rest.at
+    → Some-held c.args.by c.args.library.now (c.loop-definition.invariant.done ++ one d) things n
+    → Inv c.args.library.now c.args.from c.args.by c.args.things.now things c.in-Some.field-0.rest n
+goes-on c n things d e k few held =
+    let lib = c.args.library.now in
+    let l = c.loop-definition in
+    let same : next_definition lib l.c ≡ Some (record { definition = d; rest = c.in-Some.field-0.rest }) = step c ∙ ap (λ x. Some (record { definition = x; rest = c.in-Some.field-0.rest })) (sym e) in
+    record {
+      long = k;
+      done = l.invariant.done ++ one d;
+      whole = append_assoc l.invariant.done (one d) _ ∙ ap (λ xs. l.invariant.done ++ xs) (sym (next-definition-yields lib l.c ∙ ap (definitions_after lib) same)) ∙ l.invariant.whole;
+      gathered = held;
+      few = few;
+      ordered = (goes c).forward.ordered;
+    }
+
+again : (c : In-Public) → PublicAgain c.args.library.now c.in-Public.offset c.in-Public.name
+again c =
+    public-again c.args.library.now c.loop-definition.c (sym c.next_definition.ensures ∙ c.in-Some.is) c.in-Public.is
+
+sized : (c : In-Public) → Sized c.args.library.now 6 c.loop-definition.c c.in-Some.field-0.rest
+sized c =
+    public-sized c.args.library.now c.loop-definition.c c.loop-definition.invariant.ordered (sym c.next_definition.ensures ∙ c.in-Some.is) c.in-Public.is
+
+early : (c : In-Public) → c.in-Public.name.at - 4 < 1048576
+early c =
+    omega (arith, (again c).front, (again c).inside, c.requires.short)
+
+below : (c : In-Public) → 6 * c.loop-definition.n + 6 ≤ 1048576
+below c =
+    omega (arith, c.loop-definition.invariant.few, (sized c).size-later, (sized c).forward.inside, c.requires.short)
+
+room : (c : In-Public) → c.loop-definition.n < length c.loop-definition.things
+room c =
+    let i = c.loop-definition.invariant in
+    let g = sized c in
+    omega (arith, i.few, g.size-later, g.forward.inside, c.requires.room, i.long)
 
 pub loop-definition-init : goal.loop-definition-init
 loop-definition-init c =
@@ -52,174 +99,84 @@ loop-definition-init c =
       ordered = record { before = omega arith; body-before = omega arith };
     })
 
-pub key_by-requires : goal.key_by-requires
-key_by-requires c =
-    let step : next_definition c.args.library.now c.loop-definition.c ≡ Item c.in-Item.definition c.in-Item.rest = sym c.next_definition.ensures ∙ c.in-Item.is in
-    let step-public : next_definition c.args.library.now c.loop-definition.c ≡ Item (this c) c.in-Item.rest = step ∙ ap (λ d. Item d c.in-Item.rest) c.in-Public.is in
-    let again : PublicAgain c.args.library.now c.in-Public.offset c.in-Public.name = public-again c.args.library.now c.loop-definition.c (step-public) in
+pub key-requires : goal.key-requires
+key-requires c =
     omega (
       arith,
-      (again).offset-is,
+      (again c).offset-is,
       word_small c.args.library.now
           (λ i. omega (arith, c.shared_slice_known-1.given i)) (c.in-Public.name.at - 4),
     )
 
 pub overflow_sub-name : goal.overflow_sub-name
 overflow_sub-name c =
-    let step : next_definition c.args.library.now c.loop-definition.c ≡ Item c.in-Item.definition c.in-Item.rest = sym c.next_definition.ensures ∙ c.in-Item.is in
-    let step-public : next_definition c.args.library.now c.loop-definition.c ≡ Item (this (goal.at.overflow_sub-name c).In-Public) c.in-Item.rest =
-    step ∙ ap (λ d. Item d c.in-Item.rest) c.in-Public.is in
-    let again : PublicAgain c.args.library.now c.in-Public.offset c.in-Public.name = public-again c.args.library.now c.loop-definition.c (step-public) in
-    omega (arith, (again).front)
+    omega (arith, (again (goal.at.overflow_sub-name c).In-Public).front)
 
 pub thing-requires : goal.thing-requires
 thing-requires c =
-    let step : next_definition c.args.library.now c.loop-definition.c ≡ Item c.in-Item.definition c.in-Item.rest = sym c.next_definition.ensures ∙ c.in-Item.is in
-    let step-public : next_definition c.args.library.now c.loop-definition.c ≡ Item (this (goal.at.thing-requires c).In-Public) c.in-Item.rest = step
-    ∙ ap (λ d. Item d c.in-Item.rest) c.in-Public.is in
-    let again : PublicAgain c.args.library.now c.in-Public.offset c.in-Public.name = public-again c.args.library.now c.loop-definition.c (step-public) in
-    let early : c.in-Public.name.at - 4 < 1048576 = omega (arith, (again).front, (again).inside, c.requires.short) in
-    early
+    early (goal.at.thing-requires c).In-Public
 
 pub offset_bounds-things-n : goal.offset_bounds-things-n
 offset_bounds-things-n c =
-    let step : next_definition c.args.library.now c.loop-definition.c ≡ Item c.in-Item.definition c.in-Item.rest = sym c.next_definition.ensures ∙ c.in-Item.is in
-    let step-public : next_definition c.args.library.now c.loop-definition.c ≡ Item (this (goal.at.offset_bounds-things-n c).In-Public)
-    c.in-Item.rest = step ∙ ap (λ d. Item d c.in-Item.rest) c.in-Public.is in
-    let sized : Sized c.args.library.now 6 c.loop-definition.c c.in-Item.rest = public-sized c.args.library.now c.loop-definition.c c.loop-definition.invariant.ordered (step-public) in
-    let below : 6 * c.loop-definition.n + 6 ≤ 1048576 = omega (arith, c.loop-definition.invariant.few, (sized).size-later, (sized).forward.inside, c.requires.short) in
-    omega (arith, below)
+    omega (arith, below (goal.at.offset_bounds-things-n c).In-Public)
 
 pub bounds-things-n : goal.bounds-things-n
 bounds-things-n c =
-    let step : next_definition c.args.library.now c.loop-definition.c ≡ Item c.in-Item.definition c.in-Item.rest = sym c.next_definition.ensures ∙ c.in-Item.is in
-    let step-public : next_definition c.args.library.now c.loop-definition.c ≡ Item (this (goal.at.bounds-things-n c).In-Public) c.in-Item.rest =
-    step ∙ ap (λ d. Item d c.in-Item.rest) c.in-Public.is in
-    let sized : Sized c.args.library.now 6 c.loop-definition.c c.in-Item.rest = public-sized c.args.library.now c.loop-definition.c c.loop-definition.invariant.ordered (step-public) in
-    let room : c.loop-definition.n < length c.loop-definition.things = let i = c.loop-definition.invariant in
-    let g = sized in
-    omega (arith, i.few, g.size-later, g.forward.inside, c.requires.room, i.long) in
-    room
+    room (goal.at.bounds-things-n c).In-Public
 
 pub overflow_add-n : goal.overflow_add-n
 overflow_add-n c =
-    let step : next_definition c.args.library.now c.loop-definition.c ≡ Item c.in-Item.definition c.in-Item.rest = sym c.next_definition.ensures ∙ c.in-Item.is in
-    let step-public : next_definition c.args.library.now c.loop-definition.c ≡ Item (this (goal.at.overflow_add-n c).In-Public) c.in-Item.rest = step
-    ∙ ap (λ d. Item d c.in-Item.rest) c.in-Public.is in
-    let sized : Sized c.args.library.now 6 c.loop-definition.c c.in-Item.rest = public-sized c.args.library.now c.loop-definition.c c.loop-definition.invariant.ordered (step-public) in
-    let below : 6 * c.loop-definition.n + 6 ≤ 1048576 = omega (arith, c.loop-definition.invariant.few, (sized).size-later, (sized).forward.inside, c.requires.short) in
-    omega (arith, below)
+    omega (arith, below (goal.at.overflow_add-n c).In-Public)
 
-pub loop-definition-smaller-in-By : goal.loop-definition-smaller-in-By
-loop-definition-smaller-in-By c =
-    let step : next_definition c.args.library.now c.loop-definition.c ≡ Item c.in-Item.definition c.in-Item.rest = sym c.next_definition.ensures ∙ c.in-Item.is in
-    let step-public : next_definition c.args.library.now c.loop-definition.c ≡ Item (this (goal.at.loop-definition-smaller-in-By c).In-Public)
-    c.in-Item.rest = step ∙ ap (λ d. Item d c.in-Item.rest) c.in-Public.is in
-    fewer-definitions c.args.library.now c.loop-definition.c (step-public)
+pub loop-definition-smaller-in-Some-key : goal.loop-definition-smaller-in-Some-key
+loop-definition-smaller-in-Some-key c =
+    fewer-definitions c.args.library.now c.loop-definition.c (step (goal.at.loop-definition-smaller-in-Some-key c).In-Some)
 
-pub loop-definition-preserved-in-By : goal.loop-definition-preserved-in-By
-loop-definition-preserved-in-By c =
-    let step : next_definition c.args.library.now c.loop-definition.c ≡ Item c.in-Item.definition c.in-Item.rest = sym c.next_definition.ensures ∙ c.in-Item.is in
-    let goes : Sized c.args.library.now 5 c.loop-definition.c c.in-Item.rest = definition-sized c.args.library.now c.loop-definition.c c.loop-definition.invariant.ordered (step) in
-    let goes_on : (n : ℕ) (things : List ℕ) (d : Definition) → d ≡ c.in-Item.definition → length things ≡ length c.args.things.now → 6 * n ≤
-    c.in-Item.rest.at → Some-held c.args.by c.args.library.now (c.loop-definition.invariant.done ++ one d) things n → Inv c.args.library.now
-    c.args.from c.args.by c.args.things.now things c.in-Item.rest n = λ n things d e k few held. let lib = c.args.library.now in
-    let l = c.loop-definition in
-    let same : next_definition lib l.c ≡ Item d c.in-Item.rest = step ∙ ap (λ x. Item x c.in-Item.rest) (sym e) in
-    record {
-      long = k;
-      done = l.invariant.done ++ one d;
-      whole = append_assoc l.invariant.done (one d) _ ∙ ap (λ xs. l.invariant.done ++ xs) (sym (next-definition-yields lib l.c ∙ ap (definitions_after lib) same)) ∙ l.invariant.whole;
-      gathered = held;
-      few = few;
-      ordered = (goes).forward.ordered;
-    } in
-    let step-public : next_definition c.args.library.now c.loop-definition.c ≡ Item (this (goal.at.loop-definition-preserved-in-By c).In-Public)
-    c.in-Item.rest = step ∙ ap (λ d. Item d c.in-Item.rest) c.in-Public.is in
-    let again : PublicAgain c.args.library.now c.in-Public.offset c.in-Public.name = public-again c.args.library.now c.loop-definition.c (step-public) in
-    let sized : Sized c.args.library.now 6 c.loop-definition.c c.in-Item.rest = public-sized c.args.library.now c.loop-definition.c c.loop-definition.invariant.ordered (step-public) in
-    let room : c.loop-definition.n < length c.loop-definition.things = let i = c.loop-definition.invariant in
-    let g = sized in
-    omega (arith, i.few, g.size-later, g.forward.inside, c.requires.room, i.long) in
-    let early : c.in-Public.name.at - 4 < 1048576 = omega (arith, (again).front, (again).inside, c.requires.short) in
+pub loop-definition-preserved-in-Some-key : goal.loop-definition-preserved-in-Some-key
+loop-definition-preserved-in-Some-key c =
+    let some = (goal.at.loop-definition-preserved-in-Some-key c).In-Some in
+    let public = (goal.at.loop-definition-preserved-in-Some-key c).In-Public in
     let a = c.args in
     let lib = a.library.now in
     let l = c.loop-definition in
-    let d : Definition = (this (goal.at.loop-definition-preserved-in-By c).In-Public) in
     let name = c.in-Public.name in
-    let k = keyed-gathered a.by l.invariant.done _ _ name (sym c.key_by.ensures ∙ c.in-By.is) in
-    goes_on (l.n + 1) _ d (sym c.in-Public.is) (length-set l.things l.n _ ∙ l.invariant.long)
-    (omega (arith, l.invariant.few, (sized).size-later))
+    let k = keyed-gathered a.by l.invariant.done _ _ name (sym c.key.ensures ∙ c.in-Some-key.is) in
+    goes-on some (l.n + 1) _ (this public) (sym c.in-Public.is) (length-set l.things l.n _ ∙ l.invariant.long)
+    (omega (arith, l.invariant.few, (sized public).size-later))
     (rw (c.thing.ensures.0, k.0, ← k.1)
-    (gather-turn (key_by a.by) (Read lib) no_definition (publics_by a.by l.invariant.done) l.things l.n d (name.at - 4)
-    (room) (rw k.1 c.thing.ensures.1)
-    (early) (read_again lib _ _ name (again)) l.invariant.gathered))
+    (gather-turn (key_by a.by) (Read lib) no_definition (publics_by a.by l.invariant.done) l.things l.n (this public) (name.at - 4)
+    (room public) (rw k.1 c.thing.ensures.1)
+    (early public) (read_again lib _ _ name (again public)) l.invariant.gathered))
 
-pub loop-definition-smaller-in_default-key_by : goal.loop-definition-smaller-in_default-key_by
-loop-definition-smaller-in_default-key_by c =
-    let step : next_definition c.args.library.now c.loop-definition.c ≡ Item c.in-Item.definition c.in-Item.rest = sym c.next_definition.ensures ∙ c.in-Item.is in
-    let step-public : next_definition c.args.library.now c.loop-definition.c ≡ Item
-    (this (goal.at.loop-definition-smaller-in_default-key_by c).In-Public) c.in-Item.rest = step ∙ ap (λ d. Item d c.in-Item.rest) c.in-Public.is in
-    fewer-definitions c.args.library.now c.loop-definition.c (step-public)
+pub loop-definition-smaller-in_default-key : goal.loop-definition-smaller-in_default-key
+loop-definition-smaller-in_default-key c =
+    fewer-definitions c.args.library.now c.loop-definition.c (step (goal.at.loop-definition-smaller-in_default-key c).In-Some)
 
-pub loop-definition-preserved-in_default-key_by : goal.loop-definition-preserved-in_default-key_by
-loop-definition-preserved-in_default-key_by c =
-    let step : next_definition c.args.library.now c.loop-definition.c ≡ Item c.in-Item.definition c.in-Item.rest = sym c.next_definition.ensures ∙ c.in-Item.is in
-    let goes : Sized c.args.library.now 5 c.loop-definition.c c.in-Item.rest = definition-sized c.args.library.now c.loop-definition.c c.loop-definition.invariant.ordered (step) in
-    let goes_on : (n : ℕ) (things : List ℕ) (d : Definition) → d ≡ c.in-Item.definition → length things ≡ length c.args.things.now → 6 * n ≤
-    c.in-Item.rest.at → Some-held c.args.by c.args.library.now (c.loop-definition.invariant.done ++ one d) things n → Inv c.args.library.now
-    c.args.from c.args.by c.args.things.now things c.in-Item.rest n = λ n things d e k few held. let lib = c.args.library.now in
+pub loop-definition-preserved-in_default-key : goal.loop-definition-preserved-in_default-key
+loop-definition-preserved-in_default-key c =
+    let some = (goal.at.loop-definition-preserved-in_default-key c).In-Some in
+    let public = (goal.at.loop-definition-preserved-in_default-key c).In-Public in
     let l = c.loop-definition in
-    let same : next_definition lib l.c ≡ Item d c.in-Item.rest = step ∙ ap (λ x. Item x c.in-Item.rest) (sym e) in
-    record {
-      long = k;
-      done = l.invariant.done ++ one d;
-      whole = append_assoc l.invariant.done (one d) _ ∙ ap (λ xs. l.invariant.done ++ xs) (sym (next-definition-yields lib l.c ∙ ap (definitions_after lib) same)) ∙ l.invariant.whole;
-      gathered = held;
-      few = few;
-      ordered = (goes).forward.ordered;
-    } in
-    let step-public : next_definition c.args.library.now c.loop-definition.c ≡ Item
-    (this (goal.at.loop-definition-preserved-in_default-key_by c).In-Public) c.in-Item.rest = step ∙ ap (λ d. Item d c.in-Item.rest) c.in-Public.is in
-    let sized : Sized c.args.library.now 6 c.loop-definition.c c.in-Item.rest = public-sized c.args.library.now c.loop-definition.c c.loop-definition.invariant.ordered (step-public) in
-    let l = c.loop-definition in
-    goes_on l.n l.things (this (goal.at.loop-definition-preserved-in_default-key_by c).In-Public)
-    (sym c.in-Public.is) l.invariant.long (omega (arith, l.invariant.few, (sized).size-later))
-    (rw (apart-passed c.args.by
-    l.invariant.done _ _ _ (sym c.key_by.ensures ∙ c.in_default-key_by.is)) l.invariant.gathered)
+    goes-on some l.n l.things (this public) (sym c.in-Public.is) l.invariant.long (omega (arith, l.invariant.few, (sized public).size-later))
+    (rw (apart-passed c.args.by l.invariant.done _ _ _ (sym c.key.ensures ∙ c.in_default-key.is)) l.invariant.gathered)
 
 pub loop-definition-smaller : goal.loop-definition-smaller
 loop-definition-smaller c =
-    let step : next_definition c.args.library.now c.loop-definition.c ≡ Item c.in-Item.definition c.in-Item.rest = sym c.next_definition.ensures ∙ c.in-Item.is in
-    fewer-definitions c.args.library.now c.loop-definition.c (step)
+    fewer-definitions c.args.library.now c.loop-definition.c (step (goal.at.loop-definition-smaller c).In-Some)
 
 pub loop-definition-preserved : goal.loop-definition-preserved
 loop-definition-preserved c =
-    let step : next_definition c.args.library.now c.loop-definition.c ≡ Item c.in-Item.definition c.in-Item.rest = sym c.next_definition.ensures ∙ c.in-Item.is in
-    let goes : Sized c.args.library.now 5 c.loop-definition.c c.in-Item.rest = definition-sized c.args.library.now c.loop-definition.c c.loop-definition.invariant.ordered (step) in
-    let goes_on : (n : ℕ) (things : List ℕ) (d : Definition) → d ≡ c.in-Item.definition → length things ≡ length c.args.things.now → 6 * n ≤
-    c.in-Item.rest.at → Some-held c.args.by c.args.library.now (c.loop-definition.invariant.done ++ one d) things n → Inv c.args.library.now
-    c.args.from c.args.by c.args.things.now things c.in-Item.rest n = λ n things d e k few held. let lib = c.args.library.now in
+    let some = (goal.at.loop-definition-preserved c).In-Some in
     let l = c.loop-definition in
-    let same : next_definition lib l.c ≡ Item d c.in-Item.rest = step ∙ ap (λ x. Item x c.in-Item.rest) (sym e) in
-    record {
-      long = k;
-      done = l.invariant.done ++ one d;
-      whole = append_assoc l.invariant.done (one d) _ ∙ ap (λ xs. l.invariant.done ++ xs) (sym (next-definition-yields lib l.c ∙ ap (definitions_after lib) same)) ∙ l.invariant.whole;
-      gathered = held;
-      few = few;
-      ordered = (goes).forward.ordered;
-    } in
-    let l = c.loop-definition in
-    let d = c.in-Item.definition in
-    goes_on l.n l.things d refl l.invariant.long (omega (arith, l.invariant.few, (goes).size-later))
-    (rw (not-public-passed l.invariant.done d c.args.by (not-public d c.in_default.not-Public)) l.invariant.gathered)
+    let d = c.in-Some.field-0.definition in
+    goes-on some l.n l.things d refl l.invariant.long (omega (arith, l.invariant.few, (goes some).size-later))
+    (rw (not-public-passed l.invariant.done d c.args.by (not-public d c.in_default-definition.not-Public)) l.invariant.gathered)
 
-pub returns-in-Done : goal.returns-in-Done
-returns-in-Done c =
+pub returns : goal.returns
+returns c =
     let lib = c.args.library.now in
     let l = c.loop-definition in
-    let none = next-definition-yields lib l.c ∙ ap (definitions_after lib) (sym c.next_definition.ensures ∙ c.in-Done.is) in
+    let none = next-definition-yields lib l.c ∙ ap (definitions_after lib) (sym c.next_definition.ensures ∙ c.in_default.is) in
     record {
       gathered = subst (λ ds. Some-held c.args.by lib ds l.things l.n) (all_done l.invariant.whole none) l.invariant.gathered;
       long = l.invariant.long;

@@ -1,5 +1,5 @@
 -- `or_into` ORs one byte after another. The invariant: the first i of the new bytes are in. Assumes nothing.
-use Prim.Native.Nat.{ℕ, ◌≤◌, ◌-◌}
+use Prim.Native.Nat.{ℕ, ◌≤◌}
 use mathlib.Core.Path.{◌≡◌}
 use mathlib.Core.List.{List}
 use lib.ListN.{length, take}
@@ -14,7 +14,3 @@ pub record Inv (old₀ new old : List ℕ) (i : ℕ) : Type 0 where
 abbrev pub invariant-loop-i : goal.invariant-loop-i
 invariant-loop-i l =
     Inv l.initial.old l.new l.old l.i
-
-abbrev pub decreases-loop-i : goal.decreases-loop-i
-decreases-loop-i l =
-    length l.initial.old - l.i

@@ -1,5 +1,5 @@
 -- `clear_blocks` goes over the blocks. Assumes nothing.
-use Prim.Native.Nat.{ℕ, ◌-◌}
+use Prim.Native.Nat.{ℕ}
 use mathlib.Core.Path.{◌≡◌}
 use mathlib.Core.List.{List}
 use lib.ListN.{length}
@@ -14,8 +14,4 @@ pub record Inv (flags₀ : List ℕ) (s : Blocks) (flags : List ℕ) (b : ℕ) :
 
 abbrev pub invariant-loop-b : goal.invariant-loop-b
 invariant-loop-b l =
-    Inv l.initial.flags l.s l.flags l.b
-
-abbrev pub decreases-loop-b : goal.decreases-loop-b
-decreases-loop-b l =
-    l.s.high - l.b
+    Inv l.initial.flags l.fn.s l.flags l.b

@@ -21,9 +21,9 @@ loop-j-init c =
     let a = c.args in
     record {
       long = refl;
-      left = λ p t k. left-past a.library.now (keys_of a.publics.now) a.n (places_of a.publics.now) p t a.at a.len a.own a.s a.flags.now k
+      left = λ p t k. left-past a.library.now (keys_of a.publics.now) a.n (places_of a.publics.now) p t a.window.at a.window.len a.window.own a.s a.flags.now k
           a.m.now a.before 0 (a.s.low * 256) a.m.now a.before (omega arith) (λ j x y fl. omega (arith, fl.from))
-          (left-all a.library.now (keys_of a.publics.now) a.n (places_of a.publics.now) p t a.at a.len a.own a.s a.flags.now k a.m.now a.before);
+          (left-all a.library.now (keys_of a.publics.now) a.n (places_of a.publics.now) p t a.window.at a.window.len a.window.own a.s a.flags.now k a.m.now a.before);
     }
 
 pub returns-then-s-b : goal.returns-then-s-b
@@ -32,9 +32,9 @@ returns-then-s-b c =
     let l = c.loop-j in
     record {
       long = l.invariant.long;
-      adds = λ p t k. left-none a.library.now (keys_of a.publics.now) a.n (places_of a.publics.now) p t a.at a.len a.own a.s a.flags.now k
+      adds = λ p t k. left-none a.library.now (keys_of a.publics.now) a.n (places_of a.publics.now) p t a.window.at a.window.len a.window.own a.s a.flags.now k
           a.m.now a.before (l.j + a.n) l.m l.f (omega arith)
-          (left-past a.library.now (keys_of a.publics.now) a.n (places_of a.publics.now) p t a.at a.len a.own a.s a.flags.now k a.m.now
+          (left-past a.library.now (keys_of a.publics.now) a.n (places_of a.publics.now) p t a.window.at a.window.len a.window.own a.s a.flags.now k a.m.now
           a.before l.j (l.j + a.n) l.m l.f (omega arith) (λ j x y fl. omega (arith, fl.below)) (l.invariant.left p t k));
     }
 
@@ -44,7 +44,7 @@ loop-j-preserved-then-flag_at-eq0 c =
     let l = c.loop-j in
     record {
       long = l.invariant.long;
-      left = λ p t k. left-past a.library.now (keys_of a.publics.now) a.n (places_of a.publics.now) p t a.at a.len a.own a.s a.flags.now k
+      left = λ p t k. left-past a.library.now (keys_of a.publics.now) a.n (places_of a.publics.now) p t a.window.at a.window.len a.window.own a.s a.flags.now k
           a.m.now a.before l.j _ l.m l.f (omega arith) (unflagged a.flags.now a.s l.j (sym c.flag_at.ensures ∙ c.if-flag_at-eq0.true)) (l.invariant.left p t k);
     }
 
@@ -54,7 +54,7 @@ loop-j-preserved c =
     let l = c.loop-j in
     record {
       long = c.name_place-f.ensures.long ∙ l.invariant.long;
-      left = λ p t k. left_one a.library.now (keys_of a.publics.now) a.n (places_of a.publics.now) p t a.at a.len a.own a.s a.flags.now k
+      left = λ p t k. left_one a.library.now (keys_of a.publics.now) a.n (places_of a.publics.now) p t a.window.at a.window.len a.window.own a.s a.flags.now k
           a.m.now a.before l.j l.m c.name_place-f.new.m l.f c.name_place-f.result
           (omega arith) c.name_place-f.ensures (l.invariant.left p t k);
     }
@@ -65,6 +65,6 @@ returns c =
     let l = c.loop-j in
     record {
       long = l.invariant.long;
-      adds = λ p t k. left-none a.library.now (keys_of a.publics.now) a.n (places_of a.publics.now) p t a.at a.len a.own a.s a.flags.now k
+      adds = λ p t k. left-none a.library.now (keys_of a.publics.now) a.n (places_of a.publics.now) p t a.window.at a.window.len a.window.own a.s a.flags.now k
           a.m.now a.before l.j l.m l.f (omega arith) (l.invariant.left p t k);
     }

@@ -20,7 +20,7 @@ pub record Inv (library : List ℕ) (at len : ℕ) (own : Bool) (keys : List ℕ
 
 abbrev pub invariant-loop-j : goal.invariant-loop-j
 invariant-loop-j l =
-    Inv l.library l.at l.len l.own (keys_of l.publics) l.n (places_of l.publics) l.s l.flags l.initial.m l.initial.f l.m l.j l.f
+    Inv l.library l.window.at l.window.len l.window.own (keys_of l.publics) l.n (places_of l.publics) l.s l.flags l.initial.m l.initial.f l.m l.j l.f
 
 abbrev pub decreases-loop-j : goal.decreases-loop-j
 decreases-loop-j l =

@@ -19,12 +19,12 @@ pub append_public-requires : goal.append_public-requires
 append_public-requires c =
     let a = c.args in rw c.place_at-place.ensures (omega (arith, place-small a.publics.now a.j))
 
-pub returns-then-is_inside : goal.returns-then-is_inside
-returns-then-is_inside c =
+pub returns-then-contains : goal.returns-then-contains
+returns-then-contains c =
     let a = c.args in
     record {
       long = c.append_public.ensures.long;
-      adds = λ d e s. subst (λ x. Adds symbol_layout (symbol_by (Inside a.at a.len a.own) x) a.m.now a.f
+      adds = λ d e s. subst (λ x. Adds symbol_layout (symbol_by (Inside a.window) x) a.m.now a.f
           c.append_public.new.m c.append_public.result)
           (ap (public_at a.library.now (id_of d)) c.place_at-place.ensures ∙ s) (c.append_public.ensures.adds (id_of d));
     }
@@ -32,5 +32,5 @@ returns-then-is_inside c =
 pub returns : goal.returns
 returns c =
     let a = c.args in
-    let left = ap (λ v. leb a.at v && ltb v (a.at + a.len)) (sym c.key_at.ensures) ∙ sym c.is_inside.ensures ∙ c.if-is_inside.false in
-    record { long = refl; adds = λ d e s. rw (not-inside a.at a.len a.own d e left) (adds_none symbol_layout a.m.now a.f) }
+    let left = ap (λ v. leb a.window.at v && ltb v (a.window.at + a.window.len)) (sym c.key_at.ensures) ∙ sym c.contains.ensures ∙ c.if-contains.false in
+    record { long = refl; adds = λ d e s. rw (not-inside a.window.at a.window.len a.window.own d e left) (adds_none symbol_layout a.m.now a.f) }
