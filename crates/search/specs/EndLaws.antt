@@ -1,5 +1,5 @@
 -- The three ends of the search: done, image too long, too few rows. Assumes nothing.
-use Rattle.std.specs.Prelude.{◌≡◌, ℕ, ◌*◌, ◌<◌, ◌≤◌, Bool, true, false, ◌||◌, List, length, ◌≢◌, nat_lt, refl, if◌then◌else◌}
+use Rattle.std.specs.Prelude.{◌≡◌, ℕ, ◌*◌, ◌<◌, ◌≤◌, Bool, true, false, ◌||◌, List, length, ◌≢◌, nat_lt, refl, if◌then◌else◌, Result, Ok, Err}
 use Rattle.std.proofs.Math.Path.{sym, ap}
 use Rattle.std.proofs.Common.{◌∙◌, arith, lt-ltb, le-ltb}
 use Rattle.std.proofs.lemmas.Bool.{false≢true}
@@ -13,8 +13,6 @@ use Rattle.search_rules.specs.declared.Asked.{Asked}
 use Rattle.search_rules.specs.Search.{Placing, Noting, placed, noted}
 use Rattle.search.specs.declared.visit.Fills.{Fills}
 use Rattle.search.specs.declared.SearchCounts.{SearchCounts}
-use Rattle.search.specs.declared.Searched.{Searched}
-use Rattle.search.specs.declared.Searched.TheVariants.{Done, Refused}
 use Rattle.search.specs.visit.Visits.{Stored, stored, segments_in}
 use Rattle.search.specs.Outcome.{SearchLists, SearchOutcome, too_few, refusal_of, search_zeroed, search_filled, search_outcome_of, searched, SearchFound}
 use Rattle.search.specs.Fills.{Fitted, Filled}
@@ -28,11 +26,11 @@ fitted-over {width} {count} {numbers} {before} f h = go f.over refl
     go false e = let r = h.room e in le-ltb (length before) (count * width) (omega (arith, r))
 
 -- a search that is refused is not done
-is_done : Searched → Bool
-is_done (Done rows) = true
-is_done (Refused r) = false
+is_done : Result SearchCounts Refusal → Bool
+is_done (Ok rows) = true
+is_done (Err r) = false
 
-refused-never : {r : Refusal} {rows : SearchCounts} → Refused r ≢ Done rows
+refused-never : {r : Refusal} {rows : SearchCounts} → Err r ≢ Ok rows
 unfolding is_done
 refused-never e = false≢true (ap is_done e)
 
@@ -44,7 +42,7 @@ module _ (cells : List ℕ) (a : Asked) (library : List ℕ) (n : ℕ) (l : Sear
   ns = noted library cells a (segments_in l.stored n)
 
   -- an image that is too long is refused, and nothing is written
-  pub long-found : (positions goals : List ℕ) → 65536 < length cells → SearchFound cells a library n l (record { answer = Refused ImageTooLong; left = l }) positions goals
+  pub long-found : (positions goals : List ℕ) → 65536 < length cells → SearchFound cells a library n l (record { answer = Err ImageTooLong; left = l }) positions goals
   unfolding searched refusal_of leading
   long-found positions goals h = record { same = rw (lt-ltb 65536 (length cells) h); sought = λ rows e. absurd (refused-never e) }
 
@@ -60,10 +58,10 @@ module _ (cells : List ℕ) (a : Asked) (library : List ℕ) (n : ℕ) (l : Sear
     refusal_is false e = rw (le-ltb 65536 (length cells) short, e)
 
     -- the rows are too many, and all that was lent is zero
-    pub lacks-found : out ≡ true → {left : SearchLists} → left ≡ search_zeroed l → SearchFound cells a library n l (record { answer = Refused TooFewRows; left = left }) positions' goals'
+    pub lacks-found : out ≡ true → {left : SearchLists} → left ≡ search_zeroed l → SearchFound cells a library n l (record { answer = Err TooFewRows; left = left }) positions' goals'
     unfolding searched
     lacks-found e {left} z = record {
-      same = ap (λ x. record { answer = Refused TooFewRows; left = x }) z ∙ sym (ap (λ x. search_outcome_of library x ps ns l) (refusal_is true (few-is ∙ e)));
+      same = ap (λ x. record { answer = Err TooFewRows; left = x }) z ∙ sym (ap (λ x. search_outcome_of library x ps ns l) (refusal_is true (few-is ∙ e)));
       sought = λ rows q. absurd (refused-never q);
     }
 
@@ -76,11 +74,11 @@ module _ (cells : List ℕ) (a : Asked) (library : List ℕ) (n : ℕ) (l : Sear
         go true q z = absurd (false≢true (sym z))
 
     equal : {t : Stored} {p p' q q' : List ℕ} {i i' j j' : ℕ} → i ≡ i' → j ≡ j' → p ≡ p' → q ≡ q'
-        → ◌≡◌ {A = SearchOutcome} (record { answer = Done (record { placed = i; noted = j }); left = record { stored = t; placed = p; noted = q } }) (record { answer = Done (record { placed = i'; noted = j' }); left = record { stored = t; placed = p'; noted = q' } })
+        → ◌≡◌ {A = SearchOutcome} (record { answer = Ok (record { placed = i; noted = j }); left = record { stored = t; placed = p; noted = q } }) (record { answer = Ok (record { placed = i'; noted = j' }); left = record { stored = t; placed = p'; noted = q' } })
     equal a b c d = rw (a, b, c, d) refl
 
     pub done-found : out ≡ false
-        → SearchFound cells a library n l (record { answer = Done (record { placed = f.placed.rows; noted = f.noted.rows }); left = record { stored = l.stored; placed = placed'; noted = noted' } }) positions' goals'
+        → SearchFound cells a library n l (record { answer = Ok (record { placed = f.placed.rows; noted = f.noted.rows }); left = record { stored = l.stored; placed = placed'; noted = noted' } }) positions' goals'
     unfolding searched search_filled
     done-found e =
         let p = r.places.fits (neither e).0 in

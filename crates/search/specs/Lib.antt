@@ -4,6 +4,7 @@ pub mod FillLaws
 pub mod Outcome
 pub mod EndLaws
 pub mod OneOutcome
+pub mod Store
 pub mod byte_index
 pub mod depth
 pub mod failed

@@ -1,5 +1,5 @@
 -- What the search comes to: the answer, and what is left in the lists that were lent to it.
-use Rattle.std.specs.Prelude.{◌≡◌, ℕ, Bool, ◌||◌, List, [], ◌∷◌, length, nat_lt, if◌then◌else◌}
+use Rattle.std.specs.Prelude.{◌≡◌, ℕ, Bool, ◌||◌, List, [], ◌∷◌, length, nat_lt, if◌then◌else◌, Result, Ok, Err}
 use Rattle.std.proofs.Math.Option.{Option, none, some}
 use Rattle.lent.specs.declared.refusal.Refusal.{Refusal}
 use Rattle.lent.specs.declared.refusal.Refusal.TheVariants.{ImageTooLong, TooFewRows}
@@ -11,8 +11,6 @@ use Rattle.search_rules.specs.declared.Asked.{Asked}
 use Rattle.search_rules.specs.Search.{Placing, Noting, placed, noted}
 use Rattle.search_rules.specs.SearchRows.{placed_width, noted_width, placed_numbers, noted_numbers}
 use Rattle.search.specs.declared.SearchCounts.{SearchCounts}
-use Rattle.search.specs.declared.Searched.{Searched}
-use Rattle.search.specs.declared.Searched.TheVariants.{Done, Refused}
 use Rattle.search.specs.visit.Visits.{Stored, segments_in}
 use Rattle.search.specs.Fills.{Sought}
 
@@ -24,7 +22,7 @@ pub record SearchLists : Type 0 where
 
 -- the answer, and the lent lists afterwards
 pub record SearchOutcome : Type 0 where
-  pub answer : Searched
+  pub answer : Result SearchCounts Refusal
   pub left : SearchLists
 
 -- refusal 9: there are more rows of placed symbols or noted names than were lent
@@ -59,8 +57,8 @@ search_filled library p n l = record {
 
 -- the outcome with a refusal or without: a refusal up to 8 writes nothing, 9 sets all lent lists to zero
 abbrev pub search_outcome_of : List ℕ → Option Refusal → List Placing → List Noting → SearchLists → SearchOutcome
-search_outcome_of library none p n l = record { answer = Done (record { placed = length p; noted = length n }); left = search_filled library p n l }
-search_outcome_of library (some r) p n l = record { answer = Refused r; left = if zeroes r then search_zeroed l else l }
+search_outcome_of library none p n l = record { answer = Ok (record { placed = length p; noted = length n }); left = search_filled library p n l }
+search_outcome_of library (some r) p n l = record { answer = Err r; left = if zeroes r then search_zeroed l else l }
 
 -- THE SEARCH of the view of an image for the first n segments that are stored
 unfoldable pub searched : List ℕ → Asked → List ℕ → ℕ → SearchLists → SearchOutcome
@@ -73,7 +71,7 @@ searched cells a library n l =
 -- a search that came to this outcome, and the heads that it left: where it is done they lead to its rows
 pub record SearchFound (cells : List ℕ) (a : Asked) (library : List ℕ) (n : ℕ) (l : SearchLists) (o : SearchOutcome) (positions goals : List ℕ) : Type 0 where
   pub same : o ≡ searched cells a library n l
-  pub sought : (rows : SearchCounts) → o.answer ≡ Done rows
+  pub sought : (rows : SearchCounts) → o.answer ≡ Ok rows
       → let gs = segments_in l.stored n in Sought library (placed library cells a gs) (noted library cells a gs) o.left.placed positions o.left.noted goals
 
 -- with heads that are blank before

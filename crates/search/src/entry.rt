@@ -5,10 +5,9 @@ ghost use Rattle.search.specs.visit.Visits.{stored};
 ghost use Rattle.search.specs.Outcome.{search_zeroed, Searches};
 
 use crate::fill::{fill_rows, lacks_room};
-use crate::{SearchCounts, Searched};
+use crate::{SearchCounts, StoredSegments, View};
 use image::LONGEST_IMAGE;
 use lent::refusal::Refusal;
-use lent::rows::{clear, clear_bytes};
 use search_rules::Asked;
 
 // Sets all seven lists that were lent, those of the collection and those of the search, to zero.
@@ -24,13 +23,13 @@ pub fn clear_all(
     ensures { record { stored = stored segments.new references.new symbols.new bytes.new masks.new; placed = placed.new; noted = noted.new }
         ≡ search_zeroed (record { stored = stored segments.old references.old symbols.old bytes.old masks.old; placed = placed.old; noted = noted.old }) }
 {
-    clear(segments);
-    clear(references);
-    clear(symbols);
-    clear_bytes(bytes);
-    clear_bytes(masks);
-    clear(placed);
-    clear(noted);
+    segments.fill(0);
+    references.fill(0);
+    symbols.fill(0);
+    bytes.fill(0);
+    masks.fill(0);
+    placed.fill(0);
+    noted.fill(0);
 }
 
 // Searches the image, of which the stretches `s` are withheld, for the first n segments in the five lists of the
@@ -52,26 +51,30 @@ pub fn search(
     noted: &mut [u64],
     positions: &mut [u32],
     goals: &mut [u32],
-) -> Searched
+) -> Result<SearchCounts, Refusal>
     ensures { Searches (view image.now (stretches_in s.now)) asked library.now n
         (record { stored = stored segments.old references.old symbols.old bytes.old masks.old; placed = placed.old; noted = noted.old }) positions.old goals.old
         (record { answer = result; left = record { stored = stored segments.new references.new symbols.new bytes.new masks.new; placed = placed.new; noted = noted.new } }) positions.new goals.new }
 {
     if LONGEST_IMAGE < image.len() {
-        return Searched::Refused(Refusal::ImageTooLong);
+        return Err(Refusal::ImageTooLong);
     }
-    let f = fill_rows(
-        image, s, asked, library, segments, n, references, symbols, bytes, masks, placed,
-        positions, noted, goals,
-    );
+    let view = View { image, s };
+    let store = StoredSegments {
+        segments,
+        n,
+        references,
+        symbols,
+        bytes,
+        masks,
+    };
+    let f = fill_rows(view, asked, library, store, placed, positions, noted, goals);
     if lacks_room(f) {
         clear_all(segments, references, symbols, bytes, masks, placed, noted);
-        return Searched::Refused(Refusal::TooFewRows);
+        return Err(Refusal::TooFewRows);
     }
-    let placings = f.placed;
-    let notings = f.noted;
-    Searched::Done(SearchCounts {
-        placed: placings.rows,
-        noted: notings.rows,
+    Ok(SearchCounts {
+        placed: f.placed.rows,
+        noted: f.noted.rows,
     })
 }

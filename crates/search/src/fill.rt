@@ -1,16 +1,16 @@
 // The rows of the search, filled with the help of tables that are made for it.
 ghost use Rattle.std.specs.Prelude.{◌≡◌, ◌≤◌, ◌||◌, length};
-ghost use Rattle.image.specs.View.{stretches_in, view};
-ghost use Rattle.search.specs.visit.Visits.{stored, ToldOf};
+ghost use Rattle.search.specs.Store.{seen, stored_in};
+ghost use Rattle.search.specs.visit.Visits.{ToldOf};
 ghost use Rattle.search.specs.Fills.{FillsRows};
 
 use crate::byte_index::index::index;
 use crate::visit::Fills;
 use crate::visit::all::search_all;
-use lent::rows::clear;
+use crate::{StoredSegments, View};
 use search_rules::Asked;
 use tables::fill::Fill;
-use tables::zeros::{byte_heads, few_answers, few_links, many_answers, place_links};
+use tables::zeros::{BYTE_HEADS, FEW_PLACES, PLACES, zeros};
 
 // An image of at most so many bytes is short.
 const SHORT_IMAGE: usize = 4096;
@@ -19,63 +19,46 @@ const SHORT_IMAGE: usize = 4096;
 pub fn lacks_room(f: Fills) -> bool
     ensures { result ≡ (f.placed.over || f.noted.over) }
 {
-    let placed = f.placed;
-    let noted = f.noted;
-    placed.over || noted.over
+    f.placed.over || f.noted.over
 }
 
-// Fills the rows of placed symbols and of noted names from all matches of the first n segments. The heads of both kinds
-// of rows, `positions` and `goals`, are to be blank. The image with the stretches `s`, what is asked, the library and the
-// five lists of the collection are only read. A short image takes small tables of links and of answers.
+// Fills the rows of placed symbols and of noted names from all matches of the segments. The heads of both kinds of rows,
+// `positions` and `goals`, are to be blank. A short image takes small tables of links and of answers.
 pub fn fill_rows(
-    image: &[u8],
-    s: &[u64],
+    view: View,
     asked: Asked,
     library: &[u8],
-    segments: &[u64],
-    n: usize,
-    references: &[u64],
-    symbols: &[u64],
-    bytes: &[u8],
-    masks: &[u8],
+    store: StoredSegments,
     placed: &mut [u64],
     positions: &mut [u32],
     noted: &mut [u64],
     goals: &mut [u32],
 ) -> Fills
-    requires { length image.now ≤ 65536 }
-    ensures { FillsRows (view image.now (stretches_in s.now)) asked library.now (stored segments.now references.now symbols.now bytes.now masks.now) n
+    requires { length view.image.now ≤ 65536 }
+    ensures { FillsRows (seen view.entry) asked library.now (stored_in store.entry) store.entry.n
         placed.old positions.old noted.old goals.old placed.new positions.new noted.new goals.new result }
 {
-    if image.len() <= SHORT_IMAGE {
-        let mut next = few_links();
-        let mut told = few_answers();
+    if view.image.len() <= SHORT_IMAGE {
+        let mut next: [u32; FEW_PLACES] = zeros();
+        let mut told: [u16; FEW_PLACES] = zeros();
         return fill_along(
-            image, s, asked, library, segments, n, references, symbols, bytes, masks, &mut next,
-            &mut told, placed, positions, noted, goals,
+            view, asked, library, store, &mut next, &mut told, placed, positions, noted, goals,
         );
     }
-    let mut next = place_links();
-    let mut told = many_answers();
+    let mut next: [u32; PLACES] = zeros();
+    let mut told: [u16; PLACES] = zeros();
     fill_along(
-        image, s, asked, library, segments, n, references, symbols, bytes, masks, &mut next,
-        &mut told, placed, positions, noted, goals,
+        view, asked, library, store, &mut next, &mut told, placed, positions, noted, goals,
     )
 }
 
 // The same with a table of links, `next`, and one of answers, `told`: makes the byte index of the image, and goes over the
 // segments.
 fn fill_along(
-    image: &[u8],
-    s: &[u64],
+    view: View,
     asked: Asked,
     library: &[u8],
-    segments: &[u64],
-    n: usize,
-    references: &[u64],
-    symbols: &[u64],
-    bytes: &[u8],
-    masks: &[u8],
+    store: StoredSegments,
     next: &mut [u32],
     told: &mut [u16],
     placed: &mut [u64],
@@ -83,42 +66,24 @@ fn fill_along(
     noted: &mut [u64],
     goals: &mut [u32],
 ) -> Fills
-    requires { (length image.now ≤ 65536) × (length image.now ≤ length next.old)
-        × ToldOf (view image.now (stretches_in s.now)) asked (stored segments.now references.now symbols.now bytes.now masks.now) n told.old }
-    ensures { FillsRows (view image.now (stretches_in s.now)) asked library.now (stored segments.now references.now symbols.now bytes.now masks.now) n
+    requires { (length view.image.now ≤ 65536) × (length view.image.now ≤ length next.old)
+        × ToldOf (seen view) asked (stored_in store) store.n told.old }
+    ensures { FillsRows (seen view.entry) asked library.now (stored_in store.entry) store.entry.n
         placed.old positions.old noted.old goals.old placed.new positions.new noted.new goals.new result }
 {
-    clear(placed);
-    clear(noted);
-    let mut first = byte_heads();
-    index(image, &mut first, next);
+    placed.fill(0);
+    noted.fill(0);
+    let mut first: [u32; BYTE_HEADS] = zeros();
+    index(view.image, &mut first, next);
+    let none = Fill {
+        rows: 0,
+        over: false,
+    };
+    let before = Fills {
+        placed: none,
+        noted: none,
+    };
     search_all(
-        image,
-        s,
-        asked,
-        library,
-        segments,
-        n,
-        references,
-        symbols,
-        bytes,
-        masks,
-        &first,
-        next,
-        told,
-        placed,
-        positions,
-        noted,
-        goals,
-        Fills {
-            placed: Fill {
-                rows: 0,
-                over: false,
-            },
-            noted: Fill {
-                rows: 0,
-                over: false,
-            },
-        },
+        view, asked, library, store, &first, next, told, placed, positions, noted, goals, before,
     )
 }

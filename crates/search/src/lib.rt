@@ -14,8 +14,6 @@ pub mod targets;
 pub mod told;
 pub mod visit;
 
-use lent::refusal::Refusal;
-
 // How many rows of placed symbols and of noted names were written.
 #[derive(Clone, Copy)]
 pub struct SearchCounts {
@@ -23,9 +21,21 @@ pub struct SearchCounts {
     pub noted: usize,
 }
 
-// What the search comes to: how many rows were written, or a refusal.
+// An image, and the stretches of it that are withheld: a start and a length each.
 #[derive(Clone, Copy)]
-pub enum Searched {
-    Done(SearchCounts),
-    Refused(Refusal),
+pub struct View<'a> {
+    pub image: &'a [u8],
+    pub s: &'a [u64],
+}
+
+// A collection as it is stored in lent memory: its first n segments, their references and symbols, and the bytes and masks
+// of their patterns.
+#[derive(Clone, Copy)]
+pub struct StoredSegments<'a> {
+    pub segments: &'a [u64],
+    pub n: usize,
+    pub references: &'a [u64],
+    pub symbols: &'a [u64],
+    pub bytes: &'a [u8],
+    pub masks: &'a [u8],
 }

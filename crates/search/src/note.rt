@@ -2,12 +2,12 @@
 pub mod name;
 pub mod refer;
 
-use search_rules::Failed;
+use search_rules::Failure;
 use tables::fill::Fill;
 
-// The first of the references that were gone over that fails, and how far the rows of noted names are filled after them.
+// Which of the references that were gone over fails first, if one does, and how far the rows of noted names are filled after them.
 #[derive(Clone, Copy)]
 pub struct Referred {
-    pub failed: Failed,
+    pub failed: Result<(), Failure>,
     pub fill: Fill,
 }

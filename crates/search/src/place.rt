@@ -1,29 +1,13 @@
 // The symbols of a match are placed in lent memory.
-ghost use Rattle.std.specs.Prelude.{◌≡◌, length};
-ghost use Rattle.tables.specs.fill.FilledRows.{one_more, put_more};
-ghost use Rattle.search_rules.specs.SearchRows.{placed_layout};
 ghost use Rattle.search.specs.place.PlacedSymbols.{PlacesOne, PlacesAll};
 
-use crate::rows::put_placed;
 use lent::part::Part;
 use search_rules::{PLACED_WIDTH, Placed};
 use segments::recalled::lies_within;
 use segments::rows::{SYMBOL_WIDTH, symbol_at};
 use segments::{SegmentNumber, Symbol};
 use tables::by_name::{KEYS, bucket, find, head_at, set_heads};
-use tables::fill::{Fill, one_more};
-
-// Puts one more row of a placed symbol behind the rows before it, if there is room.
-fn append_placed(m: &mut [u64], f: Fill, row: Placed) -> Fill
-    ensures { (m.new ≡ put_more placed_layout f row m.old) × (result ≡ one_more f 8 (length m.old)) }
-{
-    let next = one_more(f, PLACED_WIDTH, m.len());
-    if next.over {
-        return next;
-    }
-    put_placed(m, f.rows, row);
-    next
-}
+use tables::fill::{Fill, append};
 
 // Places the symbol `y` of a match of segment `number` at `base`, in an image of `end` bytes. A symbol at the image's
 // end or past it is omitted, and so is a symbol whose name is placed at that position already. `heads` has the heads of
@@ -41,13 +25,7 @@ pub fn place_symbol(
 ) -> Fill
     ensures { PlacesOne library.now end number base valid y placed.old heads.old f placed.new heads.new result }
 {
-    if f.over {
-        return f;
-    }
-    if end <= base {
-        return f;
-    }
-    if end - base <= y.offset {
+    if f.over || end <= base || end - base <= y.offset {
         return f;
     }
     let position = base + y.offset;
@@ -59,7 +37,7 @@ pub fn place_symbol(
         return f;
     }
     let link = head_at(heads, position % KEYS);
-    let more = append_placed(
+    let more = append(
         placed,
         f,
         Placed {
@@ -95,16 +73,12 @@ pub fn place_symbols(
     ensures { PlacesAll library.now end number base valid symbols.now part placed.old heads.old before placed.new heads.new result }
 {
     let mut f = before;
-    let at = part.at;
-    let len = part.len;
     if !lies_within(part, symbols.len() / SYMBOL_WIDTH) {
         return f;
     }
-    let mut k = 0;
-    while k < len {
-        let y = symbol_at(symbols, at + k);
+    for k in 0..part.len {
+        let y = symbol_at(symbols, part.at + k);
         f = place_symbol(library, end, number, base, valid, y, placed, heads, f);
-        k += 1;
     }
     f
 }

@@ -3,8 +3,10 @@ ghost use Rattle.std.specs.Prelude.{◌≡◌, ◌+◌, not, length, ◌==◌, n
 ghost use Rattle.lent.specs.Lists.{keep};
 ghost use Rattle.image.specs.View.{stretches_in, view};
 ghost use Rattle.image.specs.fixup.Target.{target};
+ghost use Rattle.search.specs.Store.{seen, stored_in};
 ghost use Rattle.search.specs.targets.Seats.{may_stand, IsMatch};
 
+use crate::{StoredSegments, View};
 use image::fixup::{Rules, Target, find_target};
 use image::{Seat, match_at};
 use lent::names::name;
@@ -16,15 +18,10 @@ use segments::{Reference, SegmentNumber};
 pub fn target_of(image: &[u8], s: &[u64], rules: Rules, position: usize, r: Reference) -> Target
     ensures { result ≡ target (view image.now (stretches_in s.now)) rules (position + r.place) r.kind r.offset }
 {
-    let place = r.place;
-    let kind = r.kind;
-    if image.len() < position {
+    if image.len() < position || image.len() - position < r.place {
         return Target::PastEnd;
     }
-    if image.len() - position < place {
-        return Target::PastEnd;
-    }
-    find_target(image, s, rules, position + place, kind, r.offset as u64)
+    find_target(image, s, rules, position + r.place, r.kind, r.offset as u64)
 }
 
 // Whether a pattern may stand at a place at all.
@@ -39,50 +36,26 @@ fn may_stand(seat: Seat, at: usize) -> bool
 
 // Whether the segment of a number matches at a place: the pattern is compared there, and no table of matches is kept. A
 // number that is not below n has no segment, and so no match.
-pub fn is_match(
-    image: &[u8],
-    s: &[u64],
-    segments: &[u64],
-    n: usize,
-    bytes: &[u8],
-    masks: &[u8],
-    number: SegmentNumber,
-    at: u64,
-) -> bool
-    ensures { IsMatch (view image.now (stretches_in s.now)) segments.now n bytes.now masks.now number at result }
+pub fn is_match(view: View, store: StoredSegments, number: SegmentNumber, at: u64) -> bool
+    ensures { IsMatch (seen view.entry) (stored_in store.entry) store.entry.n number at result }
 {
-    let i = number.0;
-    if n <= i {
+    if store.n <= number.0 {
         return false;
     }
-    let row = segment_at(segments, i);
-    let seat = row.seat;
-    if !may_stand(seat, at as usize) {
-        return false;
-    }
-    match_at(
-        image,
-        s,
-        name(bytes, row.pattern),
-        name(masks, row.pattern),
-        at as usize,
-    )
+    let row = segment_at(store.segments, number.0);
+    may_stand(row.seat, at as usize)
+        && match_at(
+            view.image,
+            view.s,
+            name(store.bytes, row.pattern),
+            name(store.masks, row.pattern),
+            at as usize,
+        )
 }
 
 // Whether at least so many masks are not 0.
 pub fn reaches(masks: &[u8], least: usize) -> bool
     ensures { result ≡ nat_le least (length (keep (λ mask. not (mask == 0)) masks.now)) }
 {
-    let mut left = least;
-    let mut i = 0;
-    while i < masks.len() {
-        if left == 0 {
-            return true;
-        }
-        if masks[i] != 0 {
-            left -= 1;
-        }
-        i += 1;
-    }
-    left == 0
+    masks.iter().filter(|mask| **mask != 0).take(least).count() == least
 }

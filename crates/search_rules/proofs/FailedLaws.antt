@@ -1,7 +1,7 @@
 -- The first reference of a match that fails: a match holds exactly if none does, and the one that is told fails, for the
 -- reason that is told, while those before it do not. Assumes nothing.
 use Prim.Native.Nat.{ℕ, zero, suc, ◌+◌, ◌<◌}
-use Rattle.std.specs.Prelude.{◌≡◌, Bool, true, false, ◌&&◌, if◌then◌else◌}
+use Rattle.std.specs.Prelude.{◌≡◌, Ok, Err, is_ok, Bool, true, false, ◌&&◌, if◌then◌else◌}
 use Rattle.std.proofs.Math.Path.{refl, ap}
 use Rattle.std.proofs.Common.{sym, ◌∙◌, arith}
 use mathlib.Core.List.{List, [], ◌∷◌}
@@ -16,8 +16,7 @@ use Rattle.segments.specs.declared.Goal.{Goal}
 use Rattle.segments.specs.declared.Reference.{Reference}
 use Rattle.segments.specs.Collect.{Collected}
 use Rattle.search_rules.specs.declared.Why.{Why}
-use Rattle.search_rules.specs.declared.Failed.{Failed}
-use Rattle.search_rules.specs.Search.{positions_of, leads, segment_of, holds_at, holds_to, failure, is_nothing, failed, failed_from, failed_to}
+use Rattle.search_rules.specs.Search.{Checked, failing, positions_of, leads, segment_of, holds_at, holds_to, failure, failed, failed_from, failed_to}
 
 -- no reason is told
 abbrev is_none : Option Why → Bool
@@ -39,19 +38,19 @@ module _ (cells : List ℕ) (segments : List Collected) (below : Collected → �
 
 -- of a list: all hold exactly if none is told
 all-unless : (p : Reference → Bool) (why : Reference → Option Why) → ((r : Reference) → p r ≡ is_none (why r)) → (k : ℕ) (rs : List Reference)
-    → all p rs ≡ is_nothing (failed_from why k rs)
+    → all p rs ≡ is_ok (failed_from why k rs)
 unfolding all failed_from
 all-unless p why e k [] = refl
 all-unless p why e k (r ∷ rest) = ap (λ t. t && all p rest) (e r) ∙ go (why r) (all-unless p why e (k + 1) rest)
   where
-    go : (o : Option Why) → all p rest ≡ is_nothing (failed_from why (k + 1) rest)
-        → (is_none o && all p rest) ≡ is_nothing (failed k o (failed_from why (k + 1) rest))
+    go : (o : Option Why) → all p rest ≡ is_ok (failed_from why (k + 1) rest)
+        → (is_none o && all p rest) ≡ is_ok (failed k o (failed_from why (k + 1) rest))
     go none h = h
     go (some w) h = refl
 
 -- A MATCH HOLDS to a depth exactly if no reference of it fails there
 pub holds-exactly : (cells : List ℕ) (rules : Rules) (segments : List Collected) (d : ℕ) (g : Collected) (position : ℕ)
-    → holds_to cells rules segments d g position ≡ is_nothing (failed_to cells rules segments d g position)
+    → holds_to cells rules segments d g position ≡ is_ok (failed_to cells rules segments d g position)
 unfolding holds_to failed_to
 holds-exactly cells rules segments zero g position = refl
 holds-exactly cells rules segments (suc d) g position =
@@ -66,22 +65,22 @@ pub record FailsFirst (why : Reference → Option Why) (rs : List Reference) (i 
   pub earlier : (j : ℕ) (r : Reference) → j < i → get_elem? rs j ≡ some r → why r ≡ none
 
 module _ (why : Reference → Option Why) where
-  abbrev number_in : Failed → ℕ
-  number_in Failed.Nothing = 0
-  number_in (Failed.Reference number w) = number
+  abbrev number_in : Checked → ℕ
+  number_in (Ok u) = 0
+  number_in (Err f) = f.number
 
-  abbrev reason_in : Failed → Option Why
-  reason_in Failed.Nothing = none
-  reason_in (Failed.Reference number w) = some w
+  abbrev reason_in : Checked → Option Why
+  reason_in (Ok u) = none
+  reason_in (Err f) = some f.why
 
-  first-at : (k : ℕ) (rs : List Reference) (number : ℕ) (w : Why) → failed_from why k rs ≡ Failed.Reference number w
+  first-at : (k : ℕ) (rs : List Reference) (number : ℕ) (w : Why) → failed_from why k rs ≡ failing number w
       → (i : ℕ) × (number ≡ k + i) × FailsFirst why rs i w
   unfolding failed_from
   first-at k [] number w e = absurd (none≢some (ap reason_in e))
   first-at k (r ∷ rest) number w e = go (why r) refl (λ h. first-at (k + 1) rest number w h) e
     where
-      go : (o : Option Why) → why r ≡ o → (failed_from why (k + 1) rest ≡ Failed.Reference number w → (i : ℕ) × (number ≡ k + 1 + i) × FailsFirst why rest i w)
-          → failed k o (failed_from why (k + 1) rest) ≡ Failed.Reference number w → (i : ℕ) × (number ≡ k + i) × FailsFirst why (r ∷ rest) i w
+      go : (o : Option Why) → why r ≡ o → (failed_from why (k + 1) rest ≡ failing number w → (i : ℕ) × (number ≡ k + 1 + i) × FailsFirst why rest i w)
+          → failed k o (failed_from why (k + 1) rest) ≡ failing number w → (i : ℕ) × (number ≡ k + i) × FailsFirst why (r ∷ rest) i w
       go (some v) q on h =
           let same : k ≡ number = ap number_in h in (
             0,
@@ -112,7 +111,7 @@ module _ (why : Reference → Option Why) where
 
 -- THE FIRST THAT FAILS is the one that is told, with its reason; at depth 0 none is told
 pub first-fails : (cells : List ℕ) (rules : Rules) (segments : List Collected) (d : ℕ) (g : Collected) (position number : ℕ) (w : Why)
-    → failed_to cells rules segments (suc d) g position ≡ Failed.Reference number w
+    → failed_to cells rules segments (suc d) g position ≡ failing number w
     → FailsFirst (λ r. failure cells segments (λ h at. holds_to cells rules segments d h at) r.goal (leads cells rules position r)) g.references number w
 unfolding failed_to
 first-fails cells rules segments d g position number w e =

@@ -1,5 +1,5 @@
 -- The matches of all segments, the symbols that they place, and the names that their references note.
-use Rattle.std.specs.Prelude.{ℕ, zero, suc, ◌+◌, Bool, true, false, not, ◌&&◌, ◌||◌, List, [], ◌∷◌, ◌++◌, map, eqb, leb, length, get_or, if◌then◌else◌}
+use Rattle.std.specs.Prelude.{ℕ, zero, suc, ◌+◌, Bool, true, false, not, ◌&&◌, ◌||◌, List, [], ◌∷◌, ◌++◌, map, eqb, leb, length, get_or, if◌then◌else◌, Result, Ok, Err}
 use Rattle.std.proofs.Math.Option.{Option, none, some}
 use Rattle.lent.specs.declared.part.Part.{Part}
 use Rattle.lent.specs.Lists.{one, keep, joined, fold, any, all, is_in, numbered}
@@ -17,7 +17,7 @@ use Rattle.segments.specs.declared.Symbol.{Symbol}
 use Rattle.segments.specs.Collect.{Collected}
 use Rattle.search_rules.specs.declared.Asked.{Asked}
 use Rattle.search_rules.specs.declared.Why.{Why}
-use Rattle.search_rules.specs.declared.Failed.{Failed}
+use Rattle.search_rules.specs.declared.Failure.{Failure}
 
 -- a match: a segment with its number, and the position at which it matches
 pub record Match : Type 0 where
@@ -103,28 +103,31 @@ failure cells segments below (Goal.Segment number) (At t) =
     if is_in (positions_of cells segments number) t then (if below (segment_of segments number) t then none else some Why.NotHeld) else some Why.NoMatch
 failure cells segments below (Goal.Name name) (At t) = none
 
--- no reference failed
-abbrev pub is_nothing : Failed → Bool
-is_nothing Failed.Nothing = true
-is_nothing (Failed.Reference number why) = false
+-- the references of a match hold, or this is the first that fails
+abbrev pub Checked : Type 0
+Checked = Result Unit Failure
+
+-- reference number k fails for this reason
+abbrev pub failing : ℕ → Why → Checked
+failing k why = Err (record { number = k; why = why })
 
 -- the first of some references that fails, in their order, which are numbered from k on
-abbrev pub failed : ℕ → Option Why → Failed → Failed
+abbrev pub failed : ℕ → Option Why → Checked → Checked
 failed k none later = later
-failed k (some why) later = Failed.Reference k why
+failed k (some why) later = failing k why
 
-unfoldable pub failed_from : (Reference → Option Why) → ℕ → List Reference → Failed
-failed_from why k [] = Failed.Nothing
+unfoldable pub failed_from : (Reference → Option Why) → ℕ → List Reference → Checked
+failed_from why k [] = Ok tt
 failed_from why k (r ∷ rest) = failed k (why r) (failed_from why (k + 1) rest)
 
 -- the first reference of a match, in file order, that fails at a depth, and why; at depth 0 none does
-unfoldable pub failed_to : List ℕ → Rules → List Collected → ℕ → Collected → ℕ → Failed
-failed_to cells rules segments zero g position = Failed.Nothing
+unfoldable pub failed_to : List ℕ → Rules → List Collected → ℕ → Collected → ℕ → Checked
+failed_to cells rules segments zero g position = Ok tt
 failed_to cells rules segments (suc d) g position =
     failed_from (λ r. failure cells segments (λ h at. holds_to cells rules segments d h at) r.goal (leads cells rules position r)) 0 g.references
 
 -- the first that fails at the depth that is asked
-abbrev pub first_failed : List ℕ → Asked → List Collected → Match → Failed
+abbrev pub first_failed : List ℕ → Asked → List Collected → Match → Checked
 first_failed cells a segments m = failed_to cells a.rules segments a.depth m.segment m.position
 
 -- what a reference notes: nothing without a target, or if its goal is a segment; else the name at the target

@@ -1,6 +1,8 @@
 // The rules of the search: what is asked of it, and the symbols that it places and the names that it notes, as rows.
 #![tactic(auto)]
 
+pub mod put;
+
 use image::fixup::Rules;
 use lent::part::Part;
 use segments::SegmentNumber;
@@ -16,7 +18,7 @@ pub struct Asked {
 
 // Why a reference of a match fails at a depth: its bytes pass the image's end; one of them is withheld; the segment to which
 // it refers does not match at its target; or it does, and that match does not hold at one depth less.
-#[derive(Clone, Copy)]
+#[derive(Clone, Copy, Debug, PartialEq, Eq)]
 pub enum Why {
     PastEnd,
     Withheld,
@@ -24,11 +26,11 @@ pub enum Why {
     NotHeld,
 }
 
-// The first reference of a match that fails, by its number among the references of the match, from 0 on; or none does.
-#[derive(Clone, Copy)]
-pub enum Failed {
-    Nothing,
-    Reference { number: usize, why: Why },
+// A reference of a match that fails, by its number among the references of the match, from 0 on.
+#[derive(Clone, Copy, Debug, PartialEq, Eq)]
+pub struct Failure {
+    pub number: usize,
+    pub why: Why,
 }
 
 // How many numbers the row of a placed symbol has.

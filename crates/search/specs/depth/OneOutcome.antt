@@ -9,10 +9,11 @@ use Rattle.segments.specs.SegmentLayouts.{reference_layout}
 use Rattle.segments.specs.recalled.Recall.{rows_of}
 use Rattle.segments.specs.Collect.{Collected}
 use Rattle.search.specs.depth.Depths.{FailsTo}
+use Rattle.search.specs.Store.{Stored}
 
-pub first-failed-one : (cells : List ℕ) (rules : Rules) (segments : List ℕ) (n : ℕ) (references bytes masks : List ℕ) (depth position : ℕ) (part : Part)
-    → Determines (FailsTo cells rules segments n references bytes masks depth position part)
-first-failed-one cells rules segments n references bytes masks depth position part a b p q = p [] some refl ∙ sym (q [] some refl)
+pub first-failed-one : (cells : List ℕ) (rules : Rules) (store : Stored) (n : ℕ) (depth position : ℕ) (part : Part)
+    → Determines (FailsTo cells rules store n depth position part)
+first-failed-one cells rules store n depth position part a b p q = p [] some refl ∙ sym (q [] some refl)
   where
     some : Collected
-    some = record { seat = Anywhere; bytes = []; masks = []; references = rows_of reference_layout references part; symbols = [] }
+    some = record { seat = Anywhere; bytes = []; masks = []; references = rows_of reference_layout store.references part; symbols = [] }

@@ -1,6 +1,6 @@
 -- A table of answers that tells the truth: one of zeros does, what it says is so, and one more true answer keeps it true.
 -- Assumes nothing.
-use Rattle.std.specs.Prelude.{◌≡◌, ℕ, ◌/◌, ◌%◌, ◌<◌, ◌≤◌, Bool, true, false, List, ◌==◌, slice_index, slice_index_or, refl, if◌then◌else◌}
+use Rattle.std.specs.Prelude.{◌≡◌, ℕ, ◌/◌, ◌%◌, ◌<◌, ◌≤◌, Bool, true, false, List, ◌==◌, slice_index, slice_index_or, refl, Some}
 use Rattle.std.proofs.Common.{sym, ap, ◌∙◌, arith}
 use Rattle.std.proofs.lemmas.Bool.{false≢true}
 use Rattle.tables.specs.zeros.Zeros.{zero_list}
@@ -10,10 +10,10 @@ use Rattle.segments.specs.declared.SegmentNumber.{SegmentNumber}
 use Rattle.segments.specs.Collect.{Collected}
 use Rattle.search_rules.specs.Search.{segment_of, holds_to}
 use Rattle.search_rules.proofs.DepthLaws.{holds-every-less}
-use Rattle.search.specs.declared.told.Recalled.TheVariants as Recalled
 use Rattle.search.specs.told.Answers.{answer_of, recall_of, remembered}
 use Rattle.search.specs.told.AnswerLaws.{its-number, its-depth, its-answer, Of, recalled-answer, after_one}
 use Rattle.search.specs.depth.Depths.{among, Tells, Told, HoldsSo}
+use Rattle.search.specs.Store.{Stored}
 
 -- what holds at a depth holds at a smaller one, and what fails fails at a greater one
 settled : (cells : List ℕ) (rules : Rules) (gs : List Collected) (g : Collected) (at known depth : ℕ) (holds : Bool) → (holds ≡ true → depth ≤ known) → (holds ≡ false → known ≤ depth)
@@ -25,18 +25,18 @@ settled cells rules gs g at known depth false less more e = go (holds_to cells r
     go true q = absurd (false≢true (sym e ∙ holds-every-less cells rules gs depth known (more refl) g at q))
     go false q = sym q
 
-module _ (cells : List ℕ) (rules : Rules) (segments : List ℕ) (n : ℕ) (references bytes masks : List ℕ) where
+module _ (cells : List ℕ) (rules : Rules) (store : Stored) (n : ℕ) where
   abbrev In : List ℕ → List Collected
-  In symbols = among cells rules segments n references bytes masks symbols
+  In symbols = among cells rules store n symbols
 
-  pub blank-told : (k : ℕ) (m : List ℕ) → m ≡ zero_list k → Told cells rules segments n references bytes masks m
+  pub blank-told : (k : ℕ) (m : List ℕ) → m ≡ zero_list k → Told cells rules store n m
   blank-told k m e i symbols h =
       let zero : slice_index_or m i 0 ≡ 0 = ap (λ xs. slice_index xs i) e ∙ zero-at k i in
       absurd (omega (arith, h, zero))
 
   -- what an answer says to a question is so
-  pub recalled-holds : (m : List ℕ) → Told cells rules segments n references bytes masks m → (number : SegmentNumber) (at depth : ℕ) (holds : Bool)
-      → recall_of (slice_index m at) number.0 depth ≡ (if holds then Recalled.Holds else Recalled.Fails) → HoldsSo cells rules segments n references bytes masks depth number at holds
+  pub recalled-holds : (m : List ℕ) → Told cells rules store n m → (number : SegmentNumber) (at depth : ℕ) (holds : Bool)
+      → recall_of (slice_index m at) number.0 depth ≡ Some holds → HoldsSo cells rules store n depth number at holds
   recalled-holds m t number at depth holds e symbols = go (slice_index m at) (recalled-answer (slice_index m at) number.0 depth holds e) (t at symbols)
     where
       go : (answer : ℕ) → Of answer number.0 depth holds
@@ -47,11 +47,11 @@ module _ (cells : List ℕ) (rules : Rules) (segments : List ℕ) (n : ℕ) (ref
           (ap (λ k. holds_to cells rules (In symbols) (answer / 2 % 4) (segment_of (In symbols) (record { 0 = k })) at) (sym o.number_is) ∙ h o.some ∙ o.says)
 
   -- and one more answer that is so
-  pub put-told : (m : List ℕ) → Told cells rules segments n references bytes masks m → (number : SegmentNumber) (at depth : ℕ) (holds : Bool)
-      → HoldsSo cells rules segments n references bytes masks depth number at holds → Told cells rules segments n references bytes masks (remembered m number.0 at depth holds)
-  put-told m t number at depth holds so = after_one m number.0 at depth holds (Tells cells rules segments n references bytes masks) own t
+  pub put-told : (m : List ℕ) → Told cells rules store n m → (number : SegmentNumber) (at depth : ℕ) (holds : Bool)
+      → HoldsSo cells rules store n depth number at holds → Told cells rules store n (remembered m number.0 at depth holds)
+  put-told m t number at depth holds so = after_one m number.0 at depth holds (Tells cells rules store n) own t
     where
-      own : depth < 4 → Tells cells rules segments n references bytes masks at (answer_of number.0 depth holds)
+      own : depth < 4 → Tells cells rules store n at (answer_of number.0 depth holds)
       own l symbols some =
           ap (λ d. holds_to cells rules (In symbols) d (segment_of (In symbols) (record { 0 = answer_of number.0 depth holds / 8 })) at) (its-depth number.0 depth holds l)
           ∙ ap (λ k. holds_to cells rules (In symbols) depth (segment_of (In symbols) (record { 0 = k })) at) (its-number number.0 depth holds l)

@@ -1,5 +1,5 @@
 -- Where the search for a pattern stands: which matches are left, and which links lead to them.
-use Rattle.std.specs.Prelude.{◌≡◌, ℕ, ◌-◌, ◌<◌, true, List, [], ◌∷◌, length, ◌==◌, ◌≢◌, slice_index, if◌then◌else◌}
+use Rattle.std.specs.Prelude.{◌≡◌, ℕ, ◌-◌, ◌<◌, true, List, [], ◌∷◌, length, ◌==◌, ◌≢◌, slice_index, if◌then◌else◌, Option, Some, None}
 use Rattle.lent.specs.Lists.{one, keep}
 use Rattle.image.specs.declared.Seat.{Seat}
 use Rattle.image.specs.declared.Stretch.{Stretch}
@@ -9,7 +9,6 @@ use Rattle.image.specs.Next.{matches_from}
 use Rattle.search.specs.declared.matches.MatchCursor.{MatchCursor}
 use Rattle.search.specs.declared.matches.MatchCursor.TheVariants.{Along, Plain, Once, Over}
 use Rattle.search.specs.declared.matches.Next.{Next}
-use Rattle.search.specs.declared.matches.Next.TheVariants.{At, Done}
 use Rattle.search.specs.byte_index.Index.{Nexts}
 use Rattle.search.specs.byte_index.Anchor.{Anchor}
 
@@ -59,6 +58,6 @@ pub record Reached (image : List ℕ) (s : List Stretch) (bytes masks : List ℕ
   pub matched : matches_at (view image s) bytes masks at ≡ true
   pub sound : Sound image bytes masks rest
 
-abbrev pub Stepped : List ℕ → List Stretch → List ℕ → List ℕ → MatchCursor → Next → Type 0
-Stepped image s bytes masks c (At at rest) = Reached image s bytes masks c at rest
-Stepped image s bytes masks c Done = places_left (view image s) bytes masks c ≡ []
+abbrev pub Stepped : List ℕ → List Stretch → List ℕ → List ℕ → MatchCursor → Option Next → Type 0
+Stepped image s bytes masks c (Some m) = Reached image s bytes masks c m.at m.rest
+Stepped image s bytes masks c None = places_left (view image s) bytes masks c ≡ []

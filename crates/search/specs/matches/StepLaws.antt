@@ -4,8 +4,8 @@ use Rattle.std.proofs.Math.Path.{refl}
 use Rattle.std.proofs.Common.{sym, ap, subst, ◌∙◌, arith, eq-eqb, ne_eqb}
 use Rattle.std.proofs.lemmas.Bool.{eqb-false}
 use Rattle.lent.specs.Lists.{keep}
-use Rattle.image.specs.declared.FirstPlace.{FirstPlace}
-use Rattle.image.specs.declared.FirstPlace.TheVariants.{At as FoundAt, Nothing}
+use Rattle.std.specs.declared.option.Option.{Option}
+use Rattle.std.specs.declared.option.Option.TheVariants.{Some, None}
 use Rattle.image.specs.declared.Seat.TheVariants.{Anywhere, Only}
 use Rattle.image.specs.declared.Stretch.{Stretch}
 use Rattle.image.specs.View.{view}
@@ -18,7 +18,6 @@ use Rattle.tables.specs.links.Index.{link_from}
 use Rattle.search.specs.declared.matches.MatchCursor.{MatchCursor}
 use Rattle.search.specs.declared.matches.MatchCursor.TheVariants.{Along, Plain, Once, Over}
 use Rattle.search.specs.declared.matches.Next.{Next}
-use Rattle.search.specs.declared.matches.Next.TheVariants.{At, Done}
 use Rattle.search.specs.byte_index.Index.{Heads, Nexts}
 use Rattle.search.specs.byte_index.Anchor.{Anchor}
 use Rattle.search.specs.matches.Cursor.{left_along, places_left, SoundAlong, Started, Reached, Stepped}
@@ -116,13 +115,13 @@ module _ (image : List ℕ) (s : List Stretch) (bytes masks next : List ℕ) (an
 
 -- a step that tries each place: the next match is the first of those left
 module _ (cells bytes masks : List ℕ) where
-  abbrev Listed : ℕ → FirstPlace → Type 0
-  Listed from (FoundAt at) = (matches_from cells bytes masks from ≡ at ∷ matches_from cells bytes masks (at + 1)) × (matches_at cells bytes masks at ≡ true)
-  Listed from Nothing = matches_from cells bytes masks from ≡ []
+  abbrev Listed : ℕ → Option ℕ → Type 0
+  Listed from (Some at) = (matches_from cells bytes masks from ≡ at ∷ matches_from cells bytes masks (at + 1)) × (matches_at cells bytes masks at ≡ true)
+  Listed from None = matches_from cells bytes masks from ≡ []
 
-  listed-on : (from : ℕ) (f : FirstPlace) → matches_from cells bytes masks from ≡ matches_from cells bytes masks (from + 1) → Listed (from + 1) f → Listed from f
-  listed-on from (FoundAt at) e l = (e ∙ l.0, l.1)
-  listed-on from Nothing e l = e ∙ l
+  listed-on : (from : ℕ) (f : Option ℕ) → matches_from cells bytes masks from ≡ matches_from cells bytes masks (from + 1) → Listed (from + 1) f → Listed from f
+  listed-on from (Some at) e l = (e ∙ l.0, l.1)
+  listed-on from None e l = e ∙ l
 
   listed-from : (n from : ℕ) → length cells + 1 - from ≡ n → Listed from (next_match cells bytes masks from)
   listed-from zero from e = rw (next_past cells bytes masks from (omega arith)) (from_past cells bytes masks from (omega arith))
@@ -134,14 +133,14 @@ module _ (cells bytes masks : List ℕ) where
           rw (next-other cells bytes masks from (omega arith) q)
           (listed-on from (next_match cells bytes masks (from + 1)) (from-other cells bytes masks from (omega arith) q) rest)
 
-  listed : (from : ℕ) {f : FirstPlace} → next_match cells bytes masks from ≡ f → Listed from f
+  listed : (from : ℕ) {f : Option ℕ} → next_match cells bytes masks from ≡ f → Listed from f
   listed from e = subst (Listed from) e (listed-from (length cells + 1 - from) from refl)
 
 module _ (image : List ℕ) (s : List Stretch) (bytes masks : List ℕ) where
-  pub plain_at : (from at : ℕ) → next_match (view image s) bytes masks from ≡ FoundAt at → Reached image s bytes masks (Plain from) at (Plain (at + 1))
+  pub plain_at : (from at : ℕ) → next_match (view image s) bytes masks from ≡ Some at → Reached image s bytes masks (Plain from) at (Plain (at + 1))
   plain_at from at e = let l = listed (view image s) bytes masks from e in record { places = l.0; matched = l.1; sound = tt }
 
-  pub plain_done : (from : ℕ) → next_match (view image s) bytes masks from ≡ Nothing → places_left (view image s) bytes masks (Plain from) ≡ []
+  pub plain_done : (from : ℕ) → next_match (view image s) bytes masks from ≡ None → places_left (view image s) bytes masks (Plain from) ≡ []
   plain_done from e = listed (view image s) bytes masks from e
 
   -- the one place
@@ -155,10 +154,10 @@ module _ (image : List ℕ) (s : List Stretch) (bytes masks : List ℕ) where
 
   -- for whoever goes over the matches: what a step has reached, that fewer are left after it, and where it ends
   module _ (c : MatchCursor) where
-    pub stepped-at : {r : Next} {at : ℕ} {rest : MatchCursor} → r ≡ At at rest → Stepped image s bytes masks c r → Reached image s bytes masks c at rest
+    pub stepped-at : {r : Option Next} {m : Next} → r ≡ Some m → Stepped image s bytes masks c r → Reached image s bytes masks c m.at m.rest
     stepped-at e p = subst (Stepped image s bytes masks c) e p
 
-    pub stepped-done : {r : Next} → r ≡ Done → Stepped image s bytes masks c r → places_left (view image s) bytes masks c ≡ []
+    pub stepped-done : {r : Option Next} → r ≡ None → Stepped image s bytes masks c r → places_left (view image s) bytes masks c ≡ []
     stepped-done e p = subst (Stepped image s bytes masks c) e p
 
     module _ {at : ℕ} {rest : MatchCursor} (p : Reached image s bytes masks c at rest) where

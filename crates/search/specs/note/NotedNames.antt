@@ -15,6 +15,7 @@ use Rattle.search_rules.specs.Search.{Noting, leads, note_at, note}
 use Rattle.search_rules.specs.SearchRows.{noted_sheet}
 use Rattle.search.specs.failed.Failures.{FirstAmong}
 use Rattle.search.specs.declared.note.Referred.{Referred}
+use Rattle.search.specs.Store.{Stored}
 
 -- a noted row that is valid now
 abbrev pub validated : Noted → Noted
@@ -36,11 +37,11 @@ abbrev pub notes_of : List ℕ → Rules → ℕ → Bool → Reference → List
 notes_of cells rules position valid r = note_at valid r.goal (leads cells rules position r)
 
 -- references are gone over: the names are noted, and the answer is the first that fails among the segments that are stored
-pub record Refers (cells : List ℕ) (rules : Rules) (position : ℕ) (valid : Bool) (library segments : List ℕ) (n : ℕ) (bytes masks : List ℕ) (rs : List Reference)
+pub record Refers (cells : List ℕ) (rules : Rules) (position : ℕ) (valid : Bool) (library : List ℕ) (store : Stored) (n : ℕ) (rs : List Reference)
     (m heads : List ℕ) (f : Fill) (m' heads' : List ℕ) (r : Referred) : Type 0 where
   pub notes : Notes library (joined (notes_of cells rules position valid) rs) m heads f m' heads' r.fill
-  pub fails : FirstAmong cells rules position segments n bytes masks rs r.failed
+  pub fails : FirstAmong cells rules position store n rs r.failed
 
-abbrev pub RefersAll : List ℕ → Rules → ℕ → Bool → List ℕ → List ℕ → ℕ → List ℕ → Part → List ℕ → List ℕ → List ℕ → List ℕ → Fill → List ℕ → List ℕ → Referred → Type 0
-RefersAll cells rules position valid library segments n references part bytes masks =
-    Refers cells rules position valid library segments n bytes masks (rows_of reference_layout references part)
+abbrev pub RefersAll : List ℕ → Rules → ℕ → Bool → List ℕ → Stored → ℕ → Part → List ℕ → List ℕ → Fill → List ℕ → List ℕ → Referred → Type 0
+RefersAll cells rules position valid library store n part =
+    Refers cells rules position valid library store n (rows_of reference_layout store.references part)

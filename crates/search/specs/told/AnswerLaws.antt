@@ -1,11 +1,10 @@
 -- An answer is read as it was written; what an answer says follows from its depth; a table after one more answer.
 -- Assumes nothing.
-use Rattle.std.specs.Prelude.{◌≡◌, ℕ, ◌/◌, ◌%◌, ◌<◌, ◌≤◌, Bool, true, false, List, length, ◌==◌, ◌≢◌, nat_eq, nat_le, slice_index, slice_set, refl, if◌then◌else◌}
+use Rattle.std.specs.Prelude.{◌≡◌, ℕ, ◌/◌, ◌%◌, ◌<◌, ◌≤◌, Bool, true, false, List, length, ◌==◌, ◌≢◌, nat_eq, nat_le, slice_index, slice_set, refl, if◌then◌else◌, Option, Some, None}
 use Rattle.std.proofs.Common.{sym, ap, ◌∙◌, arith, eqb-true, leb-true, leb-false, get_or-set_same, get_or-set_other}
 use Rattle.std.proofs.Math.Decide.{dec_lt}
 use Rattle.lent.specs.Rows.{flag}
 use Rattle.lent.specs.RowLaws.{flag-back}
-use Rattle.search.specs.declared.told.Recalled.{Recalled}
 use Rattle.search.specs.told.Answers.{answer_of, settles, recall_of, remembered}
 
 -- a flag is 0 or 1
@@ -32,22 +31,22 @@ pub record Of (answer number depth : ℕ) (holds : Bool) : Type 0 where
   pub more : holds ≡ false → answer / 2 % 4 ≤ depth
 
 -- 0 to nothing, 1 to yes, 2 to no
-abbrev code : Recalled → ℕ
-code Recalled.Nothing = 0
-code Recalled.Holds = 1
-code Recalled.Fails = 2
+abbrev code : Option Bool → ℕ
+code None = 0
+code (Some true) = 1
+code (Some false) = 2
 
 abbrev said : Bool → ℕ
-said holds = code (if holds then Recalled.Holds else Recalled.Fails)
+said holds = code (Some holds)
 
-pub recalled-answer : (answer number depth : ℕ) (holds : Bool) → recall_of answer number depth ≡ (if holds then Recalled.Holds else Recalled.Fails) → Of answer number depth holds
+pub recalled-answer : (answer number depth : ℕ) (holds : Bool) → recall_of answer number depth ≡ Some holds → Of answer number depth holds
 recalled-answer answer number depth holds e = go (answer / 2 % 4 == 0) refl (answer / 8 == number) refl (answer % 2 == 1) refl (ap code e)
   where
     known : ℕ
     known = answer / 2 % 4
 
     Said : Bool → Bool → Bool → Type 0
-    Said z n b = code (if z then Recalled.Nothing else (if n then settles b known depth else Recalled.Nothing)) ≡ said holds
+    Said z n b = code (if z then None else (if n then settles b known depth else None)) ≡ said holds
 
     some-said : (h : Bool) → 0 < said h
     some-said true = omega arith
@@ -66,22 +65,22 @@ recalled-answer answer number depth holds e = go (answer / 2 % 4 == 0) refl (ans
     by_bit : (b h : Bool) → code (settles b known depth) ≡ said h → (b ≡ h) × ((h ≡ true → depth ≤ known) × (h ≡ false → known ≤ depth))
     by_bit true true q = (refl, ((λ t. go' (nat_le depth known) refl q), λ f. absurd (let z : ◌≡◌ {A = ℕ} 0 1 = cc in omega (arith, z))))
       where
-        go' : (t : Bool) → nat_le depth known ≡ t → code (if t then Recalled.Holds else Recalled.Nothing) ≡ 1 → depth ≤ known
+        go' : (t : Bool) → nat_le depth known ≡ t → code (if t then Some true else None) ≡ 1 → depth ≤ known
         go' true p r = leb-true depth known p
         go' false p r = absurd (omega (arith, r))
     by_bit false false q = (refl, ((λ t. absurd (let z : ◌≡◌ {A = ℕ} 0 1 = cc in omega (arith, z))), λ f. go' (nat_le known depth) refl q))
       where
-        go' : (t : Bool) → nat_le known depth ≡ t → code (if t then Recalled.Fails else Recalled.Nothing) ≡ 2 → known ≤ depth
+        go' : (t : Bool) → nat_le known depth ≡ t → code (if t then Some false else None) ≡ 2 → known ≤ depth
         go' true p r = leb-true known depth p
         go' false p r = absurd (omega (arith, r))
     by_bit true false q = absurd (go' (nat_le depth known) q)
       where
-        go' : (t : Bool) → code (if t then Recalled.Holds else Recalled.Nothing) ≢ 2
+        go' : (t : Bool) → code (if t then Some true else None) ≢ 2
         go' true r = omega (arith, r)
         go' false r = omega (arith, r)
     by_bit false true q = absurd (go' (nat_le known depth) q)
       where
-        go' : (t : Bool) → code (if t then Recalled.Fails else Recalled.Nothing) ≢ 1
+        go' : (t : Bool) → code (if t then Some false else None) ≢ 1
         go' true r = omega (arith, r)
         go' false r = omega (arith, r)
 

@@ -53,7 +53,7 @@ module _ (cells : List ℕ) (a : Asked) (library : List ℕ) (t : Stored) (n : �
   abbrev unless : Bool → List Placing
   unless fails = if fails then [] else map (symbol_at a m) m.segment.symbols
 
-  module _ (out : Bool) (o : KeepsOut cells a.rules t.segments n t.references t.bytes t.masks a.depth at row.references out) where
+  module _ (out : Bool) (o : KeepsOut cells a.rules t n a.depth at row.references out) where
     placed-unless : placings cells a gs (one m) ≡ unless out
     unfolding symbols_at recalled_by
     placed-unless = one_placed ∙ turned (holds cells a gs m) ∙ ap unless (sym (o t.symbols (segment_by cells a library t n row) refl))

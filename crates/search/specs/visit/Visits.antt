@@ -4,31 +4,14 @@ use Rattle.lent.specs.Lists.{one, joined}
 use Rattle.segments.specs.declared.SegmentNumber.{SegmentNumber}
 use Rattle.segments.specs.declared.SegmentRow.{SegmentRow}
 use Rattle.segments.specs.Collect.{Collected}
-use Rattle.segments.specs.recalled.Recall.{recalled_by, recalled_at, recalled}
+use Rattle.segments.specs.recalled.Recall.{recalled_by}
 use Rattle.search_rules.specs.declared.Asked.{Asked}
 use Rattle.search_rules.specs.Search.{Match, Placing, Noting, matches_of, all_matches, is_valid, notes, symbols_at}
+pub use Rattle.search.specs.Store.{Stored, stored, segments_in, segment_at}
 use Rattle.search.specs.place.PlacedSymbols.{Places}
 use Rattle.search.specs.note.NotedNames.{Notes}
 use Rattle.search.specs.depth.Depths.{Told, KeepsOut}
 use Rattle.search.specs.declared.visit.Fills.{Fills}
-
--- the lists in which the segments are stored, and the segments of the first n rows
-pub record Stored : Type 0 where
-  pub segments : List ℕ
-  pub references : List ℕ
-  pub symbols : List ℕ
-  pub bytes : List ℕ
-  pub masks : List ℕ
-
-abbrev pub stored : List ℕ → List ℕ → List ℕ → List ℕ → List ℕ → Stored
-stored segments references symbols bytes masks =
-    record { segments = segments; references = references; symbols = symbols; bytes = bytes; masks = masks }
-
-abbrev pub segments_in : Stored → ℕ → List Collected
-segments_in t n = recalled t.segments t.references t.symbols t.bytes t.masks n
-
-abbrev pub segment_at : Stored → ℕ → Collected
-segment_at t i = recalled_at t.segments t.references t.symbols t.bytes t.masks i
 
 -- what some matches place and note
 module _ (cells : List ℕ) (a : Asked) (gs : List Collected) where
@@ -46,7 +29,7 @@ pub record Visits (cells : List ℕ) (a : Asked) (library : List ℕ) (gs : List
 
 -- a table tells the truth about the segments that are stored
 abbrev pub ToldOf : List ℕ → Asked → Stored → ℕ → List ℕ → Type 0
-ToldOf cells a t n m = Told cells a.rules t.segments n t.references t.bytes t.masks m
+ToldOf cells a t n m = Told cells a.rules t n m
 
 -- a match of the segment of a row, if its validity is known; all matches of segment i; those of the first n
 module _ (cells : List ℕ) (a : Asked) (library : List ℕ) (t : Stored) (n : ℕ) where
@@ -59,7 +42,7 @@ module _ (cells : List ℕ) (a : Asked) (library : List ℕ) (t : Stored) (n : �
   -- at a depth above 1 it is known whether a reference of the match fails there; else nothing is said of it
   abbrev pub KnownDeep : SegmentRow → ℕ → Bool → Type 0
   KnownDeep row at deep =
-      (1 < a.depth → KeepsOut cells a.rules t.segments n t.references t.bytes t.masks a.depth at row.references deep) × (a.depth ≤ 1 → deep ≡ false)
+      (1 < a.depth → KeepsOut cells a.rules t n a.depth at row.references deep) × (a.depth ≤ 1 → deep ≡ false)
 
   abbrev pub VisitsMatch : SegmentNumber → SegmentRow → Bool → ℕ → Bool → List ℕ → List ℕ → List ℕ → List ℕ → Fills → List ℕ → List ℕ → List ℕ → List ℕ → Fills → Type 0
   VisitsMatch number row valid at deep placed positions noted goals f placed' positions' noted' goals' f' =

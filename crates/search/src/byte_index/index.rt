@@ -10,9 +10,7 @@ pub fn index(image: &[u8], first: &mut [u32], next: &mut [u32])
     requires { Ready image.now first.old next.old }
     ensures { Indexed image.now first.new next.new }
 {
-    let mut i = image.len();
-    while 0 < i {
-        i -= 1;
+    for i in (0..image.len()).rev() {
         let byte = image[i] as usize;
         next[i] = first[byte];
         first[byte] = (i + 1) as u32;

@@ -1,46 +1,23 @@
 // A name is noted at a target.
-ghost use Rattle.std.specs.Prelude.{◌≡◌, length};
+ghost use Rattle.std.specs.Prelude.{◌≡◌};
 ghost use Rattle.lent.specs.Rows.{put_row};
-ghost use Rattle.tables.specs.fill.FilledRows.{one_more, put_more};
-ghost use Rattle.search_rules.specs.SearchRows.{noted_layout, noted_cells};
+ghost use Rattle.search_rules.specs.SearchRows.{noted_cells};
 ghost use Rattle.search_rules.specs.SearchLayouts.{noted_at};
 ghost use Rattle.search.specs.note.NotedNames.{validated, NotesOne};
 
-use crate::rows::{noted_at, put_noted};
+use crate::rows::noted_at;
 use lent::part::Part;
+use lent::rows::Row;
 use search_rules::{NOTED_WIDTH, Noted};
 use tables::by_name::{BUCKETS, KEYS, bucket, find, head_at, set_heads};
-use tables::fill::{Fill, one_more};
-
-// Puts one more row of a noted name behind the rows before it, if there is room.
-fn append_noted(m: &mut [u64], f: Fill, row: Noted) -> Fill
-    ensures { (m.new ≡ put_more noted_layout f row m.old) × (result ≡ one_more f 6 (length m.old)) }
-{
-    let next = one_more(f, NOTED_WIDTH, m.len());
-    if next.over {
-        return next;
-    }
-    put_noted(m, f.rows, row);
-    next
-}
+use tables::fill::{Fill, append};
 
 // Makes row i valid: a valid match notes the same name at the same target once more.
 fn validate(m: &mut [u64], i: usize)
     ensures { m.new ≡ put_row 6 m.old i (noted_cells (validated (noted_at m.old i))) }
 {
     let row = noted_at(m, i);
-    let name = row.name;
-    put_noted(
-        m,
-        i,
-        Noted {
-            target: row.target,
-            name,
-            valid: true,
-            link: row.link,
-            alike: row.alike,
-        },
-    );
+    Noted { valid: true, ..row }.put(m, i);
 }
 
 // Notes a name at a target: a name has one row for a target, and is valid if any match that noted it was. `heads` has
@@ -69,7 +46,7 @@ pub fn note_name(
         return f;
     }
     let link = head_at(heads, (target % BUCKETS) as usize);
-    let more = append_noted(
+    let more = append(
         noted,
         f,
         Noted {

@@ -1,14 +1,14 @@
 // The references of a match are gone over in file order.
-ghost use Rattle.image.specs.View.{stretches_in, view};
+ghost use Rattle.search.specs.Store.{seen, stored_in};
 ghost use Rattle.search.specs.note.NotedNames.{NotesAt, RefersAll};
 
-use crate::failed::{failed_by, is_failed};
+use crate::failed::failed_by;
 use crate::note::Referred;
 use crate::note::name::note_name;
 use crate::targets::target_of;
+use crate::{StoredSegments, View};
 use image::fixup::{Rules, Target};
 use lent::part::Part;
-use search_rules::Failed;
 use segments::Goal;
 use segments::recalled::lies_within;
 use segments::rows::{REFERENCE_WIDTH, reference_at};
@@ -37,49 +37,35 @@ fn note_at(
 }
 
 // Goes over the references in a part of the rows, for a match at `position`: each notes its name, and each is checked until
-// one fails. The image with its stretches `s` gives the targets, each of which is made once; the first n segments, with
-// `bytes` and `masks`, tell what matches there; names, parts of `library`, go into `noted`, whose rows are found by `heads`
-// and filled up to `before`. A match without references is answered before the loop, which spares it the loop's start.
+// one fails. The image gives the targets, each of which is made once; the collection tells what matches there; names, parts
+// of `library`, go into `noted`, whose rows are found by `heads` and filled up to `before`.
 pub fn refer_all(
-    image: &[u8],
-    s: &[u64],
+    view: View,
     rules: Rules,
     position: usize,
     valid: bool,
     library: &[u8],
-    segments: &[u64],
-    n: usize,
-    references: &[u64],
+    store: StoredSegments,
     part: Part,
-    bytes: &[u8],
-    masks: &[u8],
     noted: &mut [u64],
     heads: &mut [u32],
     before: Fill,
 ) -> Referred
-    ensures { RefersAll (view image.now (stretches_in s.now)) rules position valid library.now segments.now n references.now part bytes.now masks.now
+    ensures { RefersAll (seen view.entry) rules position valid library.now (stored_in store.entry) store.entry.n part
         noted.old heads.old before noted.new heads.new result }
 {
-    let mut failed = Failed::Nothing;
+    let mut failed = Ok(());
     let mut f = before;
-    let at = part.at;
-    let len = part.len;
-    if !lies_within(part, references.len() / REFERENCE_WIDTH) {
+    if !lies_within(part, store.references.len() / REFERENCE_WIDTH) {
         return Referred { failed, fill: f };
     }
-    if len == 0 {
-        return Referred { failed, fill: f };
-    }
-    let mut k = 0;
-    while k < len {
-        let r = reference_at(references, at + k);
-        let goal = r.goal;
-        let target = target_of(image, s, rules, position, r);
-        f = note_at(library, goal, target, valid, noted, heads, f);
-        if !is_failed(failed) {
-            failed = failed_by(image, s, segments, n, bytes, masks, k, goal, target);
+    for k in 0..part.len {
+        let r = reference_at(store.references, part.at + k);
+        let target = target_of(view.image, view.s, rules, position, r);
+        f = note_at(library, r.goal, target, valid, noted, heads, f);
+        if failed.is_ok() {
+            failed = failed_by(view, store, k, r.goal, target);
         }
-        k += 1;
     }
     Referred { failed, fill: f }
 }

@@ -7,6 +7,6 @@ pub returns : goal.returns
 returns c =
     let a = c.args in
     zeroed-is (record { stored = stored a.segments.now a.references.now a.symbols.now a.bytes.now a.masks.now; placed = a.placed.now; noted = a.noted.now })
-    c.clear.ensures c.clear-2.ensures c.clear-3.ensures
-    c.clear_bytes.ensures
-    c.clear_bytes-2.ensures c.clear-4.ensures c.clear-5.ensures
+    (c.fill.ensures.after (λ y e. e)) (c.fill-2.ensures.after (λ y e. e)) (c.fill-3.ensures.after (λ y e. e))
+    (c.fill-4.ensures.after (λ y e. e)) (c.fill-5.ensures.after (λ y e. e))
+    (c.fill-6.ensures.after (λ y e. e)) (c.fill-7.ensures.after (λ y e. e))

@@ -1,7 +1,7 @@
 -- `fill_rows`: the tables are long enough, and the one of answers tells nothing yet. Assumes nothing.
 use Rattle.std.proofs.Common.{length, ap, ◌∙◌, arith}
 use Rattle.tables.specs.zeros.ZeroLaws.{zero-length}
-use Rattle.image.specs.View.{stretches_in, view}
+use Rattle.search.specs.Store.{seen, stored_in}
 use Rattle.search.specs.depth.ToldLaws.{blank-told}
 use Rattle.search.proofs.fill.fill_rows.Goals as goal
 
@@ -9,14 +9,14 @@ pub fill_along-requires : goal.fill_along-requires
 fill_along-requires c =
     let a = c.args in (
       c.requires,
-      omega (arith, c.if-image-le-SHORT_IMAGE.true, ap length c.few_links-next.ensures ∙ zero-length 4096),
-      blank-told (view a.image.now (stretches_in a.s.now)) a.asked.rules a.segments.now a.n a.references.now a.bytes.now a.masks.now 4096 c.few_answers-told.result c.few_answers-told.ensures,
+      omega (arith, c.if-view-le-SHORT_IMAGE.true, ap length c.zeros-next.ensures ∙ zero-length 4096),
+      blank-told (seen a.view) a.asked.rules (stored_in a.store) a.store.n 4096 c.zeros-told.result c.zeros-told.ensures,
     )
 
 pub fill_along-requires-2 : goal.fill_along-requires-2
 fill_along-requires-2 c =
     let a = c.args in (
       c.requires,
-      omega (arith, c.requires, ap length c.place_links-next.ensures ∙ zero-length 65536),
-      blank-told (view a.image.now (stretches_in a.s.now)) a.asked.rules a.segments.now a.n a.references.now a.bytes.now a.masks.now 65536 c.many_answers-told.result c.many_answers-told.ensures,
+      omega (arith, c.requires, ap length c.zeros-next-2.ensures ∙ zero-length 65536),
+      blank-told (seen a.view) a.asked.rules (stored_in a.store) a.store.n 65536 c.zeros-told-2.result c.zeros-told-2.ensures,
     )

@@ -5,29 +5,9 @@ use Rattle.search.proofs.matches.step_along.Goals as goal
 use Rattle.search.proofs.matches.step_along.Goals.{In-loop-link}
 
 -- where the link leads
-here : (c : In-loop-link) → c.loop-link.link - 1 < length c.args.image.now
+here : (c : In-loop-link) → c.loop-link.link - 1 < length c.args.view.image.now
 here c =
     c.loop-link.invariant.sound.leads.within c.loop-link-test.true
-
-pub loop-link-init : goal.loop-link-init
-loop-link-init c =
-    record { sound = c.requires.sound; same = refl }
-
-pub overflow_cast-place : goal.overflow_cast-place
-overflow_cast-place c =
-    omega (arith, here (goal.at.overflow_cast-place c).In-loop-link)
-
-pub overflow_sub-place : goal.overflow_sub-place
-overflow_sub-place c =
-    omega (arith, c.loop-link-test.true)
-
-pub offset_bounds-next-place : goal.offset_bounds-next-place
-offset_bounds-next-place c =
-    omega (arith, here (goal.at.offset_bounds-next-place c).In-loop-link)
-
-pub bounds-next-place : goal.bounds-next-place
-bounds-next-place c =
-    omega (arith, here (goal.at.bounds-next-place c).In-loop-link, c.requires.nexts.room)
 
 pub returns-then-match_at : goal.returns-then-match_at
 returns-then-match_at c =
@@ -37,16 +17,16 @@ returns-then-match_at c =
     let n = c.requires.nexts in
     let e = sym c.match_at.ensures ∙ c.if-match_at.true in
     record {
-      places = l.invariant.same ∙ along-match a.image.now (stretches_in a.s.now) a.bytes.now a.masks.now a.next.now a.anchor l.link n
+      places = l.invariant.same ∙ along-match a.view.image.now (stretches_in a.view.s.now) a.bytes.now a.masks.now a.next.now a.anchor l.link n
           l.invariant.sound h (omega (arith, c.if-anchor-place.true)) e;
       matched = e;
-      sound = past-sound a.image.now (stretches_in a.s.now) a.bytes.now a.masks.now a.next.now a.anchor l.link n l.invariant.sound h;
+      sound = past-sound a.view.image.now (stretches_in a.view.s.now) a.bytes.now a.masks.now a.next.now a.anchor l.link n l.invariant.sound h;
     }
 
 pub loop-link-smaller-else-match_at : goal.loop-link-smaller-else-match_at
 loop-link-smaller-else-match_at c =
     let a = c.args in
-    past-less a.image.now (stretches_in a.s.now) a.bytes.now a.masks.now a.next.now a.anchor c.loop-link.link
+    past-less a.view.image.now (stretches_in a.view.s.now) a.bytes.now a.masks.now a.next.now a.anchor c.loop-link.link
     c.requires.nexts c.loop-link.invariant.sound c.loop-link-test.true
 
 pub loop-link-preserved-else-match_at : goal.loop-link-preserved-else-match_at
@@ -56,15 +36,15 @@ loop-link-preserved-else-match_at c =
     let h = c.loop-link-test.true in
     let n = c.requires.nexts in
     record {
-      sound = past-sound a.image.now (stretches_in a.s.now) a.bytes.now a.masks.now a.next.now a.anchor l.link n l.invariant.sound h;
-      same = l.invariant.same ∙ along-other a.image.now (stretches_in a.s.now) a.bytes.now a.masks.now a.next.now a.anchor l.link n l.invariant.sound
+      sound = past-sound a.view.image.now (stretches_in a.view.s.now) a.bytes.now a.masks.now a.next.now a.anchor l.link n l.invariant.sound h;
+      same = l.invariant.same ∙ along-other a.view.image.now (stretches_in a.view.s.now) a.bytes.now a.masks.now a.next.now a.anchor l.link n l.invariant.sound
           h (omega (arith, c.if-anchor-place.true)) (sym c.match_at.ensures ∙ c.if-match_at.false);
     }
 
 pub loop-link-smaller : goal.loop-link-smaller
 loop-link-smaller c =
     let a = c.args in
-    past-less a.image.now (stretches_in a.s.now) a.bytes.now a.masks.now a.next.now a.anchor c.loop-link.link
+    past-less a.view.image.now (stretches_in a.view.s.now) a.bytes.now a.masks.now a.next.now a.anchor c.loop-link.link
     c.requires.nexts c.loop-link.invariant.sound c.loop-link-test.true
 
 pub loop-link-preserved : goal.loop-link-preserved
@@ -74,8 +54,8 @@ loop-link-preserved c =
     let h = c.loop-link-test.true in
     let n = c.requires.nexts in
     record {
-      sound = past-sound a.image.now (stretches_in a.s.now) a.bytes.now a.masks.now a.next.now a.anchor l.link n l.invariant.sound h;
-      same = l.invariant.same ∙ along-before a.image.now (stretches_in a.s.now) a.bytes.now a.masks.now a.next.now a.anchor
+      sound = past-sound a.view.image.now (stretches_in a.view.s.now) a.bytes.now a.masks.now a.next.now a.anchor l.link n l.invariant.sound h;
+      same = l.invariant.same ∙ along-before a.view.image.now (stretches_in a.view.s.now) a.bytes.now a.masks.now a.next.now a.anchor
           l.link n l.invariant.sound h (omega (arith, c.if-anchor-place.false));
     }
 
@@ -83,4 +63,4 @@ pub returns : goal.returns
 returns c =
     let a = c.args in
     let l = c.loop-link in
-    l.invariant.same ∙ along-end a.image.now (stretches_in a.s.now) a.bytes.now a.masks.now a.next.now a.anchor l.link c.requires.nexts l.invariant.sound c.loop-link-test.false
+    l.invariant.same ∙ along-end a.view.image.now (stretches_in a.view.s.now) a.bytes.now a.masks.now a.next.now a.anchor l.link c.requires.nexts l.invariant.sound c.loop-link-test.false

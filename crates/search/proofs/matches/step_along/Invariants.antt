@@ -12,8 +12,8 @@ pub record Inv (image : List ℕ) (s : List Stretch) (bytes masks : List ℕ) (a
 
 abbrev pub invariant-loop-link : goal.invariant-loop-link
 invariant-loop-link l =
-    Inv l.image (stretches_in l.s) l.bytes l.masks l.anchor l.from l.link
+    Inv l.view.image.now (stretches_in l.view.s.now) l.bytes l.masks l.anchor l.from l.link
 
 abbrev pub decreases-loop-link : goal.decreases-loop-link
 decreases-loop-link l =
-    ahead l.image l.link
+    ahead l.view.image.now l.link

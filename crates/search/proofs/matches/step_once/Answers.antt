@@ -7,9 +7,9 @@ use Rattle.search.proofs.matches.step_once.Goals as goal
 pub returns-then-match_at : goal.returns-then-match_at
 returns-then-match_at c =
     let a = c.args in
-    once-at a.image.now (stretches_in a.s.now) a.bytes.now a.masks.now a.at (sym c.match_at.ensures ∙ c.if-match_at.true)
+    once-at a.view.image.now (stretches_in a.view.s.now) a.bytes.now a.masks.now a.at (sym c.match_at.ensures ∙ c.if-match_at.true)
 
 pub returns : goal.returns
 returns c =
     let a = c.args in
-    once-done a.image.now (stretches_in a.s.now) a.bytes.now a.masks.now a.at (sym c.match_at.ensures ∙ c.if-match_at.false)
+    once-done a.view.image.now (stretches_in a.view.s.now) a.bytes.now a.masks.now a.at (sym c.match_at.ensures ∙ c.if-match_at.false)

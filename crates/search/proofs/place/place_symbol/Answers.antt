@@ -11,27 +11,23 @@ use Rattle.search_rules.proofs.FindableLaws.{placed-reads}
 use Rattle.search.specs.place.PlacedSymbols.{placing_of}
 use Rattle.search.specs.place.PlacedSymbolLaws.{place-grows, place-single}
 use Rattle.search.proofs.place.place_symbol.Goals as goal
+use Rattle.search.proofs.place.place_symbol.Goals.{then-f-via-then-f, then-f-via-else-f+then-end-base, then-f-via-else-f+else-end-base+then-end-base-2}
 
 pub returns-then-f : goal.returns-then-f
 returns-then-f c =
     let new : Placing = placing_of c.args.number c.args.base c.args.valid c.args.y in
     let a = c.args in
-    takes-over placed_sheet a.library.now placed-reads (place a.library.now a.end) (new)
-    {t = table a.placed.now a.heads.now a.f} c.if-f.true (place-grows a.library.now a.end (new)) (place-single a.library.now a.end (new))
-
-pub returns-then-end-base : goal.returns-then-end-base
-returns-then-end-base c =
-    let new : Placing = placing_of c.args.number c.args.base c.args.valid c.args.y in
-    let a = c.args in
-    takes-nothing placed_sheet a.library.now placed-reads (place a.library.now a.end) (new)
-    {t = table a.placed.now a.heads.now a.f} (λ xs. place-past a.library.now a.end xs (new) (omega (arith, c.if-end-base.true)))
-
-pub returns-then-end-base-2 : goal.returns-then-end-base-2
-returns-then-end-base-2 c =
-    let new : Placing = placing_of c.args.number c.args.base c.args.valid c.args.y in
-    let a = c.args in
-    takes-nothing placed_sheet a.library.now placed-reads (place a.library.now a.end) (new)
-    {t = table a.placed.now a.heads.now a.f} (λ xs. place-past a.library.now a.end xs (new) (omega (arith, c.if-end-base-2.true, c.if-end-base.false)))
+    elim c.then-f.branch [
+      | then-f-via-then-f w ↦
+          takes-over placed_sheet a.library.now placed-reads (place a.library.now a.end) (new)
+          {t = table a.placed.now a.heads.now a.f} w.if-f.true (place-grows a.library.now a.end (new)) (place-single a.library.now a.end (new))
+      | then-f-via-else-f+then-end-base w ↦
+          takes-nothing placed_sheet a.library.now placed-reads (place a.library.now a.end) (new)
+          {t = table a.placed.now a.heads.now a.f} (λ xs. place-past a.library.now a.end xs (new) (omega (arith, w.if-end-base.true)))
+      | then-f-via-else-f+else-end-base+then-end-base-2 w ↦
+          takes-nothing placed_sheet a.library.now placed-reads (place a.library.now a.end) (new)
+          {t = table a.placed.now a.heads.now a.f} (λ xs. place-past a.library.now a.end xs (new) (omega (arith, w.if-end-base-2.true, w.if-end-base.false)))
+    ]
 
 pub overflow_add-shared : goal.overflow_add-shared
 overflow_add-shared c =
@@ -54,8 +50,8 @@ returns-then-more c =
     c.if-f.false c.bucket-shared.result c.head_at-alike.result c.find.result
     c.bucket-shared.ensures c.head_at-alike.ensures c.find.ensures c.if-find-ne0.false
     (λ xs e. place-new a.library.now a.end xs (new) (omega (arith, c.if-end-base-2.false, c.if-end-base.false)) e)
-    c.head_at-link.result c.head_at-link.ensures c.append_placed-more.new.m a.heads.now
-    c.append_placed-more.result c.append_placed-more.ensures.0 c.append_placed-more.ensures.1 c.if-more.true refl
+    c.head_at-link.result c.head_at-link.ensures c.append-more.new.m a.heads.now
+    c.append-more.result c.append-more.ensures.0 c.append-more.ensures.1 c.if-more.true refl
 
 pub returns : goal.returns
 returns c =
@@ -65,6 +61,6 @@ returns c =
     c.if-f.false c.bucket-shared.result c.head_at-alike.result c.find.result
     c.bucket-shared.ensures c.head_at-alike.ensures c.find.ensures c.if-find-ne0.false
     (λ xs e. place-new a.library.now a.end xs (new) (omega (arith, c.if-end-base-2.false, c.if-end-base.false)) e)
-    c.head_at-link.result c.head_at-link.ensures c.append_placed-more.new.m c.set_heads.new.heads
-    c.append_placed-more.result c.append_placed-more.ensures.0 c.append_placed-more.ensures.1
+    c.head_at-link.result c.head_at-link.ensures c.append-more.new.m c.set_heads.new.heads
+    c.append-more.result c.append-more.ensures.0 c.append-more.ensures.1
     c.if-more.false c.set_heads.ensures

@@ -34,17 +34,9 @@ loop-k-init c =
           (left a.number a.base a.valid a.symbols.now a.part 0) (table a.placed.now a.heads.now a.before);
     }
 
-pub overflow_add-at : goal.overflow_add-at
-overflow_add-at c =
-    omega (arith, c.loop-k-test.true, fits (goal.at.overflow_add-at c).In-loop-k, c.well_formed)
-
-pub overflow_add-k : goal.overflow_add-k
-overflow_add-k c =
-    omega (arith, c.loop-k-test.true, fits (goal.at.overflow_add-k c).In-loop-k, c.well_formed)
-
-pub loop-k-smaller : goal.loop-k-smaller
-loop-k-smaller c =
-    omega (arith, c.loop-k-test.true)
+pub overflow_add-part : goal.overflow_add-part
+overflow_add-part c =
+    omega (arith, c.loop-k-test.true, fits (goal.at.overflow_add-part c).In-loop-k, c.well_formed)
 
 pub loop-k-preserved : goal.loop-k-preserved
 loop-k-preserved c =

@@ -1,5 +1,5 @@
 -- `place_symbols` goes from row to row. The invariant: whoever places those that are left has placed all. Assumes nothing.
-use Rattle.std.proofs.Common.{◌≡◌, ℕ, ◌-◌, ◌≤◌, Bool, List, map, length}
+use Rattle.std.proofs.Common.{◌≡◌, ℕ, ◌≤◌, Bool, List, map, length}
 use Rattle.lent.specs.declared.part.Part.{Part}
 use Rattle.tables.specs.declared.fill.Fill.{Fill}
 use Rattle.segments.specs.declared.SegmentNumber.{SegmentNumber}
@@ -24,8 +24,4 @@ pub record Inv (library : List ℕ) (end : ℕ) (number : SegmentNumber) (base :
 abbrev pub invariant-loop-k : goal.invariant-loop-k
 invariant-loop-k l =
     Inv l.library l.end l.number l.base l.valid l.symbols
-    (record { at = l.at; len = l.len }) l.initial.placed l.initial.heads l.initial.f l.placed l.heads l.f l.k
-
-abbrev pub decreases-loop-k : goal.decreases-loop-k
-decreases-loop-k l =
-    l.len - l.k
+    l.part l.initial.placed l.initial.heads l.initial.f l.placed l.heads l.f l.k

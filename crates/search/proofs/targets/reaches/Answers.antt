@@ -1,36 +1,17 @@
-use Rattle.std.proofs.Common.{arith}
-use Rattle.search.specs.targets.CountLaws.{count-one, count-zero, count-end, reached, weighed}
+-- `reaches`: of the masks that are not 0 so many are taken, where there are so many. Assumes nothing.
+use Rattle.std.proofs.Common.{◌≡◌, ℕ, Bool, not, length, take, nat_eq, ◌==◌, ap, ◌∙◌, rules, tests}
+use Rattle.std.specs.List.{filter}
+use Rattle.std.proofs.lemmas.Iterator.{YieldsList-from_slice, YieldsList-from_take}
+use Rattle.std.proofs.lemmas.Iterator.Consumers.{YieldsList-at, YieldsList-from_filter, count_from_yields_List}
+use Rattle.lent.specs.Lists.{keep}
+use Rattle.search.specs.targets.CountLaws.{kept-filter, taken-all}
 use Rattle.search.proofs.targets.reaches.Goals as goal
-use Rattle.search.proofs.targets.reaches.Goals.{then-masks-i-ne0, else-masks-i-ne0}
-
-pub loop-i-init : goal.loop-i-init
-loop-i-init c =
-    record { within = omega arith; lacking = omega arith }
-
-pub returns-then-left-eq0 : goal.returns-then-left-eq0
-returns-then-left-eq0 c =
-    let l = c.loop-i in reached c.args.masks.now c.args.least l.i (omega (arith, l.invariant.lacking, c.if-left-eq0.true))
-
-pub overflow_sub-left : goal.overflow_sub-left
-overflow_sub-left c =
-    omega (arith, c.if-left-eq0.false)
-
-pub overflow_add-i : goal.overflow_add-i
-overflow_add-i c =
-    omega (arith, c.loop-i.invariant.within)
-
-pub loop-i-preserved : goal.loop-i-preserved
-loop-i-preserved c =
-    let l = c.loop-i in
-    let masks = c.args.masks.now in
-    let more = c.loop-i-test.true in
-    elim c.if-masks-i-ne0.branch [
-      | then-masks-i-ne0 w ↦ record { within = omega (arith, more); lacking = omega (arith, w.left-is, l.invariant.lacking, c.if-left-eq0.false, count-one masks l.i (omega (arith, more)) w.if-masks-i-ne0.true) }
-      | else-masks-i-ne0 w ↦ record { within = omega (arith, more); lacking = omega (arith, w.left-is, l.invariant.lacking, count-zero masks l.i (omega (arith, more)) w.if-masks-i-ne0.false) }
-    ]
 
 pub returns : goal.returns
 returns c =
-    let l = c.loop-i in
     let masks = c.args.masks.now in
-    weighed masks c.args.least l.left (omega (arith, l.invariant.lacking, count-end masks l.i (omega (arith, c.loop-i-test.false))))
+    let test : ℕ → Bool = λ mask. not (mask == 0) in
+    let counted : c.count.result ≡ length (take c.args.least (filter test masks)) =
+    count_from_yields_List c.take.result c.count.result c.count.ensures.ran
+    (YieldsList-from_take c.args.least (YieldsList-at c.take.ensures.source (YieldsList-from_filter _ test (YieldsList-from_slice masks cc) c.filter.ensures.closure (λ x r q k. search (rules, tests)))) c.take.ensures.count) in
+    ap (λ n. nat_eq n c.args.least) (counted ∙ ap (λ xs. length (take c.args.least xs)) (kept-filter test masks)) ∙ taken-all c.args.least (keep test masks)

@@ -1,52 +1,30 @@
-use Rattle.std.proofs.Common.{◌+◌, get_or, sym, subst, arith}
+use Rattle.std.proofs.Common.{◌≡◌, ℕ, ◌+◌, Bool, true, false, List, get_or, nat_lt, refl, sym, subst, arith, ltb-true}
+use Rattle.std.specs.Bool.{then_some}
+use Rattle.search.specs.byte_index.Anchor.{Anchor, Anchored}
 use Rattle.search.proofs.byte_index.anchor.anchor.Goals as goal
-use Rattle.search.proofs.byte_index.anchor.anchor.Goals.{then-masks-n, else-masks-n, then-masks-i+then-count-rarest+else-count-lt4, then-masks-i+else-count-rarest, else-masks-i}
+use Rattle.search.proofs.byte_index.anchor.anchor.Goals.{then-masks-i+then-count-rarest+else-count-lt4, then-masks-i+else-count-rarest, else-masks-i}
 use Rattle.search.proofs.byte_index.anchor.anchor.Invariants.{Chosen}
 
 pub loop-i-init : goal.loop-i-init
 loop-i-init c =
     record {
       within = omega arith;
-      ends = c.lesser-end.ensures;
-      in_bytes = elim c.if-masks-n.branch [ then-masks-n w ↦ omega arith | else-masks-n w ↦ omega arith ];
-      in-masks = elim c.if-masks-n.branch [ then-masks-n w ↦ omega arith | else-masks-n w ↦ omega arith ];
+      ends = omega (arith, c.min-end.ensures);
+      in_bytes = omega (arith, c.min-n.ensures);
+      in-masks = omega (arith, c.min-n.ensures);
       chosen = λ h. absurd (omega arith);
     }
-
-pub overflow_cast-count : goal.overflow_cast-count
-overflow_cast-count c =
-    omega (arith, c.type_inv.bytes c.loop-i.i)
-
-pub overflow_add-count : goal.overflow_add-count
-overflow_add-count c =
-    omega (arith, c.type_inv.bytes c.loop-i.i)
-
-pub offset_bounds-first-bytes : goal.offset_bounds-first-bytes
-offset_bounds-first-bytes c =
-    omega (arith, c.type_inv.bytes c.loop-i.i)
-
-pub bounds-first-bytes : goal.bounds-first-bytes
-bounds-first-bytes c =
-    omega (arith, c.type_inv.bytes c.loop-i.i, c.requires)
-
-pub overflow_cast-count-then-masks-i : goal.overflow_cast-count-then-masks-i
-overflow_cast-count-then-masks-i c =
-    omega (arith, c.type_inv.first (256 + get_or c.args.bytes.now c.loop-i.i 0))
-
-pub returns-then-count-lt4 : goal.returns-then-count-lt4
-returns-then-count-lt4 c =
-    record { within = omega arith; byte = omega (arith, c.type_inv.bytes c.loop-i.i); whole = c.if-masks-i.true }
 
 pub loop-i-preserved : goal.loop-i-preserved
 loop-i-preserved c =
     let l = c.loop-i in
     let a = c.args in
-    let n = c.if-masks-n.n in
+    let n = c.min-n.result in
     let kept : Chosen a.bytes.now a.masks.now n l.place = l.invariant.chosen in
     record {
       within = omega arith;
       ends = elim c.if-masks-i.branch [
-        | then-masks-i+then-count-rarest+else-count-lt4 w ↦ omega (arith, w.lesser-end-then-count-rarest.ensures, l.invariant.ends)
+        | then-masks-i+then-count-rarest+else-count-lt4 w ↦ omega (arith, w.min-end-then-count-rarest.ensures, l.invariant.ends)
         | then-masks-i+else-count-rarest w ↦ omega (arith, l.invariant.ends)
         | else-masks-i w ↦ omega (arith, l.invariant.ends)
       ];
@@ -60,10 +38,11 @@ loop-i-preserved c =
       ];
     }
 
-pub returns-then-place-n : goal.returns-then-place-n
-returns-then-place-n c =
-    c.loop-i.invariant.chosen c.if-place-n.true
-
 pub returns : goal.returns
 returns c =
-    tt
+    let a = c.args in
+    subst (Anchored a.bytes.now a.masks.now) (sym c.then_some.ensures) (anchored_if (nat_lt c.loop-i.place c.min-n.result) (λ e. c.loop-i.invariant.chosen (ltb-true c.loop-i.place c.min-n.result e)))
+  where
+    anchored_if : {bytes masks : List ℕ} {place : ℕ} (b : Bool) → (b ≡ true → Anchor bytes masks place) → Anchored bytes masks (then_some b place)
+    anchored_if true h = h refl
+    anchored_if false h = tt

@@ -45,8 +45,8 @@ returns-then-more c =
     takes-lacks noted_sheet a.library.now noted-reads (note a.library.now) (new) a.noted.now a.heads.now a.f
     c.if-f.false c.bucket-shared.result c.head_at-alike.result c.find-there.result
     c.bucket-shared.ensures c.head_at-alike.ensures c.find-there.ensures c.if-there-ne0.false (note-new a.library.now (new))
-    c.head_at-link.result c.head_at-link.ensures c.append_noted-more.new.m a.heads.now
-    c.append_noted-more.result c.append_noted-more.ensures.0 c.append_noted-more.ensures.1 c.if-more.true refl
+    c.head_at-link.result c.head_at-link.ensures c.append-more.new.m a.heads.now
+    c.append-more.result c.append-more.ensures.0 c.append-more.ensures.1 c.if-more.true refl
 
 pub returns : goal.returns
 returns c =
@@ -55,5 +55,5 @@ returns c =
     takes-new noted_sheet a.library.now noted-reads (note a.library.now) (new) a.noted.now a.heads.now a.f
     c.if-f.false c.bucket-shared.result c.head_at-alike.result c.find-there.result
     c.bucket-shared.ensures c.head_at-alike.ensures c.find-there.ensures c.if-there-ne0.false (note-new a.library.now (new))
-    c.head_at-link.result c.head_at-link.ensures c.append_noted-more.new.m c.set_heads.new.heads
-    c.append_noted-more.result c.append_noted-more.ensures.0 c.append_noted-more.ensures.1 c.if-more.false c.set_heads.ensures
+    c.head_at-link.result c.head_at-link.ensures c.append-more.new.m c.set_heads.new.heads
+    c.append-more.result c.append-more.ensures.0 c.append-more.ensures.1 c.if-more.false c.set_heads.ensures

@@ -1,11 +1,12 @@
 -- `search_all` goes from segment to segment. The invariant: whoever searches those that are left has searched all. Assumes nothing.
 use Rattle.std.proofs.Common.{◌≡◌, ℕ, ◌-◌, ◌≤◌, List, length}
 use Rattle.lent.specs.Lists.{joined, from}
-use Rattle.image.specs.View.{stretches_in, view}
 use Rattle.search_rules.specs.declared.Asked.{Asked}
 use Rattle.search.specs.declared.visit.Fills.{Fills}
-use Rattle.search.specs.visit.Visits.{Stored, stored, segments_in, ToldOf}
+use Rattle.search.specs.Store.{seen, stored_in}
+use Rattle.search.specs.visit.Visits.{Stored, segments_in, ToldOf}
 use Rattle.search.specs.visit.VisitLaws.{matches_by}
+use Rattle.search.specs.Store.{seen, stored_in}
 use Rattle.search.specs.visit.VisitsLeft.{Leading}
 use Rattle.search.proofs.visit.all.search_all.Given as goal
 
@@ -23,8 +24,4 @@ pub record Inv (cells : List ℕ) (asked : Asked) (library : List ℕ) (t : Stor
 
 abbrev pub invariant-loop-i : goal.invariant-loop-i
 invariant-loop-i l =
-    Inv (view l.image (stretches_in l.s)) l.asked l.library (stored l.segments l.references l.symbols l.bytes l.masks) l.n l.initial.told l.initial.placed l.initial.positions l.initial.noted l.initial.goals l.initial.f l.told l.placed l.positions l.noted l.goals l.f l.i
-
-abbrev pub decreases-loop-i : goal.decreases-loop-i
-decreases-loop-i l =
-    l.n - l.i
+    Inv (seen l.view) l.asked l.library (stored_in l.store) l.store.n l.initial.told l.initial.placed l.initial.positions l.initial.noted l.initial.goals l.initial.f l.told l.placed l.positions l.noted l.goals l.f l.i

@@ -7,8 +7,10 @@ use Rattle.search.specs.declared.matches.MatchCursor.{MatchCursor}
 use Rattle.search.specs.matches.Cursor.{places_left, Sound}
 use Rattle.search_rules.specs.declared.Asked.{Asked}
 use Rattle.search.specs.declared.visit.Fills.{Fills}
-use Rattle.search.specs.visit.Visits.{Stored, stored, segments_in, ToldOf}
+use Rattle.search.specs.Store.{seen, stored_in}
+use Rattle.search.specs.visit.Visits.{Stored, segments_in, ToldOf}
 use Rattle.search.specs.visit.SegmentLaws.{match_at}
+use Rattle.search.specs.Store.{seen, stored_in}
 use Rattle.search.specs.visit.VisitsLeft.{Leading}
 use Rattle.search.proofs.visit.segment.search_segment.Given as goal
 
@@ -27,9 +29,9 @@ pub record Inv (image : List ℕ) (s : List Stretch) (asked : Asked) (library : 
 
 abbrev pub invariant-loop-at : goal.invariant-loop-at
 invariant-loop-at l =
-    Inv l.image (stretches_in l.s) l.asked l.library (stored l.segments l.references l.symbols l.bytes l.masks) l.n l.i l.initial.told l.initial.placed l.initial.positions l.initial.noted
-    l.initial.goals l.row l.initial.f l.pattern l.masked l.initial.c l.told l.placed l.positions l.noted l.goals l.f l.c
+    Inv l.view.image.now (stretches_in l.view.s.now) l.asked l.library (stored_in l.store) l.store.n l.i l.initial.told l.initial.placed l.initial.positions l.initial.noted
+    l.initial.goals l.row l.initial.f l.pattern l.masked l.initial.left l.told l.placed l.positions l.noted l.goals l.f l.left
 
 abbrev pub decreases-loop-at : goal.decreases-loop-at
 decreases-loop-at l =
-    length (places_left (view l.image (stretches_in l.s)) l.pattern l.masked l.c)
+    length (places_left (seen l.view) l.pattern l.masked l.left)
