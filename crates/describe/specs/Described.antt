@@ -1,17 +1,13 @@
--- What the code's tables spell, and what it takes off a name and writes.
-use Rattle.std.specs.Prelude.{ℕ, zero, suc, ◌+◌, ◌≡◌, List, [], ◌∷◌, ◌++◌, leb, length, take, drop, get_or, if◌then◌else◌}
+-- What the code takes off a name and writes.
+use Rattle.std.specs.Prelude.{ℕ, ◌+◌, ◌≡◌, List, [], ◌∷◌, ◌++◌, map, leb, length, drop, Result, Ok, Err, Some, None, if◌then◌else◌}
+use Rattle.std.specs.Prelude.{Option as Optional}
 use Rattle.std.proofs.Math.Option.{Option, none, some}
 use Rattle.std.proofs.lemmas.List.Edits.{sets}
-use Rattle.describe.specs.declared.words.Saying.{Saying}
-use Rattle.describe.specs.declared.Piece.{Piece}
+use Rattle.describe.specs.declared.words.Word.{Word}
 use Rattle.describe.specs.declared.words.Taken.{Taken}
-use Rattle.describe.specs.declared.words.Taken.TheVariants.{Took, Nothing}
 use Rattle.describe.specs.declared.Sentence.{Sentence}
-use Rattle.describe.specs.declared.Parsed.{Parsed}
-use Rattle.describe.specs.declared.Parsed.TheVariants.{Whole, Nothing as NoSentence}
-use Rattle.describe.specs.declared.Described.{Described}
-use Rattle.describe.specs.declared.Described.TheVariants.{Written, NoRoom, Nothing as NoDescription}
-use Rattle.describe.specs.Describe.{Words, Said, describe, front, signs, types, operations, moves, memories, into}
+use Rattle.describe.specs.declared.NoRoom.{NoRoom}
+use Rattle.describe.specs.Describe.{Words, Said, otherwise, describe, front, signs, types, operations, moves, memories, into}
 
 -- what all words say, one after another
 abbrev pub all_said : Words → List ℕ
@@ -21,49 +17,48 @@ all_said (w ∷ ws) = w.1 ++ all_said ws
 abbrev pub said : List ℕ
 said = all_said (front ++ signs ++ types ++ operations ++ moves ++ memories ++ into)
 
--- n bytes of it from a place on
-abbrev pub say_at : ℕ → ℕ → List ℕ
-say_at at zero = []
-say_at at (suc n) = get_or said at 0 ∷ say_at (at + 1) n
-
-abbrev pub say : Saying → List ℕ
-say s = say_at s.at s.len
-
--- the words of a table: letters, how many of them count, and the two numbers of what they say
-abbrev pub table_of : List (List ℕ) → List ℕ → List (List ℕ) → Words
-table_of [] ls ss = []
-table_of (w ∷ ws) ls ss = (take (get_or ls 0 0) w, say_at (get_or (get_or ss 0 []) 0 0) (get_or (get_or ss 0 []) 1 0)) ∷ table_of ws (drop 1 ls) (drop 1 ss)
+-- the words of a list in the code
+abbrev pub words_of : List Word → Words
+words_of words = map (λ w. (w.letters.now, w.says.now)) words
 
 -- what the code takes off a name, as a step of the definition says it
-abbrev pub said_by : List ℕ → Taken → Said
-said_by name (Took says next) = some (say says, drop next name)
-said_by name Nothing = none
+abbrev pub said_by : Optional Taken → Said
+said_by None = none
+said_by (Some t) = some (t.says.now, t.rest.now)
 
--- a word that may be missing
-abbrev pub taken : Taken → ℕ → Piece
-taken (Took says next) at = record { says = says; next = next }
-taken Nothing at = record { says = record { at = 0; len = 0 }; next = at }
+-- what a word that may be missing comes to: a missing word says nothing and takes nothing
+abbrev pub unless_missing : Said → List ℕ → Said
+unless_missing word name = otherwise (λ rest. some ([], rest)) name word
 
 -- what a whole sentence says
 abbrev pub sentence : Sentence → List ℕ
-sentence s = say s.sign ++ (say s.kind ++ (say s.verb ++ (say s.memory ++ say s.into)))
+sentence s = s.sign.now ++ (s.kind.now ++ (s.verb.now ++ (s.memory.now ++ s.into.now)))
 
-abbrev pub sentence_in : Parsed → Option (List ℕ)
-sentence_in (Whole s) = some (sentence s)
-sentence_in NoSentence = none
+abbrev pub sentence_in : Optional Sentence → Option (List ℕ)
+sentence_in None = none
+sentence_in (Some s) = some (sentence s)
+
+-- how long a description is, if there is one
+abbrev pub length_in : Option (List ℕ) → ℕ
+length_in none = 0
+length_in (some t) = length t
 
 -- a text stored from a place on, and where it ends
 pub record Put (before : List ℕ) (at : ℕ) (t after : List ℕ) (end : ℕ) : Type 0 where
   pub ends : end ≡ at + length t
   pub stored : after ≡ sets before at t
 
--- the answer, and the lent memory: the text, and what stood behind it; too little memory is left as it was, and so it is where there is no description
-abbrev pub fitted : List ℕ → List ℕ → Described × List ℕ
-fitted t out = if leb (length t) (length out) then (Written (length t), t ++ drop (length t) out) else (NoRoom, out)
+-- what the code answers: how many bytes of description were written, if the name has one, or that they do not fit
+abbrev pub Answer : Type 0
+Answer = Result (Optional ℕ) NoRoom
 
-abbrev pub answered : Option (List ℕ) → List ℕ → Described × List ℕ
-answered none out = (NoDescription, out)
+-- the answer, and the lent memory: the text, and what stood behind it; too little memory is left as it was, and so it is where there is no description
+abbrev pub fitted : List ℕ → List ℕ → Answer × List ℕ
+fitted t out = if leb (length t) (length out) then (Ok (Some (length t)), t ++ drop (length t) out) else (Err (record {}), out)
+
+abbrev pub answered : Option (List ℕ) → List ℕ → Answer × List ℕ
+answered none out = (Ok None, out)
 answered (some t) out = fitted t out
 
-abbrev pub described : List ℕ → List ℕ → Described × List ℕ
+abbrev pub described : List ℕ → List ℕ → Answer × List ℕ
 described name out = answered (describe name) out

@@ -2,5 +2,6 @@
 pub mod Describe
 pub mod Described
 pub mod WordLaws
+pub mod SpokenLaws
 pub mod DescribedLaws
 pub mod OneOutcome

@@ -1,109 +1,74 @@
 // Descriptions of names, found as at51's `parse_description` does: in each list the first word that
 // fits is taken, and never reconsidered.
-ghost use Rattle.std.specs.Prelude.{◌≡◌, ◌+◌, ◌≤◌, length, drop};
+ghost use Rattle.std.specs.Prelude.{◌≡◌, ◌+◌, ◌≤◌, length};
 ghost use Rattle.describe.specs.Describe.{describe as definition, said_in, more, moving};
-ghost use Rattle.describe.specs.Described.{say, sentence, sentence_in, taken, Put, described};
+ghost use Rattle.describe.specs.Described.{said_by, sentence, sentence_in, unless_missing, Put, described};
 
-use crate::words::{Saying, Taken};
-use crate::{Described, Parsed, Piece, Sentence};
+use crate::words::Taken;
+use crate::{NoRoom, Sentence, vocabulary};
 
-// A word that may be missing at the place `at`.
-fn perhaps(word: Taken, at: usize) -> Piece
-    ensures { result ≡ taken word at }
+// A word that may be missing at the front of `name`: a missing word says nothing, and the name stays.
+fn perhaps<'a>(word: Option<Taken<'a>>, name: &'a [u8]) -> Taken<'a>
+    ensures { said_by (Some result) ≡ unless_missing (said_by word.entry) name.now }
 {
-    match word {
-        Taken::Took(says, next) => Piece { says, next },
-        Taken::Nothing => {
-            let says = Saying { at: 0, len: 0 };
-            Piece { says, next: at }
-        }
-    }
+    word.unwrap_or(Taken {
+        says: b"",
+        rest: name,
+    })
 }
 
-// The description of a load or a store, whose words start at `at`: a move, a memory, and perhaps 0.
+// The description of a load or a store, with whose words `name` begins: a move, a memory, and perhaps 0.
 // The sign and the type come before them.
-fn parse_moving(name: &[u8], at: usize, sign: Saying, kind: Saying) -> Parsed
-    ensures { sentence_in result ≡ said_in (more (say sign) (more (say kind) (moving (drop at name.now)))) }
+fn parse_moving(name: &[u8], sign: &'static [u8], kind: &'static [u8]) -> Option<Sentence>
+    ensures { sentence_in result ≡ said_in (more sign.now (more kind.now (moving name.now))) }
 {
-    let Taken::Took(verb, from) = crate::vocabulary::movement(name, at) else {
-        return Parsed::Nothing;
-    };
-    let Taken::Took(memory, end) = crate::vocabulary::memory(name, from) else {
-        return Parsed::Nothing;
-    };
-    let zero = crate::vocabulary::try_word(name, end, *b"0    ", 1, Saying { at: 395, len: 11 });
-    let last = perhaps(zero, end);
-    let into = last.says;
-    Parsed::Whole(Sentence {
+    let verb = vocabulary::movement(name)?;
+    let memory = vocabulary::memory(verb.rest)?;
+    let into = perhaps(vocabulary::registers(memory.rest), memory.rest);
+    Some(Sentence {
         sign,
         kind,
-        verb,
-        memory,
-        into,
+        verb: verb.says,
+        memory: memory.says,
+        into: into.says,
     })
 }
 
 // What the words of a name say: `?C?`, perhaps a sign, a type, and then an operation, or else a load or a store.
-fn parse(name: &[u8]) -> Parsed
+fn parse(name: &[u8]) -> Option<Sentence>
     ensures { sentence_in result ≡ definition name.now }
 {
-    let Taken::Took(_, from) = crate::vocabulary::try_word(
-        name,
-        0,
-        *b"?C?  ",
-        3,
-        Saying { at: 0, len: 0 },
-    ) else {
-        return Parsed::Nothing;
+    let front = vocabulary::front(name)?;
+    let sign = perhaps(vocabulary::sign(front.rest), front.rest);
+    let kind = vocabulary::kind(sign.rest)?;
+    let Some(verb) = vocabulary::operation(kind.rest) else {
+        return parse_moving(kind.rest, sign.says, kind.says);
     };
-    let first = perhaps(crate::vocabulary::sign(name, from), from);
-    let sign = first.says;
-    let Taken::Took(kind, at) = crate::vocabulary::kind(name, first.next) else {
-        return Parsed::Nothing;
-    };
-    let Taken::Took(verb, _) = crate::vocabulary::operation(name, at) else {
-        return parse_moving(name, at, sign, kind);
-    };
-    let memory = Saying { at: 0, len: 0 };
-    let into = Saying { at: 0, len: 0 };
-    Parsed::Whole(Sentence {
-        sign,
-        kind,
-        verb,
-        memory,
-        into,
+    Some(Sentence {
+        sign: sign.says,
+        kind: kind.says,
+        verb: verb.says,
+        memory: b"",
+        into: b"",
     })
 }
 
 // How many bytes a sentence takes.
 fn size(s: Sentence) -> usize
+    requires { length (sentence s) ≤ 88 }
     ensures { result ≡ length (sentence s) }
 {
-    let sign = s.sign;
-    let kind = s.kind;
-    let verb = s.verb;
-    let memory = s.memory;
-    let into = s.into;
-    sign.len as usize
-        + kind.len as usize
-        + verb.len as usize
-        + memory.len as usize
-        + into.len as usize
+    s.sign.len() + s.kind.len() + s.verb.len() + s.memory.len() + s.into.len()
 }
 
-// Writes what one word says at a place of the buffer, and answers where it ends.
-fn put(out: &mut [u8], at: usize, s: Saying) -> usize
-    requires { at + length (say s) ≤ length out.old }
-    ensures { Put out.old at (say s) out.new result }
+// Puts a text at a place of the buffer, and answers where it ends.
+pub fn put(out: &mut [u8], at: usize, text: &[u8]) -> usize
+    requires { at + length text.now ≤ length out.old }
+    ensures { Put out.old at text.now out.new result }
 {
-    let from = s.at as usize;
-    let n = s.len as usize;
-    let mut j = 0;
-    while j < n {
-        out[at + j] = crate::vocabulary::said_at(from + j);
-        j += 1;
-    }
-    at + n
+    let end = at + text.len();
+    out[at..end].copy_from_slice(text);
+    end
 }
 
 // Writes a sentence into the buffer, and answers how many bytes it takes.
@@ -111,29 +76,23 @@ fn write(out: &mut [u8], s: Sentence) -> usize
     requires { length (sentence s) ≤ length out.old }
     ensures { Put out.old 0 (sentence s) out.new result }
 {
-    let sign = s.sign;
-    let kind = s.kind;
-    let verb = s.verb;
-    let memory = s.memory;
-    let into = s.into;
-    let a = put(out, 0, sign);
-    let b = put(out, a, kind);
-    let c = put(out, b, verb);
-    let d = put(out, c, memory);
-    put(out, d, into)
+    let a = put(out, 0, s.sign);
+    let b = put(out, a, s.kind);
+    let c = put(out, b, s.verb);
+    let d = put(out, c, s.memory);
+    put(out, d, s.into)
 }
 
-// Writes the description of a name into `out`, if the name has one and it fits; otherwise `out` stays as it was.
-pub fn describe(name: &[u8], out: &mut [u8]) -> Described
+// Writes the description of a name into `out`, if the name has one and it fits, and answers how many bytes it has;
+// otherwise `out` stays as it was.
+pub fn describe(name: &[u8], out: &mut [u8]) -> Result<Option<usize>, NoRoom>
     ensures { (result, out.new) ≡ described name.now out.old }
 {
-    match parse(name) {
-        Parsed::Whole(s) => {
-            if out.len() < size(s) {
-                return Described::NoRoom;
-            }
-            Described::Written(write(out, s))
-        }
-        Parsed::Nothing => Described::Nothing,
+    let Some(said) = parse(name) else {
+        return Ok(None);
+    };
+    if out.len() < size(said) {
+        return Err(NoRoom);
     }
+    Ok(Some(write(out, said)))
 }

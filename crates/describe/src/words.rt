@@ -1,15 +1,15 @@
-// Words that are taken off a name.
+// Words that are taken off the front of a name.
 
-// What a word says: a part of `SAID` in vocabulary.rt.
+// A word of a list: its letters, and what it says.
 #[derive(Clone, Copy)]
-pub struct Saying {
-    pub at: u16,
-    pub len: u16,
+pub struct Word {
+    pub letters: &'static [u8],
+    pub says: &'static [u8],
 }
 
-// A word taken off a name: what it says, and where the rest of the name starts; or that no word fits.
+// A word taken off a name: what it says, and the rest of the name.
 #[derive(Clone, Copy)]
-pub enum Taken {
-    Took(Saying, usize),
-    Nothing,
+pub struct Taken<'a> {
+    pub says: &'static [u8],
+    pub rest: &'a [u8],
 }

@@ -4,7 +4,8 @@ use crate::show::{NOTHING, number, say};
 use image::fixup::Rules;
 use lent::part::Part;
 use search::depth::first_failed;
-use search_rules::{Failed, Why};
+use search::{StoredSegments, View};
+use search_rules::Why;
 
 // Segment 0: one byte of a pattern, which may stand anywhere.
 const SEGMENTS: [u64; 8] = [0, 0, 0, 1, 0, 3, 0, 0];
@@ -22,23 +23,20 @@ fn reason(rt: &impl Print, why: Why) {
 
 fn first(rt: &impl Print, image: &[u8], s: &[u64], depth: u64, count: usize) {
     let part = Part { at: 0, len: count };
-    match first_failed(
-        image,
-        s,
-        Rules::Documented,
-        depth,
-        0,
-        &SEGMENTS,
-        1,
-        &REFERENCES,
-        part,
-        b"\x22",
-        b"\xff",
-    ) {
-        Failed::Nothing => say(rt, b" none"),
-        Failed::Reference { number: n, why } => {
-            number(rt, n);
-            reason(rt, why);
+    let view = View { image, s };
+    let store = StoredSegments {
+        segments: &SEGMENTS,
+        n: 1,
+        references: &REFERENCES,
+        symbols: &NOTHING,
+        bytes: b"\x22",
+        masks: b"\xff",
+    };
+    match first_failed(view, Rules::Documented, depth, 0, store, part) {
+        Ok(()) => say(rt, b" none"),
+        Err(failure) => {
+            number(rt, failure.number);
+            reason(rt, failure.why);
         }
     }
     say(rt, b";");

@@ -6,7 +6,7 @@ mod failed;
 mod show;
 
 use crate::show::{NOTHING, answer, both_rules, byte, matches, number, say, target};
-use describe::Described;
+use describe::NoRoom;
 use image::fixup::{Kind, Rules};
 use lent::part::Part;
 use omf51::{Fixup, ModuleId};
@@ -116,15 +116,9 @@ fn masks(rt: &impl Print) {
 fn description(rt: &impl Print, name: &[u8]) {
     let mut out = [0u8; 80];
     match describe::entry::describe(name, &mut out) {
-        Described::Written(n) => {
-            say(rt, lent::names::name(&out, Part { at: 0, len: n }));
-        }
-        Described::NoRoom => {
-            say(rt, b"no room");
-        }
-        Described::Nothing => {
-            say(rt, b"no description");
-        }
+        Ok(Some(n)) => say(rt, lent::names::name(&out, Part { at: 0, len: n })),
+        Ok(None) => say(rt, b"no description"),
+        Err(NoRoom) => say(rt, b"no room"),
     }
 }
 

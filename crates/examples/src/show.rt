@@ -1,5 +1,4 @@
 // How examples are shown, on standard output.
-use image::FirstPlace;
 use image::fixup::{Kind, Rules, Target};
 
 // No stretch is withheld.
@@ -29,15 +28,13 @@ pub fn answer(rt: &impl Print, yes: bool) {
 // All matches, ascending; more than 16 are not shown.
 fn each_match(rt: &impl Print, image: &[u8], s: &[u64], bytes: &[u8], masks: &[u8]) {
     let mut at: usize = 0;
-    let mut turns: usize = 0;
-    while turns < 16 {
-        turns += 1;
+    for _ in 0..16 {
         match image::next_match(image, s, bytes, masks, at) {
-            FirstPlace::At(p) => {
+            Some(p) => {
                 number(rt, p);
                 at = p.wrapping_add(1);
             }
-            FirstPlace::Nothing => {
+            None => {
                 say(rt, b"\n");
                 return;
             }

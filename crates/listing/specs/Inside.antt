@@ -5,12 +5,11 @@ use Rattle.tables.specs.declared.fill.Fill.{Fill}
 use Rattle.image.specs.declared.fixup.Rules.{Rules}
 use Rattle.tables.specs.by_name.Sheet.{key_buckets}
 use Rattle.listing_rules.specs.declared.Line.{Line}
-use Rattle.listing_rules.specs.declared.Skip.{Skip}
-use Rattle.listing_rules.specs.Listing.{lines_at}
+use Rattle.listing_rules.specs.Listing.{SkipAmount, lines_at}
 use Rattle.listing_rules.specs.FrontLines.{Extends}
 use Rattle.listing.specs.position.RowsAt.{Known, segments_of}
 
-module _ (cells : List ℕ) {rules : Rules} {library segments references : List ℕ} {n : ℕ} {placed positions noted goals : List ℕ} (k : Known rules library segments references n placed positions noted goals) (skip : Skip) where
+module _ (cells : List ℕ) {rules : Rules} {library segments references : List ℕ} {n : ℕ} {placed positions noted goals : List ℕ} (k : Known rules library segments references n placed positions noted goals) (skip : SkipAmount) where
   abbrev pub lines_of : ℕ → List Line
   lines_of at = lines_at library cells k.a (segments_of cells k) k.ps k.ns skip at
 
@@ -18,6 +17,6 @@ module _ (cells : List ℕ) {rules : Rules} {library segments references : List 
   abbrev pub lines_from : ℕ → ℕ → List Line
   lines_from at count = joined lines_of (from at count)
 
-abbrev pub ListsInside : List ℕ → Rules → Skip → List ℕ → List ℕ → ℕ → List ℕ → List ℕ → List ℕ → List ℕ → List ℕ → List ℕ → Fill → List ℕ → Fill → Type 0
+abbrev pub ListsInside : List ℕ → Rules → SkipAmount → List ℕ → List ℕ → ℕ → List ℕ → List ℕ → List ℕ → List ℕ → List ℕ → List ℕ → Fill → List ℕ → Fill → Type 0
 ListsInside cells rules skip library segments n references placed positions noted goals m f m' f' =
     (k : Known rules library segments references n placed positions noted goals) → length cells ≤ key_buckets → Extends (lines_from cells k skip 0 (length cells)) m f m' f'

@@ -12,8 +12,7 @@ use Rattle.tables.specs.by_name.HeadLaws.{head-none}
 use Rattle.tables.specs.by_name.ChainLaws.{head-last}
 use Rattle.search_rules.specs.SearchRows.{placed_sheet, noted_sheet}
 use Rattle.listing_rules.specs.declared.Line.{Line}
-use Rattle.listing_rules.specs.declared.Skip.{Skip}
-use Rattle.listing_rules.specs.Listing.{noted_line, best_grade, best, crowded}
+use Rattle.listing_rules.specs.Listing.{SkipAmount, noted_line, best_grade, best, crowded}
 use Rattle.listing_rules.specs.FrontLines.{Extends, LeadsTo}
 use Rattle.listing_rules.proofs.FrontLineLaws.{extends-none, leads-first, leads-on, leads-same, leads-last}
 use Rattle.listing.specs.position.RowsAt.{Known, stays_at, line_of, noted_at_it}
@@ -25,7 +24,7 @@ use Rattle.listing.specs.Bare.{Skips}
 use Rattle.listing.specs.Inside.{lines_of, lines_from}
 
 -- where nothing was met nothing is listed
-none-listed : (library : List ℕ) (skip : Skip) (all : List Line) → all ≡ [] → listed library skip all ≡ []
+none-listed : (library : List ℕ) (skip : SkipAmount) (all : List Line) → all ≡ [] → listed library skip all ≡ []
 unfolding best best_grade keep fold sorted
 none-listed library skip all e = ap (listed library skip) e ∙ go (crowded skip 0)
   where
@@ -33,7 +32,7 @@ none-listed library skip all e = ap (listed library skip) e ∙ go (crowded skip
     go true = refl
     go false = refl
 
-module _ (cells : List ℕ) {rules : Rules} {library segments references : List ℕ} {n : ℕ} {placed positions noted goals : List ℕ} (k : Known rules library segments references n placed positions noted goals) (skip : Skip) where
+module _ (cells : List ℕ) {rules : Rules} {library segments references : List ℕ} {n : ℕ} {placed positions noted goals : List ℕ} (k : Known rules library segments references n placed positions noted goals) (skip : SkipAmount) where
   -- A POSITION WITHOUT ROWS
   empty-lines : (at : ℕ) → at < key_buckets → get_or positions at 0 ≡ 0 → get_or goals at 0 ≡ 0 → lines_of cells k skip at ≡ []
   empty-lines at small p g =

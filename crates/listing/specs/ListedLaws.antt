@@ -11,8 +11,7 @@ use Rattle.image.specs.declared.fixup.Rules.{Rules}
 use Rattle.tables.specs.by_name.Tables.{table, Tabled}
 use Rattle.search_rules.specs.SearchRows.{noted_sheet}
 use Rattle.search.specs.Fills.{Fitted}
-use Rattle.listing_rules.specs.declared.Skip.{Skip}
-use Rattle.listing_rules.specs.Listing.{lines_at, leftovers, listing, line_width, line_numbers}
+use Rattle.listing_rules.specs.Listing.{SkipAmount, lines_at, leftovers, listing, line_width, line_numbers}
 use Rattle.listing_rules.specs.FrontLines.{Front, Extends}
 use Rattle.listing_rules.proofs.FrontLineLaws.{numbers-length}
 use Rattle.listing.specs.position.RowsAt.{Known, segments_of}
@@ -54,7 +53,7 @@ leaves-cleared m f m' e lines h z =
     ∙ ap (λ xs. xs ++ zeros (length m - length lines * line_width)) (h.fits z).numbers
     ∙ ap (λ k. line_numbers lines ++ zeros (length m - k)) (sym (numbers-length lines))
 
-module _ (cells : List ℕ) (skip : Skip) {rules : Rules} {library segments references : List ℕ} {n : ℕ} {placed positions noted goals : List ℕ} (k : Known rules library segments references n placed positions noted goals) where
+module _ (cells : List ℕ) (skip : SkipAmount) {rules : Rules} {library segments references : List ℕ} {n : ℕ} {placed positions noted goals : List ℕ} (k : Known rules library segments references n placed positions noted goals) where
   pub names-tabled : (names : ℕ) → length k.ns ≡ names → Tabled noted_sheet library k.ns (table noted goals (record { rows = names; over = false }))
   names-tabled names e = subst (λ j. Tabled noted_sheet library k.ns (table noted goals (record { rows = j; over = false }))) e k.sought.notings
 

@@ -1,5 +1,5 @@
 -- What search and list together come to: the answer, and what is left in the lists that were lent for them.
-use Rattle.std.specs.Prelude.{ℕ, List, [], ◌∷◌, ltb, length, if◌then◌else◌}
+use Rattle.std.specs.Prelude.{ℕ, List, [], ◌∷◌, ltb, length, Result, Ok, Err, if◌then◌else◌}
 use Rattle.std.proofs.Math.Option.{Option, none, some}
 use Rattle.lent.specs.declared.refusal.Refusal.{Refusal}
 use Rattle.lent.specs.declared.refusal.Refusal.TheVariants.{ImageTooLong, TooFewRows}
@@ -12,16 +12,17 @@ use Rattle.search_rules.specs.Search.{Placing, Noting, placed, noted}
 use Rattle.search.specs.visit.Visits.{segments_in}
 use Rattle.search.specs.Outcome.{SearchLists as Searchable, too_few, search_zeroed as zeroed_search, search_filled as filled_search}
 use Rattle.listing_rules.specs.declared.Line.{Line}
-use Rattle.listing_rules.specs.declared.Skip.{Skip}
-use Rattle.listing_rules.specs.Listing.{listing, line_width, line_numbers}
+use Rattle.listing_rules.specs.Listing.{SkipAmount, listing, line_width, line_numbers}
 use Rattle.listing.specs.declared.FindCounts.{FindCounts}
-use Rattle.listing.specs.declared.FindAnswer.{FindAnswer}
-use Rattle.listing.specs.declared.FindAnswer.TheVariants.{Done, Refused}
 
 -- the lent lists: those of the search, and that of the lines
 pub record FindLists : Type 0 where
   pub searched : Searchable
   pub lines : List ℕ
+
+-- how many rows and lines were written, or a refusal
+abbrev pub FindAnswer : Type 0
+FindAnswer = Result FindCounts Refusal
 
 -- the answer, and the lent lists afterwards
 pub record FindOutcome : Type 0 where
@@ -35,7 +36,7 @@ pub record Yield : Type 0 where
   pub lines : List Line
 
 -- what search and list give for the cells of a view and some segments
-unfoldable pub yields : List ℕ → Asked → Skip → List ℕ → List Collected → Yield
+unfoldable pub yields : List ℕ → Asked → SkipAmount → List ℕ → List Collected → Yield
 yields cells a skip library gs =
     let p = placed library cells a gs in
     let q = noted library cells a gs in
@@ -67,11 +68,11 @@ counted y = record { placed = length y.placed; noted = length y.noted; lines = l
 
 -- the outcome with a refusal or without: a refusal up to 8 writes nothing, 9 sets all lent lists to zero
 abbrev pub find_outcome_of : List ℕ → Option Refusal → Yield → FindLists → FindOutcome
-find_outcome_of library none y l = record { answer = Done (counted y); left = find_filled library y l }
-find_outcome_of library (some r) y l = record { answer = Refused r; left = if zeroes r then find_zeroed l else l }
+find_outcome_of library none y l = record { answer = Ok (counted y); left = find_filled library y l }
+find_outcome_of library (some r) y l = record { answer = Err r; left = if zeroes r then find_zeroed l else l }
 
 -- THE NAMES FOUND in the view of an image, for the first n segments that are stored
-unfoldable pub find_outcome : List ℕ → Asked → Skip → List ℕ → ℕ → FindLists → FindOutcome
+unfoldable pub find_outcome : List ℕ → Asked → SkipAmount → List ℕ → ℕ → FindLists → FindOutcome
 find_outcome cells a skip library n l =
     let y = yields cells a skip library (segments_in l.searched.stored n) in
     find_outcome_of library (refusal_of cells l y) y l

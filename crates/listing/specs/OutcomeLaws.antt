@@ -1,5 +1,5 @@
 -- The ends of search and list: by what the search came to, and by whether there was room for the lines. Assumes nothing.
-use Rattle.std.specs.Prelude.{ℕ, ◌*◌, ◌<◌, ◌≤◌, ◌≡◌, Bool, List, ltb, if◌then◌else◌}
+use Rattle.std.specs.Prelude.{ℕ, ◌*◌, ◌<◌, ◌≤◌, ◌≡◌, Bool, List, ltb, Ok, Err, if◌then◌else◌, Result}
 use Rattle.std.proofs.Math.Path.{refl, sym, ap, subst}
 use Rattle.std.proofs.Common.{◌∙◌, arith, lt-ltb, le-ltb}
 use Rattle.std.proofs.Math.Bool.{true, false}
@@ -15,29 +15,26 @@ use Rattle.segments.specs.Collect.{Collected}
 use Rattle.search_rules.specs.declared.Asked.{Asked}
 use Rattle.search_rules.specs.Search.{Placing, Noting, placed, noted}
 use Rattle.search.specs.declared.SearchCounts.{SearchCounts}
-use Rattle.search.specs.declared.Searched.{Searched}
 use Rattle.search.specs.visit.Visits.{segments_in}
 use Rattle.search.specs.Outcome.{SearchLists as Searchable, too_few, refusal_of as search_refusal, search_zeroed as zeroed_search, search_filled as filled_search, search_outcome_of as search_outcome, searched}
 use Rattle.search.specs.Fills.{Fitted, Sought}
 use Rattle.search.specs.EndLaws.{zeroed-same}
-use Rattle.listing_rules.specs.declared.Skip.{Skip}
-use Rattle.listing_rules.specs.Listing.{listing, line_width, line_numbers}
-use Rattle.listing.specs.declared.FindAnswer.TheVariants.{Done, Refused}
+use Rattle.listing_rules.specs.Listing.{SkipAmount, listing, line_width, line_numbers}
 use Rattle.listing.specs.Outcome.{FindLists, Yield, yields, refusal_of, find_zeroed, counted, find_outcome_of, find_outcome}
 use Rattle.listing.specs.Listed.{ListsRows}
 
 -- what a search's answer says
-is_done : Searched → Bool
-is_done (Searched.Done rows) = true
-is_done (Searched.Refused r) = false
+is_done : Result SearchCounts Refusal → Bool
+is_done (Ok rows) = true
+is_done (Err r) = false
 
-rows_in : Searched → SearchCounts
-rows_in (Searched.Done rows) = rows
-rows_in (Searched.Refused r) = record { placed = 0; noted = 0 }
+rows_in : Result SearchCounts Refusal → SearchCounts
+rows_in (Ok rows) = rows
+rows_in (Err r) = record { placed = 0; noted = 0 }
 
-refusal_in : Searched → Refusal
-refusal_in (Searched.Done rows) = TooFewRows
-refusal_in (Searched.Refused r) = r
+refusal_in : Result SearchCounts Refusal → Refusal
+refusal_in (Ok rows) = TooFewRows
+refusal_in (Err r) = r
 
 module _ (cells : List ℕ) (a : Asked) (library : List ℕ) (n : ℕ) (l : Searchable) where
   abbrev gs : List Collected
@@ -65,7 +62,7 @@ module _ (cells : List ℕ) (a : Asked) (library : List ℕ) (n : ℕ) (l : Sear
       pub numbers : rows ≡ record { placed = length ps; noted = length ns }
       pub memory : left ≡ filled_search library ps ns l
 
-    pub search-done : (rows : SearchCounts) (left : Searchable) → record { answer = Searched.Done rows; left = left } ≡ searched cells a library n l → SearchDone rows left
+    pub search-done : (rows : SearchCounts) (left : Searchable) → record { answer = Ok rows; left = left } ≡ searched cells a library n l → SearchDone rows left
     unfolding is_done rows_in
     search-done rows left e = go (too_few l ps ns) refl
       where
@@ -79,7 +76,7 @@ module _ (cells : List ℕ) (a : Asked) (library : List ℕ) (n : ℕ) (l : Sear
       pub refusal : r ≡ TooFewRows
       pub memory : left ≡ zeroed_search l
 
-    pub search-refused : (r : Refusal) (left : Searchable) → record { answer = Searched.Refused r; left = left } ≡ searched cells a library n l → SearchRefused r left
+    pub search-refused : (r : Refusal) (left : Searchable) → record { answer = Err r; left = left } ≡ searched cells a library n l → SearchRefused r left
     unfolding is_done refusal_in
     search-refused r left e = go (too_few l ps ns) refl
       where
@@ -87,12 +84,12 @@ module _ (cells : List ℕ) (a : Asked) (library : List ℕ) (n : ℕ) (l : Sear
         go true f = let q = e ∙ searched-is true f in record { full = f; refusal = ap (λ o. refusal_in o.answer) q; memory = ap (λ o. o.left) q }
         go false f = absurd (false≢true (ap (λ o. is_done o.answer) (e ∙ searched-is false f)))
 
-module _ (cells : List ℕ) (a : Asked) (skip : Skip) (library : List ℕ) (n : ℕ) (l : FindLists) where
+module _ (cells : List ℕ) (a : Asked) (skip : SkipAmount) (library : List ℕ) (n : ℕ) (l : FindLists) where
   abbrev y : Yield
   y = yields cells a skip library (segments_in l.searched.stored n)
 
   -- an image that is too long is refused, and nothing is written
-  pub long-is : 65536 < length cells → record { answer = Refused ImageTooLong; left = l } ≡ find_outcome cells a skip library n l
+  pub long-is : 65536 < length cells → record { answer = Err ImageTooLong; left = l } ≡ find_outcome cells a skip library n l
   unfolding find_outcome refusal_of leading
   long-is h = rw (lt-ltb 65536 (length cells) h)
 
@@ -106,12 +103,12 @@ module _ (cells : List ℕ) (a : Asked) (skip : Skip) (library : List ℕ) (n : 
 
     -- TOO FEW ROWS for the search
     pub refused-is : (r : Refusal) (left : Searchable) (lines : List ℕ) → SearchRefused cells a library n l.searched short r left → lines ≡ zeros (length l.lines)
-        → record { answer = Refused r; left = record { searched = left; lines = lines } } ≡ find_outcome cells a skip library n l
+        → record { answer = Err r; left = record { searched = left; lines = lines } } ≡ find_outcome cells a skip library n l
     unfolding yields
     refused-is r left lines h z =
-        ap (λ q. record { answer = Refused q; left = record { searched = left; lines = lines } }) h.refusal
-        ∙ ap (λ x. record { answer = Refused TooFewRows; left = record { searched = x; lines = lines } }) h.memory
-        ∙ ap (λ x. record { answer = Refused TooFewRows; left = record { searched = zeroed_search l.searched; lines = x } }) z
+        ap (λ q. record { answer = Err q; left = record { searched = left; lines = lines } }) h.refusal
+        ∙ ap (λ x. record { answer = Err TooFewRows; left = record { searched = x; lines = lines } }) h.memory
+        ∙ ap (λ x. record { answer = Err TooFewRows; left = record { searched = zeroed_search l.searched; lines = x } }) z
         ∙ sym (found-by true (ltb (length l.lines) (length y.lines * line_width)) h.full refl)
 
     -- THE LINES are those of the rows that the search left, or there are too few for them
@@ -124,19 +121,19 @@ module _ (cells : List ℕ) (a : Asked) (skip : Skip) (library : List ℕ) (n : 
           go true e = lt-ltb (length l.lines) (length y.lines * line_width) (fitted.over e)
           go false e = let r = fitted.room e in le-ltb (length l.lines) (length y.lines * line_width) (omega (arith, r))
 
-      pub lacks-is : f.over ≡ true → record { answer = Refused TooFewRows; left = find_zeroed l } ≡ find_outcome cells a skip library n l
+      pub lacks-is : f.over ≡ true → record { answer = Err TooFewRows; left = find_zeroed l } ≡ find_outcome cells a skip library n l
       unfolding yields
       lacks-is e = sym (found-by false true h.room (lines-over ∙ e))
 
       pub done-is : f.over ≡ false
-          → record { answer = Done (record { placed = rows.placed; noted = rows.noted; lines = f.rows }); left = record { searched = left; lines = lines } } ≡ find_outcome cells a skip library n l
+          → record { answer = Ok (record { placed = rows.placed; noted = rows.noted; lines = f.rows }); left = record { searched = left; lines = lines } } ≡ find_outcome cells a skip library n l
       unfolding yields
       done-is e =
           let fit = fitted.fits e in
-          ap (λ (r : SearchCounts). record { answer = Done (record { placed = r.placed; noted = r.noted; lines = f.rows }); left = record { searched = left; lines = lines } }) h.numbers
-          ∙ ap (λ k. record { answer = Done (record { placed = length y.placed; noted = length y.noted; lines = k }); left = record { searched = left; lines = lines } }) fit.1
-          ∙ ap (λ x. record { answer = Done (counted y); left = record { searched = x; lines = lines } }) h.memory
-          ∙ ap (λ x. record { answer = Done (counted y); left = record { searched = filled_search library y.placed y.noted l.searched; lines = x } }) fit.0
+          ap (λ (r : SearchCounts). record { answer = Ok (record { placed = r.placed; noted = r.noted; lines = f.rows }); left = record { searched = left; lines = lines } }) h.numbers
+          ∙ ap (λ k. record { answer = Ok (record { placed = length y.placed; noted = length y.noted; lines = k }); left = record { searched = left; lines = lines } }) fit.1
+          ∙ ap (λ x. record { answer = Ok (counted y); left = record { searched = x; lines = lines } }) h.memory
+          ∙ ap (λ x. record { answer = Ok (counted y); left = record { searched = filled_search library y.placed y.noted l.searched; lines = x } }) fit.0
           ∙ sym (found-by false false h.room (lines-over ∙ e))
 
 -- THE ROWS that the search left, as the listing knows them
@@ -148,7 +145,7 @@ module _ (cells : List ℕ) (a : Asked) (library : List ℕ) (n : ℕ) (l : Sear
   found-ns = noted library cells a (segments_in l.stored n)
 
   -- the list of those rows is what is found
-  pub lines-found : (skip : Skip) (rows : SearchCounts) (left : Searchable) → SearchDone cells a library n l short rows left
+  pub lines-found : (skip : SkipAmount) (rows : SearchCounts) (left : Searchable) → SearchDone cells a library n l short rows left
       → (positions goals : List ℕ) → Sought library found-ps found-ns left.placed positions left.noted goals → (lines lines' : List ℕ) (f : Fill)
       → ListsRows cells a.rules skip library left.stored.segments n left.stored.references left.placed positions left.noted goals rows.noted lines lines' f
       → Fitted line_width (length (yields cells a skip library (segments_in l.stored n)).lines) (line_numbers (yields cells a skip library (segments_in l.stored n)).lines) lines lines' f

@@ -4,11 +4,10 @@ ghost use Rattle.lent.specs.Rows.{zeros};
 ghost use Rattle.image.specs.View.{stretches_in, view};
 ghost use Rattle.listing.specs.Listed.{Leaves, ListsRows};
 
+use crate::Found;
 use crate::inside::list_inside;
 use crate::past_end::list_beyond;
 use image::fixup::Rules;
-use lent::rows::clear;
-use listing_rules::Skip;
 use listing_rules::rows::LINE_WIDTH;
 use tables::fill::Fill;
 
@@ -20,7 +19,7 @@ fn clear_behind(m: &mut [u64], count: usize)
     if end < count {
         return;
     }
-    clear(&mut m[count..end]);
+    m[count..end].fill(0);
 }
 
 // Clears the memory behind the lines, where lines may stand that were not listed in the end. If there are too many
@@ -44,41 +43,28 @@ pub fn list_rows(
     image: &[u8],
     s: &[u64],
     rules: Rules,
-    skip: Skip,
-    library: &[u8],
-    segments: &[u64],
-    n: usize,
-    references: &[u64],
-    placed: &[u64],
-    positions: &[u32],
-    noted: &[u64],
-    goals: &[u32],
+    found: &Found,
+    skip: Option<usize>,
     names: usize,
     lines: &mut [u64],
 ) -> Fill
-    ensures { ListsRows (view image.now (stretches_in s.now)) rules skip library.now
-        segments.now n references.now placed.now positions.now noted.now goals.now names lines.old lines.new result }
+    ensures { let d = found.now in ListsRows (view image.now (stretches_in s.now)) rules skip d.library.now
+        d.segments.now d.n d.references.now d.placed.now d.positions.now d.noted.now d.goals.now names lines.old lines.new result }
 {
-    let inside = list_inside(
-        image,
-        s,
-        rules,
+    let none = Fill {
+        rows: 0,
+        over: false,
+    };
+    let inside = list_inside(image, s, rules, found, skip, lines, none);
+    let all = list_beyond(
+        found.noted,
+        names,
+        found.goals,
+        image.len(),
         skip,
-        library,
-        segments,
-        n,
-        references,
-        placed,
-        positions,
-        noted,
-        goals,
         lines,
-        Fill {
-            rows: 0,
-            over: false,
-        },
+        inside,
     );
-    let all = list_beyond(noted, names, goals, image.len(), skip, lines, inside);
     leave(lines, all);
     all
 }

@@ -14,34 +14,19 @@ fn is_bare(positions: &[u32], goals: &[u32], at: usize) -> bool
     ensures { IsBare positions.now goals.now at result }
 {
     let mut some = 0;
-    let mut j = 0;
-    while j < PART {
-        some = some | (positions[at + j] | goals[at + j]);
-        j += 1;
+    for j in 0..PART {
+        some |= positions[at + j] | goals[at + j];
     }
     some == 0
-}
-
-// The lesser of two numbers.
-fn lesser(a: usize, b: usize) -> usize
-    ensures { (result ≤ a) × (result ≤ b) }
-{
-    if a < b { a } else { b }
 }
 
 // Passes over positions without rows from `from` on, part by part.
 fn skip_parts(positions: &[u32], goals: &[u32], from: usize, end: usize) -> usize
     ensures { Skips positions.now goals.now from end result }
 {
-    let most = lesser(end, lesser(positions.len(), goals.len()));
+    let most = end.min(positions.len()).min(goals.len());
     let mut at = from;
-    while at < most {
-        if most - at < PART {
-            return at;
-        }
-        if !is_bare(positions, goals, at) {
-            return at;
-        }
+    while at < most && PART <= most - at && is_bare(positions, goals, at) {
         at += PART;
     }
     at
@@ -52,13 +37,7 @@ pub fn skip_bare(positions: &[u32], goals: &[u32], from: usize, end: usize) -> u
     ensures { Skips positions.now goals.now from end result }
 {
     let mut at = from;
-    while at < end {
-        if number_at(positions, at) != 0 {
-            return at;
-        }
-        if number_at(goals, at) != 0 {
-            return at;
-        }
+    while at < end && number_at(positions, at) == 0 && number_at(goals, at) == 0 {
         at = skip_parts(positions, goals, at + 1, end);
     }
     at

@@ -4,10 +4,8 @@ ghost use Rattle.search.specs.visit.Visits.{stored};
 ghost use Rattle.listing.specs.Ends.{ListsFound};
 
 use crate::all_rows::list_rows;
-use crate::{FindAnswer, FindCounts};
+use crate::{FindCounts, Found};
 use lent::refusal::Refusal;
-use lent::rows::clear;
-use listing_rules::Skip;
 use search::SearchCounts;
 use search::entry::clear_all;
 use search_rules::Asked;
@@ -19,7 +17,7 @@ pub fn list(
     image: &[u8],
     s: &[u64],
     asked: Asked,
-    skip: Skip,
+    skip: Option<usize>,
     library: &[u8],
     n: usize,
     segments: &mut [u64],
@@ -33,22 +31,28 @@ pub fn list(
     positions: &[u32],
     goals: &[u32],
     rows: SearchCounts,
-) -> FindAnswer
+) -> Result<FindCounts, Refusal>
     ensures { ListsFound (view image.now (stretches_in s.now)) asked skip library.now n rows
         (record { stored = stored segments.old references.old symbols.old bytes.old masks.old; placed = placed.old; noted = noted.old }) positions.now goals.now lines.old result
         (record { stored = stored segments.new references.new symbols.new bytes.new masks.new; placed = placed.new; noted = noted.new }) lines.new }
 {
-    let rules = asked.rules;
-    let f = list_rows(
-        image, s, rules, skip, library, segments, n, references, placed, positions, noted, goals,
-        rows.noted, lines,
-    );
+    let found = Found {
+        library,
+        segments,
+        n,
+        references,
+        placed,
+        positions,
+        noted,
+        goals,
+    };
+    let f = list_rows(image, s, asked.rules, &found, skip, rows.noted, lines);
     if f.over {
         clear_all(segments, references, symbols, bytes, masks, placed, noted);
-        clear(lines);
-        return FindAnswer::Refused(Refusal::TooFewRows);
+        lines.fill(0);
+        return Err(Refusal::TooFewRows);
     }
-    FindAnswer::Done(FindCounts {
+    Ok(FindCounts {
         placed: rows.placed,
         noted: rows.noted,
         lines: f.rows,

@@ -6,6 +6,7 @@ ghost use Rattle.segments.specs.SegmentLayouts.{reference_layout};
 ghost use Rattle.segments.specs.recalled.Recall.{rows_of};
 ghost use Rattle.listing.specs.grade.Grades.{is_found, bears_out, is_borne, row_grade};
 
+use crate::Found;
 use image::fixup::{Rules, Target};
 use lent::part::Part;
 use search::targets::target_of;
@@ -30,13 +31,11 @@ fn bears_out(
     image: &[u8],
     s: &[u64],
     rules: Rules,
-    library: &[u8],
-    placed: &[u64],
-    positions: &[u32],
+    found: &Found,
     base: usize,
     r: Reference,
 ) -> bool
-    ensures { result ≡ bears_out (is_found library.now 8 placed.now positions.now) (view image.now (stretches_in s.now)) rules base r }
+    ensures { let f = found.now in result ≡ bears_out (is_found f.library.now 8 f.placed.now f.positions.now) (view image.now (stretches_in s.now)) rules base r }
 {
     let goal = r.goal;
     match target_of(image, s, rules, base, r) {
@@ -46,37 +45,30 @@ fn bears_out(
             let Goal::Name(name) = goal else {
                 return true;
             };
-            is_found(library, PLACED_WIDTH, placed, positions, t, name)
+            is_found(
+                found.library,
+                PLACED_WIDTH,
+                found.placed,
+                found.positions,
+                t,
+                name,
+            )
         }
     }
 }
 
 // Whether all references in a part of the rows bear out the match at `base`.
-fn bear_out(
-    image: &[u8],
-    s: &[u64],
-    rules: Rules,
-    library: &[u8],
-    references: &[u64],
-    part: Part,
-    placed: &[u64],
-    positions: &[u32],
-    base: usize,
-) -> bool
-    ensures { result ≡ all (bears_out (is_found library.now 8 placed.now positions.now) (view image.now (stretches_in s.now)) rules base) (rows_of reference_layout references.now part) }
+fn bear_out(image: &[u8], s: &[u64], rules: Rules, found: &Found, part: Part, base: usize) -> bool
+    ensures { let f = found.now in result ≡ all (bears_out (is_found f.library.now 8 f.placed.now f.positions.now) (view image.now (stretches_in s.now)) rules base) (rows_of reference_layout f.references.now part) }
 {
-    let at = part.at;
-    let len = part.len;
-    if !lies_within(part, references.len() / REFERENCE_WIDTH) {
+    if !lies_within(part, found.references.len() / REFERENCE_WIDTH) {
         return true;
     }
-    let mut k = 0;
-    while k < len {
-        let r = reference_at(references, at + k);
-        if !bears_out(image, s, rules, library, placed, positions, base, r) {
+    for k in 0..part.len {
+        let r = reference_at(found.references, part.at + k);
+        if !bears_out(image, s, rules, found, base, r) {
             return false;
         }
-        k += 1;
     }
     true
 }
@@ -87,76 +79,38 @@ fn is_borne(
     image: &[u8],
     s: &[u64],
     rules: Rules,
-    library: &[u8],
-    segments: &[u64],
-    n: usize,
-    references: &[u64],
-    placed: &[u64],
-    positions: &[u32],
+    found: &Found,
     number: SegmentNumber,
     base: usize,
 ) -> bool
-    ensures { result ≡ is_borne (view image.now (stretches_in s.now)) library.now rules segments.now references.now n placed.now positions.now number.0 base }
+    ensures { let f = found.now in result ≡ is_borne (view image.now (stretches_in s.now)) f.library.now rules f.segments.now f.references.now f.n f.placed.now f.positions.now number.0 base }
 {
     let i = number.0;
-    if n <= i {
+    if found.n <= i {
         return true;
     }
-    let row = segment_at(segments, i);
-    bear_out(
-        image,
-        s,
-        rules,
-        library,
-        references,
-        row.references,
-        placed,
-        positions,
-        base,
-    )
+    let row = segment_at(found.segments, i);
+    bear_out(image, s, rules, found, row.references, base)
 }
 
-// Whether a placed symbol is graded at all: it is valid, or its name is noted at its position (`there`).
-fn is_kept(valid: bool, there: bool) -> bool
-    ensures { result ≡ (valid || there) }
-{
-    valid || there
-}
-
-// The grade of the placed symbol `row`, 1 to 3; 0 for a symbol that is not graded. Rows of placed symbols are found by
-// the heads `positions`, rows of noted names by the heads `goals`; image, stretches, rules, segments and references give
-// the targets of the symbol's match.
-pub fn grade(
-    image: &[u8],
-    s: &[u64],
-    rules: Rules,
-    library: &[u8],
-    segments: &[u64],
-    n: usize,
-    references: &[u64],
-    placed: &[u64],
-    positions: &[u32],
-    noted: &[u64],
-    goals: &[u32],
-    row: Placed,
-) -> u8
-    ensures { result ≡ row_grade (view image.now (stretches_in s.now)) library.now rules segments.now references.now n placed.now positions.now noted.now goals.now row }
+// The grade of the placed symbol `row`, 1 to 3; 0 for a symbol that is not graded: it is neither valid, nor is its name
+// noted at its position. Image, stretches, rules, segments and references give the targets of the symbol's match.
+pub fn grade(image: &[u8], s: &[u64], rules: Rules, found: &Found, row: Placed) -> u8
+    ensures { let f = found.now in result ≡ row_grade (view image.now (stretches_in s.now)) f.library.now rules f.segments.now f.references.now f.n f.placed.now f.positions.now f.noted.now f.goals.now row }
 {
     let number = row.segment;
     let there = is_found(
-        library,
+        found.library,
         NOTED_WIDTH,
-        noted,
-        goals,
+        found.noted,
+        found.goals,
         row.position as u64,
         row.name,
     );
-    if !is_kept(row.valid, there) {
+    if !row.valid && !there {
         return 0;
     }
-    if !is_borne(
-        image, s, rules, library, segments, n, references, placed, positions, number, row.base,
-    ) {
+    if !is_borne(image, s, rules, found, number, row.base) {
         return 1;
     }
     if there { 3 } else { 2 }

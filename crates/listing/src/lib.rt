@@ -10,7 +10,20 @@ pub mod order;
 pub mod past_end;
 pub mod position;
 
-use lent::refusal::Refusal;
+// What a search left, and what it looked for: the library, the first n segments with their references, the rows of
+// placed symbols and of noted names, and the heads of their buckets.
+// The image stands beside it: as a field of this struct the run takes 1 % more instructions on zeros-referring.
+#[derive(Clone, Copy)]
+pub struct Found<'a> {
+    pub library: &'a [u8],
+    pub segments: &'a [u64],
+    pub n: usize,
+    pub references: &'a [u64],
+    pub placed: &'a [u64],
+    pub positions: &'a [u32],
+    pub noted: &'a [u64],
+    pub goals: &'a [u32],
+}
 
 // How many rows the search wrote, and how many lines the list.
 #[derive(Clone, Copy)]
@@ -18,11 +31,4 @@ pub struct FindCounts {
     pub placed: usize,
     pub noted: usize,
     pub lines: usize,
-}
-
-// What search and list come to: how many rows and lines were written, or a refusal.
-#[derive(Clone, Copy)]
-pub enum FindAnswer {
-    Done(FindCounts),
-    Refused(Refusal),
 }

@@ -1,4 +1,5 @@
 // The lines of a position are put in byte order of their names, in lent memory: a Shell sort.
+// The library's sorts order the elements of a slice, and a line is a row of four elements of a flat list.
 ghost use Rattle.std.specs.Prelude.{◌+◌, ◌≤◌, ◌<◌, length};
 ghost use Rattle.listing.specs.order.Order.{Orders};
 ghost use Rattle.listing.specs.order.Passes.{Sinks, Passes};
@@ -32,10 +33,8 @@ fn pass(library: &[u8], m: &mut [u64], from: usize, n: usize, gap: usize)
     requires { (0 < gap) × (from + n ≤ length m.old) }
     ensures { Passes library.now m.old from n gap m.new }
 {
-    let mut i = gap;
-    while i < n {
+    for i in gap..n {
         sink(library, m, from, gap, i);
-        i += 1;
     }
 }
 
@@ -45,34 +44,18 @@ fn next_gap(gap: usize) -> usize
     requires { 1 < gap }
     ensures { (0 < result) × (result < gap) }
 {
-    if 3937 < gap {
-        return gap / 9 * 4 + 1;
+    match gap {
+        3938.. => gap / 9 * 4 + 1,
+        1751.. => 1750,
+        702.. => 701,
+        302.. => 301,
+        133.. => 132,
+        58.. => 57,
+        24.. => 23,
+        11.. => 10,
+        5.. => 4,
+        _ => 1,
     }
-    if 1750 < gap {
-        return 1750;
-    }
-    if 701 < gap {
-        return 701;
-    }
-    if 301 < gap {
-        return 301;
-    }
-    if 132 < gap {
-        return 132;
-    }
-    if 57 < gap {
-        return 57;
-    }
-    if 23 < gap {
-        return 23;
-    }
-    if 10 < gap {
-        return 10;
-    }
-    if 4 < gap {
-        return 4;
-    }
-    1
 }
 
 // Puts the n lines from row `from` on in order. With one line, or none, there is nothing to do; a region that is longer

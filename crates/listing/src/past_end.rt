@@ -7,7 +7,6 @@ mod span;
 
 use crate::past_end::bounds::{highest, lowest, span_end};
 use crate::past_end::span::list_span;
-use listing_rules::Skip;
 use tables::fill::Fill;
 
 // Lists the names noted at targets from `end`, the image's length, on, behind the lines that `before` counts. `noted`
@@ -17,7 +16,7 @@ pub fn list_beyond(
     n: usize,
     goals: &[u32],
     end: usize,
-    skip: Skip,
+    skip: Option<usize>,
     lines: &mut [u64],
     before: Fill,
 ) -> Fill

@@ -17,9 +17,8 @@ use Rattle.lent.specs.Parts.{name_before}
 use Rattle.segments.specs.Collect.{Collected}
 use Rattle.search_rules.specs.declared.Asked.{Asked}
 use Rattle.search_rules.specs.Search.{Placing, Noting, is_noted}
-use Rattle.listing_rules.specs.declared.Skip.{Skip}
+use Rattle.listing_rules.specs.Listing.{SkipAmount, noted_line, best_grade, best, crowded, borne_out, grade, stays, placed_line, graded_at, lines_at, is_leftover, leftovers, listing}
 use Rattle.listing_rules.specs.declared.Line.{Line}
-use Rattle.listing_rules.specs.Listing.{noted_line, best_grade, best, crowded, borne_out, grade, stays, placed_line, graded_at, lines_at, is_leftover, leftovers, listing}
 use Rattle.listing_rules.proofs.ListingLaws.{best-from, best-only}
 use Rattle.listing_rules.proofs.EarlierLaws.{of-from}
 use Rattle.listing_rules.proofs.SortedLaws.{to_sorted}
@@ -46,7 +45,7 @@ flip : (u : Bool) → not u ≡ true → u ≡ false
 flip true e = sym e
 flip false e = refl
 
-module _ (library cells : List ℕ) (a : Asked) (skip : Skip) (segments : List Collected) (placed : List Placing) (noted : List Noting) where
+module _ (library cells : List ℕ) (a : Asked) (skip : SkipAmount) (segments : List Collected) (placed : List Placing) (noted : List Noting) where
   abbrev graded : ℕ → List Line
   graded at = graded_at library cells a segments placed noted at
 

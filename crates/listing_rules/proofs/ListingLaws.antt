@@ -1,5 +1,5 @@
 -- The best grade of some lines, the skip amount, and the grades of placed symbols. Assumes nothing.
-use Rattle.std.specs.Prelude.{ℕ, ◌≤◌, ◌<◌, max, ◌≡◌, ◌⊎◌, ◌↔◌, true, false, List, [], ◌∷◌, eqb}
+use Rattle.std.specs.Prelude.{ℕ, ◌≤◌, ◌<◌, max, ◌≡◌, ◌⊎◌, ◌↔◌, true, false, List, [], ◌∷◌, eqb, Some}
 use Rattle.std.proofs.Common.{ap, inl, inr, arith, eqb-true, ltb-true, lt-ltb}
 use mathlib.Core.List.Memᴰ
 use Rattle.lent.specs.Lists.{fold}
@@ -7,7 +7,6 @@ use Rattle.lent.specs.Members.{◌among◌, of-keep}
 use Rattle.segments.specs.Collect.{Collected}
 use Rattle.search_rules.specs.declared.Asked.{Asked}
 use Rattle.search_rules.specs.Search.{Placing, Noting, is_noted}
-use Rattle.listing_rules.specs.declared.Skip.TheVariants.{Above}
 use Rattle.listing_rules.specs.declared.Line.{Line}
 use Rattle.listing_rules.specs.Listing.{best_grade, best, crowded, borne_out, grade}
 
@@ -34,7 +33,7 @@ best-only lines {l} {k} i j =
     omega (arith, e, (best-from lines 0).1 k j)
 
 -- more names than the amount, and no fewer
-pub crowded-above : (amount n : ℕ) → (crowded (Above amount) n ≡ true) ↔ (amount < n)
+pub crowded-above : (amount n : ℕ) → (crowded (Some amount) n ≡ true) ↔ (amount < n)
 crowded-above amount n = (ltb-true amount n, lt-ltb amount n)
 
 -- the grades: 1 exactly if some public reference is not borne out, else 3 exactly if the name is noted there

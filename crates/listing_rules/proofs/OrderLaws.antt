@@ -8,9 +8,8 @@ use Rattle.lent.specs.Members.{◌among◌, of-joined}
 use Rattle.segments.specs.Collect.{Collected}
 use Rattle.search_rules.specs.declared.Asked.{Asked}
 use Rattle.search_rules.specs.Search.{Placing, Noting}
-use Rattle.listing_rules.specs.declared.Skip.{Skip}
+use Rattle.listing_rules.specs.Listing.{SkipAmount, noted_line, lines_at, is_leftover, leftovers, listing}
 use Rattle.listing_rules.specs.declared.Line.{Line}
-use Rattle.listing_rules.specs.Listing.{noted_line, lines_at, is_leftover, leftovers, listing}
 use Rattle.listing_rules.specs.Earlier.{Earlier, Weak}
 use Rattle.listing_rules.proofs.EarlierLaws.{of-from, earlier-from, earlier-both, earlier-append, earlier-joined, earlier-map, earlier-keep}
 use Rattle.listing_rules.proofs.SortedLaws.{sorted-order, sorted-as-came}
@@ -28,7 +27,7 @@ by-target-weak = record {
   through = λ x y z e f. le-ltb x.target z.target (omega (arith, ltb-false x.target y.target e, ltb-false y.target z.target f));
 }
 
-module _ (library cells : List ℕ) (a : Asked) (skip : Skip) (segments : List Collected) (placed : List Placing) (noted : List Noting) where
+module _ (library cells : List ℕ) (a : Asked) (skip : SkipAmount) (segments : List Collected) (placed : List Placing) (noted : List Noting) where
   abbrev lines_of : ℕ → List Line
   lines_of = lines_at library cells a segments placed noted skip
 

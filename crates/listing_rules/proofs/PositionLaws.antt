@@ -14,9 +14,8 @@ use Rattle.tables.specs.by_name.NamedLaws.{same-equal}
 use Rattle.segments.specs.Collect.{Collected}
 use Rattle.search_rules.specs.declared.Asked.{Asked}
 use Rattle.search_rules.specs.Search.{Placing, Noting, is_noted}
-use Rattle.listing_rules.specs.declared.Skip.{Skip}
+use Rattle.listing_rules.specs.Listing.{SkipAmount, noted_line, best_grade, best, crowded, stays, placed_line, graded_at, lines_at}
 use Rattle.listing_rules.specs.declared.Line.{Line}
-use Rattle.listing_rules.specs.Listing.{noted_line, best_grade, best, crowded, stays, placed_line, graded_at, lines_at}
 use Rattle.listing_rules.specs.Earlier.{Earlier, Weak}
 use Rattle.listing_rules.proofs.EarlierLaws.{earlier-both, earlier-append, earlier-map, earlier-keep}
 use Rattle.listing_rules.proofs.SortedLaws.{sorted-order, sorted-as-came}
@@ -54,7 +53,7 @@ by_name-weak library = record {
   through = λ x y z. before-weak.through (bytes_of library x.name) (bytes_of library y.name) (bytes_of library z.name);
 }
 
-module _ (library cells : List ℕ) (a : Asked) (skip : Skip) (segments : List Collected) (placed : List Placing) (noted : List Noting) (p-once : PlacedOnce library placed) (n-once : NotedOnce library noted) (at : ℕ) where
+module _ (library cells : List ℕ) (a : Asked) (skip : SkipAmount) (segments : List Collected) (placed : List Placing) (noted : List Noting) (p-once : PlacedOnce library placed) (n-once : NotedOnce library noted) (at : ℕ) where
   abbrev graded : List Line
   graded = graded_at library cells a segments placed noted at
 

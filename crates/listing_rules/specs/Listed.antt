@@ -6,13 +6,12 @@ use Rattle.lent.specs.Parts.{same_name, name_before}
 use Rattle.segments.specs.Collect.{Collected}
 use Rattle.search_rules.specs.declared.Asked.{Asked}
 use Rattle.search_rules.specs.Search.{Placing, Noting, is_noted}
-use Rattle.listing_rules.specs.declared.Skip.{Skip}
+use Rattle.listing_rules.specs.Listing.{SkipAmount, noted_line, best, crowded, placed_line, graded_at}
 use Rattle.listing_rules.specs.declared.Line.{Line}
-use Rattle.listing_rules.specs.Listing.{noted_line, best, crowded, placed_line, graded_at}
 use Rattle.listing_rules.specs.Earlier.{Earlier}
 
 -- for a library, the cells of a view, what is asked, a skip amount, the segments, and what the search placed and noted
-module _ (library cells : List ℕ) (a : Asked) (skip : Skip) (segments : List Collected) (placed : List Placing) (noted : List Noting) where
+module _ (library cells : List ℕ) (a : Asked) (skip : SkipAmount) (segments : List Collected) (placed : List Placing) (noted : List Noting) where
   -- a line of a position is shown: no line there has a better grade, and the lines of the best grade are no more than the skip amount
   pub record Shown (at : ℕ) (l : Line) : Type 0 where
     pub top : (k : Line) → k among graded_at library cells a segments placed noted at → k.grade ≤ l.grade

@@ -1,13 +1,11 @@
 -- Grades of names, and the list: names by address.
-use Rattle.std.specs.Prelude.{ℕ, max, Bool, false, not, ◌&&◌, ◌||◌, List, [], ◌∷◌, ◌++◌, map, eqb, leb, ltb, length, get_or, if◌then◌else◌}
+use Rattle.std.specs.Prelude.{ℕ, max, Bool, false, not, ◌&&◌, ◌||◌, List, [], ◌∷◌, ◌++◌, map, eqb, leb, ltb, length, get_or, Option, Some, None, if◌then◌else◌}
 use Rattle.lent.specs.Lists.{keep, joined, fold, all, from, sorted}
 use Rattle.lent.specs.Parts.{name_before}
 use Rattle.image.specs.declared.Seat.TheVariants.{Anywhere}
 use Rattle.segments.specs.Collect.{Collected}
 use Rattle.search_rules.specs.declared.Asked.{Asked}
 use Rattle.search_rules.specs.Search.{Placing, Noting, notes, is_noted, is_placed}
-use Rattle.listing_rules.specs.declared.Skip.{Skip}
-use Rattle.listing_rules.specs.declared.Skip.TheVariants.{Never, Above}
 use Rattle.listing_rules.specs.declared.Line.{Line}
 
 -- the line of a noted name, with grade 0
@@ -22,10 +20,14 @@ best_grade lines = fold (λ g l. max g l.grade) 0 lines
 unfoldable pub best : List Line → List Line
 best lines = keep (λ l. eqb l.grade (best_grade lines)) lines
 
+-- the skip amount, if there is one
+abbrev pub SkipAmount : Type 0
+SkipAmount = Option ℕ
+
 -- n names are more than the skip amount
-abbrev pub crowded : Skip → ℕ → Bool
-crowded Never n = false
-crowded (Above amount) n = ltb amount n
+abbrev pub crowded : SkipAmount → ℕ → Bool
+crowded None n = false
+crowded (Some amount) n = ltb amount n
 
 -- the empty segment, for a number that no segment has
 abbrev pub no_segment : Collected
@@ -57,23 +59,23 @@ module _ (library cells : List ℕ) (a : Asked) (segments : List Collected) (pla
       ++ map noted_line (keep (λ n. eqb n.target at && n.valid) noted)
 
   -- only the best grade is listed, in byte order; with more such names than the skip amount the position is left out
-  unfoldable pub lines_at : Skip → ℕ → List Line
+  unfoldable pub lines_at : SkipAmount → ℕ → List Line
   lines_at skip at =
       let lines = best (graded_at at) in
       if crowded skip (length lines) then [] else sorted (λ x y. name_before library x.name y.name) lines
 
 -- a noted name is listed past the image: its target is at or past the image's end, it is valid, and its target has no
 -- more names than the skip amount, where all names noted at the target count, valid or not
-abbrev pub is_leftover : ℕ → Skip → List Noting → Noting → Bool
+abbrev pub is_leftover : ℕ → SkipAmount → List Noting → Noting → Bool
 is_leftover end skip noted n =
     leb end n.target && n.valid && not (crowded skip (length (keep (λ q. eqb q.target n.target) noted)))
 
 -- the lines past the image: by target, ascending, and at one target as the names were first noted
-unfoldable pub leftovers : ℕ → Skip → List Noting → List Line
+unfoldable pub leftovers : ℕ → SkipAmount → List Noting → List Line
 leftovers end skip noted = map noted_line (sorted (λ x y. ltb x.target y.target) (keep (is_leftover end skip noted) noted))
 
 -- the list: the lines of all positions of the image, and then those past its end
-unfoldable pub listing : List ℕ → List ℕ → Asked → Skip → List Collected → List Placing → List Noting → List Line
+unfoldable pub listing : List ℕ → List ℕ → Asked → SkipAmount → List Collected → List Placing → List Noting → List Line
 listing library cells a skip segments placed noted =
     joined (lines_at library cells a segments placed noted skip) (from 0 (length cells)) ++ leftovers (length cells) skip noted
 

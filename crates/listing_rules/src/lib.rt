@@ -8,13 +8,6 @@ pub mod rows;
 
 use lent::part::Part;
 
-// The skip amount: a position with more names than this is left out of the list.
-#[derive(Clone, Copy)]
-pub enum Skip {
-    Never,
-    Above(usize),
-}
-
 // A line of the list: an address, the grade of a name there, and the name.
 #[derive(Clone, Copy)]
 pub struct Line {
@@ -23,12 +16,9 @@ pub struct Line {
     pub name: Part,
 }
 
-// Whether n names are more than the skip amount.
-pub fn is_crowded(skip: Skip, n: usize) -> bool
+// Whether n names are more than the skip amount: a position with more names than this is left out of the list.
+pub fn is_crowded(skip: Option<usize>, n: usize) -> bool
     ensures { result ≡ crowded skip n }
 {
-    match skip {
-        Skip::Never => false,
-        Skip::Above(amount) => amount < n,
-    }
+    skip.is_some_and(|amount| amount < n)
 }

@@ -2,7 +2,6 @@
 pub mod PrintedText
 pub mod Pieces
 pub mod StoreLaws
-pub mod SpokenLaws
 pub mod PieceLaws
 pub mod PutLaws
 pub mod PrintedTextLaws

@@ -1,18 +1,18 @@
 -- How long the pieces of a line are, and what they are made of. Assumes nothing.
-use Rattle.std.specs.Prelude.{ℕ, zero, suc, ◌+◌, ◌-◌, ◌/◌, ◌≤◌, ◌<◌, ◌≡◌, refl, Bool, true, false, List, ◌++◌, eqb, length, take, drop, if◌then◌else◌}
+use Rattle.std.specs.Prelude.{ℕ, zero, suc, ◌+◌, ◌-◌, ◌/◌, ◌≤◌, ◌<◌, ◌≡◌, refl, Bool, true, false, List, ◌++◌, eqb, length, take, drop, Ok, Some, None, IsOk, if◌then◌else◌}
 use Rattle.std.proofs.Common.{sym, ap, subst, ◌∙◌, arith, le-leb, eq-eqb, ne_eqb, length-append, length-take-le}
 use Rattle.std.proofs.Math.Option.{Option, none, some}
+use Rattle.std.specs.Prelude.{Option as Optional}
+use Rattle.std.specs.Result.{is_ok}
 use Rattle.std.proofs.lemmas.List.{length-replicate}
 use Rattle.std.proofs.Math.Seq.{take-append_seam}
 use Rattle.lent.specs.Lists.{one}
-use Rattle.describe.specs.declared.Described.{Described}
-use Rattle.describe.specs.declared.Described.TheVariants.{Written, NoRoom, Nothing}
 use Rattle.describe.specs.Describe.{text, describe}
-use Rattle.describe.specs.Described.{answered, described}
+use Rattle.describe.specs.Described.{Answer, length_in, answered, described}
+use Rattle.describe.specs.SpokenLaws.{longest}
 use Rattle.listing_rules.specs.Print.{column, hex, more_digits, bracketed, remark}
-use Rattle.printing.specs.Pieces.{address_column, name_column, opening, closing, length_in, held_in, remark_in, size_in, Held}
+use Rattle.printing.specs.Pieces.{address_column, name_column, opening, closing, held_in, remark_in, size_in, Held}
 use Rattle.printing.specs.StoreLaws.{digits-length}
-use Rattle.printing.specs.SpokenLaws.{longest}
 
 column-length : (width : ℕ) (t : List ℕ) → length (column width t) ≡ length t + (width - length t)
 column-length width t = simp (length-append, length-replicate)
@@ -62,33 +62,41 @@ pub name-length : (grade : ℕ) (name : List ℕ) → length (name_column grade 
 unfolding name_column
 name-length grade name = column-length 22 (bracketed grade name) ∙ ap (λ n. n + (22 - n)) (bracketed-length grade name)
 
--- a remark, from the description in a buffer of 88 bytes
-pub held : (name words : List ℕ) {r s : Described} {after : List ℕ} → length words ≡ 88
-    → ◌≡◌ {A = Described × List ℕ} (r, after) (described name words) → r ≡ s → Held name s after
-held name words {r} {s} {after} room e q = go (describe name) refl (longest name)
-  where
-    known : {p : Described × List ℕ} → described name words ≡ p → Held name p.0 p.1 → Held name s after
-    known d h = subst (λ (x : Described × List ℕ). Held name x.0 x.1) (sym (ap (λ x. (x, after)) (sym q) ∙ e ∙ d)) h
+-- a remark, from the description in a buffer of 88 bytes, which has room for it
+module _ (name words : List ℕ) {r : Answer} {after : List ℕ} (room : length words ≡ 88) (e : ◌≡◌ {A = Answer × List ℕ} (r, after) (described name words)) where
+  written : (o : Optional ℕ) × (r ≡ Ok o) × Held name o after
+  written = go (describe name) refl (longest name)
+    where
+      go : (o : Option (List ℕ)) → describe name ≡ o → length_in o ≤ 88 → (o : Optional ℕ) × (r ≡ Ok o) × Held name o after
+      go none d h =
+          let q : ◌≡◌ {A = Answer × List ℕ} (r, after) (Ok None, words) = e ∙ ap (λ o. answered o words) d in
+          (None, ap (λ x. x.0) q, record { same = ap remark d; within = omega arith; short = omega arith })
+      go (some t) d h =
+          let rest : List ℕ = drop (length t) words in
+          let fits : ◌≡◌ {A = Answer × List ℕ} (answered (some t) words) (Ok (Some (length t)), t ++ rest) = rw (le-leb (length t) (length words) (omega arith)) in
+          let q : ◌≡◌ {A = Answer × List ℕ} (r, after) (Ok (Some (length t)), t ++ rest) = e ∙ ap (λ o. answered o words) d ∙ fits in (
+            Some (length t),
+            ap (λ x. x.0) q,
+            subst (λ a. Held name (Some (length t)) a) (sym (ap (λ x. x.1) q))
+                (record {
+                  same = ap remark d ∙ ap (λ (x : List ℕ). text " " ++ x) (sym (take-append_seam t rest));
+                  within = omega (arith, length-append t rest);
+                  short = h;
+                }),
+          )
 
-    go : (o : Option (List ℕ)) → describe name ≡ o → length_in o ≤ 88 → Held name s after
-    go none d h = known (ap (λ o. answered o words) d) (record { same = ap remark d; within = omega arith; short = omega arith })
-    go (some t) d h =
-        let rest : List ℕ = drop (length t) words in
-        let fits : ◌≡◌ {A = Described × List ℕ} (answered (some t) words) (Written (length t), t ++ rest) = rw (le-leb (length t) (length words) (omega arith)) in
-        known (ap (λ o. answered o words) d ∙ fits)
-        (record {
-          same = ap remark d ∙ ap (λ (x : List ℕ). text " " ++ x) (sym (take-append_seam t rest));
-          within = omega (arith, length-append t rest);
-          short = h;
-        })
+  pub has-room : IsOk r
+  has-room = ap is_ok written.1
 
-pub held-length : (name : List ℕ) {r : Described} {after : List ℕ} → Held name r after → size_in r ≡ length (remark (describe name))
+  pub held : {o : Optional ℕ} → r ≡ Ok o → Held name o after
+  held {o} p = let same : written.0 ≡ o = cc (written.1, p) in subst (λ x. Held name x after) same written.2
+
+pub held-length : (name : List ℕ) {r : Optional ℕ} {after : List ℕ} → Held name r after → size_in r ≡ length (remark (describe name))
 held-length name {r} {after} h = go r h.within ∙ sym (ap length h.same)
   where
-    go : (r : Described) → held_in r ≤ length after → size_in r ≡ length (remark_in r after)
-    go (Written n) w = omega (arith, length-append (text " ") (take n after), length-take-le n after w)
-    go NoRoom w = refl
-    go Nothing w = refl
+    go : (r : Optional ℕ) → held_in r ≤ length after → size_in r ≡ length (remark_in r after)
+    go None w = refl
+    go (Some n) w = omega (arith, length-append (text " ") (take n after), length-take-le n after w)
 
 pub remark-short : (name : List ℕ) → length (remark (describe name)) ≤ 89
 remark-short name = go (describe name) (longest name)

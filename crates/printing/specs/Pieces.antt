@@ -1,10 +1,8 @@
 -- The pieces of the printed list as the code measures and writes them.
-use Rattle.std.specs.Prelude.{ℕ, ◌+◌, ◌-◌, ◌≤◌, ◌≡◌, List, [], ◌++◌, map, eqb, length, take, if◌then◌else◌}
-use Rattle.std.proofs.Math.Option.{Option, none, some}
+use Rattle.std.specs.Prelude.{ℕ, ◌+◌, ◌-◌, ◌≤◌, ◌≡◌, List, [], ◌++◌, map, eqb, length, take, Some, None, if◌then◌else◌}
+use Rattle.std.specs.Prelude.{Option as Optional}
 use Rattle.lent.specs.Lists.{from, joined}
 use Rattle.describe.specs.Describe.{text, describe}
-use Rattle.describe.specs.declared.Described.{Described}
-use Rattle.describe.specs.declared.Described.TheVariants.{Written, NoRoom, Nothing}
 use Rattle.listing_rules.specs.LineLayout.{line_at}
 use Rattle.listing_rules.specs.Print.{column, hex, bracketed, remark, printed_line}
 
@@ -22,29 +20,21 @@ opening grade = if eqb grade 0 then 0x28 else if eqb grade 1 then 0x5B else 0x20
 abbrev pub closing : ℕ → ℕ
 closing grade = if eqb grade 0 then 0x29 else if eqb grade 1 then 0x5D else 0x20
 
--- how long a description is, if there is one
-abbrev pub length_in : Option (List ℕ) → ℕ
-length_in none = 0
-length_in (some t) = length t
-
 -- what a description written into a buffer makes: its length, the remark, and the remark's length
-abbrev pub held_in : Described → ℕ
-held_in (Written n) = n
-held_in NoRoom = 0
-held_in Nothing = 0
+abbrev pub held_in : Optional ℕ → ℕ
+held_in None = 0
+held_in (Some n) = n
 
-abbrev pub remark_in : Described → List ℕ → List ℕ
-remark_in (Written n) words = text " " ++ take n words
-remark_in NoRoom words = []
-remark_in Nothing words = []
+abbrev pub remark_in : Optional ℕ → List ℕ → List ℕ
+remark_in None words = []
+remark_in (Some n) words = text " " ++ take n words
 
-abbrev pub size_in : Described → ℕ
-size_in (Written n) = n + 1
-size_in NoRoom = 0
-size_in Nothing = 0
+abbrev pub size_in : Optional ℕ → ℕ
+size_in None = 0
+size_in (Some n) = n + 1
 
 -- a buffer holds the description of a name, which is no more than the buffer has
-pub record Held (name : List ℕ) (r : Described) (words : List ℕ) : Type 0 where
+pub record Held (name : List ℕ) (r : Optional ℕ) (words : List ℕ) : Type 0 where
   pub same : remark (describe name) ≡ remark_in r words
   pub within : held_in r ≤ length words
   pub short : held_in r ≤ 88

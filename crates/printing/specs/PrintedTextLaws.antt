@@ -1,5 +1,5 @@
 -- A text that fits or not, and the list line by line. Assumes nothing.
-use Rattle.std.specs.Prelude.{ℕ, ◌+◌, ◌-◌, ◌≤◌, ◌<◌, ◌≡◌, true, false, List, [], ◌++◌, map, leb, length, drop}
+use Rattle.std.specs.Prelude.{ℕ, ◌+◌, ◌-◌, ◌≤◌, ◌<◌, ◌≡◌, true, false, List, [], ◌++◌, map, leb, length, drop, Ok, Err}
 use Rattle.std.proofs.Common.{sym, ap, ◌∙◌, append_assoc, append-nil, zero-add, le-leb, leb-true, length-append}
 use Rattle.std.proofs.Math.Nat.{sub-zero}
 use native.Mathlib.Omega.{arith}
@@ -11,17 +11,15 @@ use Rattle.lent.specs.ChoiceLaws.{same_test}
 use Rattle.describe.specs.Described.{Put}
 use Rattle.listing_rules.specs.LineLayout.{line_at}
 use Rattle.listing_rules.specs.Print.{heading, printed_line, printed}
-use Rattle.printing.specs.declared.Printed.{Printed}
-use Rattle.printing.specs.declared.Printed.TheVariants.{Written, NoRoom}
-use Rattle.printing.specs.PrintedText.{fitted_text, stored_lines}
+use Rattle.printing.specs.PrintedText.{Printed, fitted_text, stored_lines}
 use Rattle.printing.specs.Pieces.{lines_from}
 
 -- what is answered
-pub too_long : (t out : List ℕ) → length out < length t → ◌≡◌ {A = Printed × List ℕ} (NoRoom, out) (fitted_text t out)
+pub too_long : (t out : List ℕ) → length out < length t → ◌≡◌ {A = Printed × List ℕ} (Err (record {}), out) (fitted_text t out)
 too_long t out h = rw (lt-leb (length t) (length out) h)
 
 pub fitting : (t out : List ℕ) {after : List ℕ} {end : ℕ} → length t ≤ length out → Put out 0 t after end
-    → ◌≡◌ {A = Printed × List ℕ} (Written end, after) (fitted_text t out)
+    → ◌≡◌ {A = Printed × List ℕ} (Ok end, after) (fitted_text t out)
 fitting t out h p =
     let front : sets out 0 t ≡ t ++ drop (length t) out = sets-eq t out 0 (omega arith) ∙ rw zero-add in
     rw (p.ends, p.stored, le-leb (length t) (length out) h, front, zero-add)

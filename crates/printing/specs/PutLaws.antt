@@ -2,7 +2,6 @@
 use Rattle.std.specs.Prelude.{ℕ, ◌+◌, ◌-◌, ◌/◌, ◌≡◌, List, ◌++◌, length, take, replicate}
 use Rattle.std.proofs.Common.{sym, subst, ◌∙◌, arith, length-append}
 use Rattle.std.proofs.Math.Path.{ap}
-use Rattle.std.proofs.Math.Nat.{sub-zero}
 use Rattle.lent.specs.Lists.{one}
 use Rattle.lent.specs.Parts.{bytes_of}
 use Rattle.describe.specs.Describe.{text, describe}
@@ -44,8 +43,8 @@ name-put grade name q r s p₁ p₂ p₃ p₄ =
 
 pub remark-put : (name words : List ℕ) (n : ℕ) {b : List ℕ} {at : ℕ} {b₁ : List ℕ} {e₁ : ℕ} {b₂ : List ℕ} {e₂ : ℕ}
     → remark (describe name) ≡ text " " ++ take n words
-    → Put b at (text " ") b₁ e₁ → Put b₁ e₁ (take (n - 0) words) b₂ e₂ → Put b at (remark (describe name)) b₂ e₂
-remark-put name words n q p₁ p₂ = put_as (sym q) (p₁ then-put put_as (ap (λ k. take k words) (sub-zero n)) p₂)
+    → Put b at (text " ") b₁ e₁ → Put b₁ e₁ (take n words) b₂ e₂ → Put b at (remark (describe name)) b₂ e₂
+remark-put name words n q p₁ p₂ = put_as (sym q) (p₁ then-put p₂)
 
 pieces-length : (a b c : List ℕ) → length (a ++ text "  " ++ b ++ text " " ++ c ++ text "\n") ≡ length a + length b + length c + 4
 pieces-length a b c = simp length-append (omega arith)

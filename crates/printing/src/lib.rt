@@ -10,44 +10,32 @@ ghost use Rattle.printing.specs.PrintedText.{fitted_text, stored_lines};
 mod pieces;
 mod sizes;
 
+use describe::NoRoom;
+use describe::entry::put;
 use listing_rules::{Line, rows};
 
-// How many bytes were written, or that they do not fit.
-#[derive(Clone, Copy)]
-pub enum Printed {
-    Written(usize),
-    NoRoom,
-}
+// The heading of the list.
+const HEADING: &[u8] = b"Address | Name                 | Description\n";
 
-// How many bytes the heading has.
-const HEADING: usize = 45;
-
-// Writes the heading at the front of a buffer that has room for it, and answers where it ends.
-fn put_heading(out: &mut [u8]) -> usize
-    requires { length heading ≤ length out.old }
-    ensures { Put out.old 0 heading out.new result }
-{
-    crate::pieces::put(out, 0, b"Address | Name                 | Description\n")
-}
-
-// Prints the heading alone.
-pub fn print_heading(out: &mut [u8]) -> Printed
+// Prints the heading alone, and answers how many bytes were written.
+pub fn print_heading(out: &mut [u8]) -> Result<usize, NoRoom>
     ensures { (result, out.new) ≡ fitted_text heading out.old }
 {
-    if out.len() < HEADING {
-        return Printed::NoRoom;
+    if out.len() < HEADING.len() {
+        return Err(NoRoom);
     }
-    Printed::Written(put_heading(out))
+    Ok(put(out, 0, HEADING))
 }
 
-// Prints one line of the list, whose name is a part of the library, at the front of the buffer.
-pub fn print_line(library: &[u8], line: Line, out: &mut [u8]) -> Printed
+// Prints one line of the list, whose name is a part of the library, at the front of the buffer, and answers how many
+// bytes were written.
+pub fn print_line(library: &[u8], line: Line, out: &mut [u8]) -> Result<usize, NoRoom>
     ensures { (result, out.new) ≡ fitted_text (printed_line library.now line) out.old }
 {
-    if out.len() < crate::sizes::line(library, line) {
-        return Printed::NoRoom;
+    if out.len() < sizes::line(library, line) {
+        return Err(NoRoom);
     }
-    Printed::Written(crate::pieces::put_line(out, 0, library, line))
+    Ok(pieces::put_line(out, 0, library, line))
 }
 
 // Whether the heading and the first n lines take at most `room` bytes. Each line takes some of it, so that the loop
@@ -55,18 +43,16 @@ pub fn print_line(library: &[u8], line: Line, out: &mut [u8]) -> Printed
 fn fits(library: &[u8], lines: &[u64], n: usize, room: usize) -> bool
     ensures { result ≡ leb (length (printed library.now (stored_lines lines.now n))) room }
 {
-    if room < HEADING {
+    if room < HEADING.len() {
         return false;
     }
-    let mut left = room - HEADING;
-    let mut i = 0;
-    while i < n {
-        let size = crate::sizes::line(library, rows::line_at(lines, i));
+    let mut left = room - HEADING.len();
+    for i in 0..n {
+        let size = sizes::line(library, rows::line_at(lines, i));
         if left < size {
             return false;
         }
         left -= size;
-        i += 1;
     }
     true
 }
@@ -76,21 +62,19 @@ fn put_all(library: &[u8], lines: &[u64], n: usize, out: &mut [u8]) -> usize
     requires { length (printed library.now (stored_lines lines.now n)) ≤ length out.old }
     ensures { Put out.old 0 (printed library.now (stored_lines lines.now n)) out.new result }
 {
-    let mut at = put_heading(out);
-    let mut i = 0;
-    while i < n {
-        at = crate::pieces::put_line(out, at, library, rows::line_at(lines, i));
-        i += 1;
+    let mut at = put(out, 0, HEADING);
+    for i in 0..n {
+        at = pieces::put_line(out, at, library, rows::line_at(lines, i));
     }
     at
 }
 
-// Prints the heading and the lines that the first n rows of `lines` hold.
-pub fn print(library: &[u8], lines: &[u64], n: usize, out: &mut [u8]) -> Printed
+// Prints the heading and the lines that the first n rows of `lines` hold, and answers how many bytes were written.
+pub fn print(library: &[u8], lines: &[u64], n: usize, out: &mut [u8]) -> Result<usize, NoRoom>
     ensures { (result, out.new) ≡ fitted_text (printed library.now (stored_lines lines.now n)) out.old }
 {
-    if fits(library, lines, n, out.len()) {
-        return Printed::Written(put_all(library, lines, n, out));
+    if !fits(library, lines, n, out.len()) {
+        return Err(NoRoom);
     }
-    Printed::NoRoom
+    Ok(put_all(library, lines, n, out))
 }

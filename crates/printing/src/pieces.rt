@@ -2,29 +2,15 @@
 // function answers where its piece ends.
 ghost use Rattle.std.specs.Prelude.{◌≡◌, ◌+◌, ◌≤◌, ◌<◌, length, replicate};
 ghost use Rattle.lent.specs.Lists.{one};
-ghost use Rattle.describe.specs.Describe.{describe};
+ghost use Rattle.describe.specs.Describe.{describe as described};
 ghost use Rattle.describe.specs.Described.{Put};
 ghost use Rattle.listing_rules.specs.Print.{digit as digit_of, digits, remark, printed_line};
 ghost use Rattle.printing.specs.Pieces.{address_column, name_column, opening as opening_of, closing as closing_of};
 
 use crate::sizes;
-use describe::Described;
+use describe::entry::{describe, put};
 use lent::names;
 use listing_rules::Line;
-
-// Puts a text at a place.
-pub fn put(out: &mut [u8], at: usize, text: &[u8]) -> usize
-    requires { at + length text.now ≤ length out.old }
-    ensures { Put out.old at text.now out.new result }
-{
-    let n = text.len();
-    let mut j = 0;
-    while j < n {
-        out[at + j] = text[j];
-        j += 1;
-    }
-    at + n
-}
 
 // Puts one byte at a place.
 fn put_byte(out: &mut [u8], at: usize, byte: u8) -> usize
@@ -40,12 +26,9 @@ fn put_blanks(out: &mut [u8], at: usize, n: usize) -> usize
     requires { at + n ≤ length out.old }
     ensures { Put out.old at (replicate n 32) out.new result }
 {
-    let mut j = 0;
-    while j < n {
-        out[at + j] = b' ';
-        j += 1;
-    }
-    at + n
+    let end = at + n;
+    out[at..end].fill(b' ');
+    end
 }
 
 // A hexadecimal digit; letters are in lower case.
@@ -53,7 +36,7 @@ fn digit(n: u8) -> u8
     requires { n < 16 }
     ensures { result ≡ digit_of n }
 {
-    if n < 10 { 48 + n } else { 87 + n }
+    if n < 10 { b'0' + n } else { b'a' + (n - 10) }
 }
 
 // Puts the last n hexadecimal digits of a number, working from the last to the first.
@@ -62,11 +45,9 @@ fn put_digits(out: &mut [u8], at: usize, n: usize, number: u64) -> usize
     ensures { Put out.old at (digits n number) out.new result }
 {
     let mut rest = number;
-    let mut j = n;
-    while 0 < j {
-        j -= 1;
+    for j in (0..n).rev() {
         out[at + j] = digit((rest % 16) as u8);
-        rest = rest / 16;
+        rest /= 16;
     }
     at + n
 }
@@ -87,20 +68,22 @@ fn put_address(out: &mut [u8], at: usize, address: u64) -> usize
 fn opening(grade: u8) -> u8
     ensures { result ≡ opening_of grade }
 {
-    if grade == 0 {
-        return b'(';
+    match grade {
+        0 => b'(',
+        1 => b'[',
+        _ => b' ',
     }
-    if grade == 1 { b'[' } else { b' ' }
 }
 
 // The sign behind a name, as that before it.
 fn closing(grade: u8) -> u8
     ensures { result ≡ closing_of grade }
 {
-    if grade == 0 {
-        return b')';
+    match grade {
+        0 => b')',
+        1 => b']',
+        _ => b' ',
     }
-    if grade == 1 { b']' } else { b' ' }
 }
 
 // Puts the column of the name: the name between its two signs, and blanks up to 22 bytes.
@@ -116,18 +99,15 @@ fn put_name(out: &mut [u8], at: usize, grade: u8, name: &[u8]) -> usize
 
 // Puts a blank and the description of the name, if it has one.
 fn put_remark(out: &mut [u8], at: usize, name: &[u8]) -> usize
-    requires { at + length (remark (describe name.now)) ≤ length out.old }
-    ensures { Put out.old at (remark (describe name.now)) out.new result }
+    requires { at + length (remark (described name.now)) ≤ length out.old }
+    ensures { Put out.old at (remark (described name.now)) out.new result }
 {
     let mut words = [0u8; sizes::LONGEST];
-    match describe::entry::describe(name, &mut words) {
-        Described::Written(n) => {
-            let from = put_byte(out, at, b' ');
-            put(out, from, &words[0..n])
-        }
-        Described::NoRoom => at,
-        Described::Nothing => at,
-    }
+    let Some(n) = describe(name, &mut words).unwrap() else {
+        return at;
+    };
+    let from = put_byte(out, at, b' ');
+    put(out, from, &words[..n])
 }
 
 // Puts a whole line: address, two blanks, name, a blank, description, line feed.

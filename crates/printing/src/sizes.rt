@@ -1,10 +1,10 @@
 // How many bytes the pieces of a printed line take.
 ghost use Rattle.std.specs.Prelude.{◌≡◌, ◌+◌, ◌-◌, ◌/◌, length};
-ghost use Rattle.describe.specs.Describe.{describe};
+ghost use Rattle.describe.specs.Describe.{describe as described};
 ghost use Rattle.listing_rules.specs.Print.{more_digits, remark as remark_of, printed_line};
 ghost use Rattle.printing.specs.Pieces.{address_column, name_column};
 
-use describe::Described;
+use describe::entry::describe;
 use lent::names;
 use listing_rules::Line;
 
@@ -15,7 +15,7 @@ pub const LONGEST: usize = 88;
 pub fn blanks(width: usize, len: usize) -> usize
     ensures { result ≡ width - len }
 {
-    if len < width { width - len } else { 0 }
+    width.saturating_sub(len)
 }
 
 // How many hexadecimal digits an address is printed with: four, or as many more as it needs.
@@ -23,15 +23,13 @@ pub fn digits(address: u64) -> usize
     ensures { result ≡ 4 + more_digits 12 (address / 65536) }
 {
     let mut rest = address / 65536;
-    let mut n = 4;
-    while n < 16 {
+    for n in 4..16 {
         if rest == 0 {
             return n;
         }
-        rest = rest / 16;
-        n += 1;
+        rest /= 16;
     }
-    n
+    16
 }
 
 // How many bytes the column of the address takes.
@@ -52,13 +50,12 @@ fn name(grade: u8, bytes: &[u8]) -> usize
 
 // How many bytes the description takes, with the blank before it; 0 if the name has none.
 fn remark(bytes: &[u8]) -> usize
-    ensures { result ≡ length (remark_of (describe bytes.now)) }
+    ensures { result ≡ length (remark_of (described bytes.now)) }
 {
     let mut words = [0u8; LONGEST];
-    match describe::entry::describe(bytes, &mut words) {
-        Described::Written(n) => n + 1,
-        Described::NoRoom => 0,
-        Described::Nothing => 0,
+    match describe(bytes, &mut words).unwrap() {
+        Some(n) => n + 1,
+        None => 0,
     }
 }
 

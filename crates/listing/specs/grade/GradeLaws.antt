@@ -1,5 +1,5 @@
 -- What the code asks of the rows is what the definition of the grade asks. Assumes nothing.
-use Rattle.std.specs.Prelude.{◌≡◌, Bool, true, false, not, ◌&&◌, ◌||◌, List, [], ◌∷◌}
+use Rattle.std.specs.Prelude.{◌≡◌, refl, Bool, true, false, not, ◌&&◌, ◌||◌, List, [], ◌∷◌}
 use Rattle.std.proofs.Common.{sym, ◌∙◌}
 use Rattle.std.proofs.Math.Path.{ap}
 use Rattle.std.proofs.lemmas.Bool.{not-true, not-false}
@@ -12,6 +12,17 @@ turned-true t e f = sym e ∙ not-true t f
 
 pub turned-false : (t : Bool) {b : Bool} → t ≡ b → not t ≡ false → b ≡ true
 turned-false t e f = sym e ∙ not-false t f
+
+-- a symbol that is neither valid nor noted where it stands, and one that is
+pub dropped : {valid noted : Bool} → valid ≡ false → noted ≡ false → (valid || noted) ≡ false
+dropped e f = rw (e, f)
+
+pub kept-valid : {valid : Bool} (noted : Bool) → valid ≡ true → (valid || noted) ≡ true
+kept-valid noted e = rw e
+
+pub kept-noted : (valid : Bool) {noted : Bool} → noted ≡ true → (valid || noted) ≡ true
+kept-noted true e = refl
+kept-noted false e = e
 
 -- THE GRADE, case by case
 module _ (valid noted borne : Bool) where

@@ -9,9 +9,8 @@ use Rattle.tables.specs.by_name.Tables.{table, Tabled}
 use Rattle.search_rules.specs.declared.Noted.{Noted}
 use Rattle.search_rules.specs.Search.{Noting}
 use Rattle.search_rules.specs.SearchRows.{noted_width, noted_sheet}
-use Rattle.listing_rules.specs.declared.Skip.{Skip}
+use Rattle.listing_rules.specs.Listing.{SkipAmount, noted_line, crowded, leftovers, line_width, line_cells, line_numbers}
 use Rattle.listing_rules.specs.declared.Line.{Line}
-use Rattle.listing_rules.specs.Listing.{noted_line, crowded, leftovers, line_width, line_cells, line_numbers}
 use Rattle.listing_rules.specs.FrontLines.{Extends}
 
 -- the name that a row notes, and the target of row k
@@ -26,10 +25,10 @@ abbrev pub sought : ℕ → Bool → Noting → Bool
 sought t all n = eqb n.target t && (all || n.valid)
 
 -- the lines of one target, and of so many targets from one on
-unfoldable pub lines_of : Skip → List Noting → ℕ → List Line
+unfoldable pub lines_of : SkipAmount → List Noting → ℕ → List Line
 lines_of skip ns t = if crowded skip (length (keep (sought t true) ns)) then [] else map noted_line (keep (sought t false) ns)
 
-abbrev pub spanned : Skip → List Noting → ℕ → ℕ → List Line
+abbrev pub spanned : SkipAmount → List Noting → ℕ → ℕ → List Line
 spanned skip ns first last = joined (lines_of skip ns) (from first (last - first + 1))
 
 -- one that is not below either of two; one that takes the place of a higher one, but is not below a bound
@@ -89,17 +88,17 @@ WritesAll noted head t end m m' =
     → Wrote (map noted_line (keep (sought t false) ns)) (end - length (keep (sought t false) ns)) end m m'
 
 -- the lines of a target are added, by its bucket's head; those of one target, and of all from one on to another
-abbrev pub ListsBucket : List ℕ → ℕ → ℕ → Skip → List ℕ → Fill → List ℕ → Fill → Type 0
+abbrev pub ListsBucket : List ℕ → ℕ → ℕ → SkipAmount → List ℕ → Fill → List ℕ → Fill → Type 0
 ListsBucket noted head t skip m f m' r = (ns : List Noting) → HeadedBy noted t head ns → f.over ≡ false → Extends (lines_of skip ns t) m f m' r
 
-abbrev pub ListsTarget : List ℕ → List ℕ → ℕ → Skip → List ℕ → Fill → List ℕ → Fill → Type 0
+abbrev pub ListsTarget : List ℕ → List ℕ → ℕ → SkipAmount → List ℕ → Fill → List ℕ → Fill → Type 0
 ListsTarget noted goals t skip m f m' r = (ns : List Noting) → NotedBy noted goals ns → Extends (lines_of skip ns t) m f m' r
 
-abbrev pub ListsSpan : List ℕ → List ℕ → ℕ → ℕ → Skip → List ℕ → Fill → List ℕ → Fill → Type 0
+abbrev pub ListsSpan : List ℕ → List ℕ → ℕ → ℕ → SkipAmount → List ℕ → Fill → List ℕ → Fill → Type 0
 ListsSpan noted goals first last skip m f m' r = (ns : List Noting) → NotedBy noted goals ns → Extends (spanned skip ns first last) m f m' r
 
 -- all lines at or past the end are added
-abbrev pub ListsBeyond : List ℕ → ℕ → List ℕ → ℕ → Skip → List ℕ → Fill → List ℕ → Fill → Type 0
+abbrev pub ListsBeyond : List ℕ → ℕ → List ℕ → ℕ → SkipAmount → List ℕ → Fill → List ℕ → Fill → Type 0
 ListsBeyond noted n goals end skip m f m' r =
     (library : List ℕ) (ns : List Noting) → length ns ≡ n → Tabled noted_sheet library ns (table noted goals (record { rows = n; over = false }))
     → Extends (leftovers end skip ns) m f m' r

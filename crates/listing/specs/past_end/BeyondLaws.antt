@@ -14,9 +14,8 @@ use Rattle.tables.specs.by_name.TableLaws.{table-row}
 use Rattle.search_rules.specs.Search.{Noting}
 use Rattle.search_rules.specs.SearchRows.{noted_sheet}
 use Rattle.search_rules.proofs.FindableLaws.{noted-reads}
-use Rattle.listing_rules.specs.declared.Skip.{Skip}
+use Rattle.listing_rules.specs.Listing.{SkipAmount, noted_line, crowded, is_leftover, leftovers}
 use Rattle.listing_rules.specs.declared.Line.{Line}
-use Rattle.listing_rules.specs.Listing.{noted_line, crowded, is_leftover, leftovers}
 use Rattle.listing_rules.specs.FrontLines.{LeadsTo}
 use Rattle.listing_rules.proofs.FrontLineLaws.{leads-first, leads-on, leads-same, leads-last, leads-over}
 use Rattle.listing.specs.past_end.SortLaws.{keep_same, keep-none, by_key, at, ordered, ordered-turn, ordered-skip, ordered-none}
@@ -26,7 +25,7 @@ use Rattle.listing.specs.past_end.BucketLaws.{no_noting}
 abbrev goal : Noting → ℕ
 goal n = n.target
 
-module _ (skip : Skip) (ns : List Noting) where
+module _ (skip : SkipAmount) (ns : List Noting) where
   -- a valid name of a target that is not left out
   abbrev listed : Noting → Bool
   listed n = n.valid && not (crowded skip (length (keep (λ q. eqb q.target n.target) ns)))
@@ -127,7 +126,7 @@ target_is noted goals n library ns tabled k h =
     ap (λ r. r.target) (table-row noted_sheet library noted-reads no_noting {xs = ns} {t = table noted goals (record { rows = n; over = false })} tabled refl k h)
 
 -- FROM TARGET TO TARGET: whoever adds what is left from a bound on has added all
-module _ (noted : List ℕ) (n : ℕ) (goals : List ℕ) (end : ℕ) (skip : Skip) (m₀ : List ℕ) (f₀ : Fill) where
+module _ (noted : List ℕ) (n : ℕ) (goals : List ℕ) (end : ℕ) (skip : SkipAmount) (m₀ : List ℕ) (f₀ : Fill) where
   abbrev pub Leaves : List ℕ → Fill → ℕ → Type 0
   Leaves m f bound =
       (library : List ℕ) (ns : List Noting) → length ns ≡ n → Tabled noted_sheet library ns (table noted goals (record { rows = n; over = false }))

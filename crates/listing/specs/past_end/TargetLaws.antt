@@ -10,9 +10,8 @@ use Rattle.tables.specs.declared.fill.Fill.{Fill}
 use Rattle.tables.specs.by_name.Heads.{head_at}
 use Rattle.tables.specs.by_name.Sheet.{key_buckets}
 use Rattle.search_rules.specs.Search.{Noting}
-use Rattle.listing_rules.specs.declared.Skip.{Skip}
+use Rattle.listing_rules.specs.Listing.{SkipAmount, noted_line, crowded, line_width}
 use Rattle.listing_rules.specs.declared.Line.{Line}
-use Rattle.listing_rules.specs.Listing.{noted_line, crowded, line_width}
 use Rattle.listing_rules.specs.FrontLines.{Front, Extends, LeadsTo}
 use Rattle.listing_rules.proofs.FrontLineLaws.{extends-none, extends-over, leads-on}
 use Rattle.listing.specs.past_end.Beyond.{sought, lines_of, spanned, NotedBy, HeadedBy, Counts, Wrote, WritesAll, ListsBucket, ListsTarget, ListsSpan}
@@ -32,7 +31,7 @@ front-full lines new m f e h full = record {
   over = λ z. omega (arith, h.counted e, full, length-append lines new);
 }
 
-module _ (noted : List ℕ) (head t : ℕ) (skip : Skip) (all : ℕ) (counts : Counts noted head t true all) (m : List ℕ) (f : Fill) where
+module _ (noted : List ℕ) (head t : ℕ) (skip : SkipAmount) (all : ℕ) (counts : Counts noted head t true all) (m : List ℕ) (f : Fill) where
   -- A TARGET that is left out
   pub bucket-crowded : crowded skip all ≡ true → ListsBucket noted head t skip m f m f
   unfolding lines_of
@@ -74,7 +73,7 @@ module _ (noted : List ℕ) (head t : ℕ) (skip : Skip) (all : ℕ) (counts : C
           over = λ e. absurd (false≢true e);
         })
 
-module _ (noted goals : List ℕ) (t : ℕ) (skip : Skip) (m : List ℕ) (f : Fill) where
+module _ (noted goals : List ℕ) (t : ℕ) (skip : SkipAmount) (m : List ℕ) (f : Fill) where
   pub target-over : f.over ≡ true → ListsTarget noted goals t skip m f m f
   target-over e ns h = extends-over (lines_of skip ns t) m f e
 
@@ -98,19 +97,19 @@ module _ (noted goals : List ℕ) (t : ℕ) (skip : Skip) (m : List ℕ) (f : Fi
     target-bucket m' f' e b ns h = b ns (record { goals = goals; rows = h; head-is = is }) e
 
 -- FROM TARGET TO TARGET
-pub span-turn : (skip : Skip) (ns : List Noting) (t last : ℕ) → t < last → spanned skip ns t last ≡ lines_of skip ns t ++ spanned skip ns (t + 1) last
+pub span-turn : (skip : SkipAmount) (ns : List Noting) (t last : ℕ) → t < last → spanned skip ns t last ≡ lines_of skip ns t ++ spanned skip ns (t + 1) last
 unfolding from joined
 span-turn skip ns t last h = let e : last - t + 1 ≡ suc (last - (t + 1) + 1) = omega (arith, h) in rw e refl
 
-pub span-end : (skip : Skip) (ns : List Noting) (t last : ℕ) → last ≤ t → spanned skip ns t last ≡ lines_of skip ns t
+pub span-end : (skip : SkipAmount) (ns : List Noting) (t last : ℕ) → last ≤ t → spanned skip ns t last ≡ lines_of skip ns t
 unfolding from joined
 span-end skip ns t last h = let e : last - t + 1 ≡ suc 0 = omega (arith, h) in rw e (append-nil (lines_of skip ns t))
 
-abbrev pub Spans : List ℕ → List ℕ → ℕ → ℕ → Skip → List ℕ → Fill → List ℕ → Fill → ℕ → Type 0
+abbrev pub Spans : List ℕ → List ℕ → ℕ → ℕ → SkipAmount → List ℕ → Fill → List ℕ → Fill → ℕ → Type 0
 Spans noted goals first last skip m₀ f₀ m f t =
     (ns : List Noting) → NotedBy noted goals ns → LeadsTo (spanned skip ns t last) m f (spanned skip ns first last) m₀ f₀
 
-module _ (noted goals : List ℕ) (first last : ℕ) (skip : Skip) (m₀ : List ℕ) (f₀ : Fill) (m : List ℕ) (f : Fill) (t : ℕ) (h : Spans noted goals first last skip m₀ f₀ m f t)
+module _ (noted goals : List ℕ) (first last : ℕ) (skip : SkipAmount) (m₀ : List ℕ) (f₀ : Fill) (m : List ℕ) (f : Fill) (t : ℕ) (h : Spans noted goals first last skip m₀ f₀ m f t)
     (m' : List ℕ) (f' : Fill) (lists : ListsTarget noted goals t skip m f m' f') where
   pub spans_on : t < last → Spans noted goals first last skip m₀ f₀ m' f' (t + 1)
   spans_on l ns n =

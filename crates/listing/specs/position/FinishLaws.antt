@@ -8,8 +8,7 @@ use Rattle.lent.specs.Lists.{keep, fold, insert, sorted}
 use Rattle.lent.specs.Members.{◌among◌}
 use Rattle.image.specs.declared.fixup.Rules.{Rules}
 use Rattle.listing_rules.specs.declared.Line.{Line}
-use Rattle.listing_rules.specs.declared.Skip.{Skip}
-use Rattle.listing_rules.specs.Listing.{noted_line, best, crowded, graded_at, lines_at, line_width, line_numbers}
+use Rattle.listing_rules.specs.Listing.{SkipAmount, noted_line, best, crowded, graded_at, lines_at, line_width, line_numbers}
 use Rattle.listing_rules.specs.FrontLines.{Fronts, Front}
 use Rattle.listing_rules.proofs.FrontLineLaws.{numbers-length}
 use Rattle.listing.specs.order.Order.{by_name, Apart, Region, Orders}
@@ -38,7 +37,7 @@ sorted-length {A} less xs = go [] xs ∙ omega arith
     go ys [] = omega arith
     go ys (z ∷ zs) = go (insert less z ys) zs ∙ omega (arith, insert-length less z ys)
 
-module _ (library : List ℕ) (skip : Skip) (m : List ℕ) (from : ℕ) (b : Best) (lines all : List Line) (long : length lines ≡ from) (h : Bests lines all m b) where
+module _ (library : List ℕ) (skip : SkipAmount) (m : List ℕ) (from : ℕ) (b : Best) (lines all : List Line) (long : length lines ≡ from) (h : Bests lines all m b) where
   abbrev names : List Line
   names = best all
 
@@ -118,6 +117,6 @@ module _ (cells : List ℕ) {rules : Rules} {library segments references : List 
   unfolding graded_at
   met-small = best-small library cells k.a (segments_of cells k) k.ps k.ns at
 
-  pub met-listed : (skip : Skip) → listed library skip met ≡ lines_at library cells k.a (segments_of cells k) k.ps k.ns skip at
+  pub met-listed : (skip : SkipAmount) → listed library skip met ≡ lines_at library cells k.a (segments_of cells k) k.ps k.ns skip at
   unfolding graded_at lines_at
   met-listed skip = refl

@@ -1,6 +1,6 @@
 // The targets at which to look for names past the end, each found by one pass over the rows.
 ghost use Rattle.std.specs.Prelude.{◌≤◌};
-ghost use Rattle.listing.specs.past_end.Beyond.{Higher, Lower, NonePast, NoneBefore};
+ghost use Rattle.listing.specs.past_end.Beyond.{NonePast, NoneBefore};
 
 use lent::rows::cell;
 use search_rules::NOTED_WIDTH;
@@ -9,40 +9,15 @@ use search_rules::NOTED_WIDTH;
 // all rows for the next target each time.
 const MANY: usize = 128;
 
-// The higher of two targets.
-fn higher(a: u64, b: u64) -> u64
-    ensures { Higher a b result }
-{
-    if a < b {
-        return b;
-    }
-    a
-}
-
 // The highest target of n rows, 0 where there are no rows.
 pub fn highest(noted: &[u64], n: usize) -> u64
     ensures { NonePast noted.now n result }
 {
-    let mut top = 0;
-    let mut i = 0;
-    while i < n {
-        top = higher(top, cell(noted, NOTED_WIDTH, i, 0));
-        i += 1;
+    let mut top: u64 = 0;
+    for i in 0..n {
+        top = top.max(cell(noted, NOTED_WIDTH, i, 0));
     }
     top
-}
-
-// The target t instead of `least`, if it is lower and not below the bound.
-fn lower(bound: u64, least: u64, t: u64) -> u64
-    ensures { Lower bound least t result }
-{
-    if t < bound {
-        return least;
-    }
-    if t < least {
-        return t;
-    }
-    least
 }
 
 // The lowest target of n rows that is at or past a bound; `top` if no such target is below it.
@@ -50,22 +25,13 @@ pub fn lowest(noted: &[u64], n: usize, bound: u64, top: u64) -> u64
     ensures { NoneBefore noted.now n bound top result }
 {
     let mut least = top;
-    let mut i = 0;
-    while i < n {
-        least = lower(bound, least, cell(noted, NOTED_WIDTH, i, 0));
-        i += 1;
+    for i in 0..n {
+        let target = cell(noted, NOTED_WIDTH, i, 0);
+        if bound <= target {
+            least = least.min(target);
+        }
     }
     least
-}
-
-// The target t instead of `last`, if it is higher and at most `most`.
-fn further(last: u64, t: u64, most: u64) -> u64
-    ensures { last ≤ result }
-{
-    if most < t {
-        return last;
-    }
-    higher(last, t)
 }
 
 // The end of the span of targets that are tried one by one from `first` on. With few rows the span is `first`
@@ -79,10 +45,11 @@ pub fn span_end(noted: &[u64], n: usize, first: u64) -> u64
     }
     let most = first | 0xFFFF;
     let mut last = first;
-    let mut i = 0;
-    while i < n {
-        last = further(last, cell(noted, NOTED_WIDTH, i, 0), most);
-        i += 1;
+    for i in 0..n {
+        let target = cell(noted, NOTED_WIDTH, i, 0);
+        if target <= most {
+            last = last.max(target);
+        }
     }
     last
 }

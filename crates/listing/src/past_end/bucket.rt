@@ -3,7 +3,7 @@ ghost use Rattle.std.specs.Prelude.{◌≡◌};
 ghost use Rattle.listing.specs.past_end.Beyond.{noting_of, sought, Onward, Counts, WritesOne, WritesAll, ListsBucket};
 
 use listing_rules::rows::{LINE_WIDTH, put_line};
-use listing_rules::{Line, Skip, is_crowded};
+use listing_rules::{Line, is_crowded};
 use search::rows::noted_at;
 use search_rules::Noted;
 use tables::fill::Fill;
@@ -13,23 +13,14 @@ use tables::fill::Fill;
 fn onward(here: usize, link: usize) -> usize
     ensures { Onward here link result }
 {
-    if link < here {
-        return link;
-    }
-    0
+    if link < here { link } else { 0 }
 }
 
 // Whether a row has this target, and is valid, or all rows are sought.
 fn is_sought(row: Noted, t: u64, all: bool) -> bool
     ensures { result ≡ sought t all (noting_of row) }
 {
-    if row.target != t {
-        return false;
-    }
-    if all {
-        return true;
-    }
-    row.valid
+    row.target == t && (all || row.valid)
 }
 
 // How many rows of the target t there are, all or the valid ones.
@@ -91,7 +82,7 @@ pub fn list_bucket(
     noted: &[u64],
     head: usize,
     t: u64,
-    skip: Skip,
+    skip: Option<usize>,
     lines: &mut [u64],
     f: Fill,
 ) -> Fill

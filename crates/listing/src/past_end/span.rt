@@ -2,12 +2,18 @@
 ghost use Rattle.listing.specs.past_end.Beyond.{ListsTarget, ListsSpan};
 
 use crate::past_end::bucket::list_bucket;
-use listing_rules::Skip;
 use tables::by_name::{BUCKETS, head_at};
 use tables::fill::Fill;
 
 // Lists the names of the target t; a target whose bucket is empty is passed over at once.
-fn list_target(noted: &[u64], goals: &[u32], t: u64, skip: Skip, lines: &mut [u64], f: Fill) -> Fill
+fn list_target(
+    noted: &[u64],
+    goals: &[u32],
+    t: u64,
+    skip: Option<usize>,
+    lines: &mut [u64],
+    f: Fill,
+) -> Fill
     ensures { ListsTarget noted.now goals.now t skip lines.old f lines.new result }
 {
     if f.over {
@@ -26,17 +32,15 @@ pub fn list_span(
     goals: &[u32],
     first: u64,
     last: u64,
-    skip: Skip,
+    skip: Option<usize>,
     lines: &mut [u64],
     before: Fill,
 ) -> Fill
     ensures { ListsSpan noted.now goals.now first last skip lines.old before lines.new result }
 {
     let mut f = before;
-    let mut t = first;
-    while t < last {
+    for t in first..last {
         f = list_target(noted, goals, t, skip, lines, f);
-        t += 1;
     }
-    list_target(noted, goals, t, skip, lines, f)
+    list_target(noted, goals, first.max(last), skip, lines, f)
 }

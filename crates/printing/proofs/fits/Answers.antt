@@ -4,13 +4,13 @@ use Rattle.listing_rules.specs.Print.{printed_line}
 use Rattle.printing.specs.PrintedTextLaws.{room-none, room-heading, room-turn, room-short, room-end}
 use Rattle.printing.proofs.fits.Goals as goal
 
-pub returns-then-room-lt-HEADING : goal.returns-then-room-lt-HEADING
-returns-then-room-lt-HEADING c =
-    let a = c.args in sym (room-none a.library.now a.lines.now a.n a.room c.if-room-lt-HEADING.true)
+pub returns-then-room : goal.returns-then-room
+returns-then-room c =
+    let a = c.args in sym (room-none a.library.now a.lines.now a.n a.room c.if-room.true)
 
 pub loop-i-init : goal.loop-i-init
 loop-i-init c =
-    let a = c.args in room-heading a.library.now a.lines.now a.n a.room c.if-room-lt-HEADING.false
+    let a = c.args in room-heading a.library.now a.lines.now a.n a.room c.if-room.false
 
 pub returns-then-left-size : goal.returns-then-left-size
 returns-then-left-size c =

@@ -1,5 +1,4 @@
 -- `fits` meets its contract: the room that is left is for the lines that are left. Assumes nothing.
-use Prim.Native.Nat.{◌-◌}
 use mathlib.Core.Path.{◌≡◌}
 use lib.Dec.{leb}
 use lib.ListN.{length}
@@ -11,7 +10,3 @@ use Rattle.printing.proofs.fits.Given as goal
 abbrev pub invariant-loop-i : goal.invariant-loop-i
 invariant-loop-i l =
     leb (length (lines_from l.library l.lines l.n l.i)) l.left ≡ leb (length (printed l.library (stored_lines l.lines l.n))) l.room
-
-abbrev pub decreases-loop-i : goal.decreases-loop-i
-decreases-loop-i l =
-    l.n - l.i

@@ -11,13 +11,13 @@ use Rattle.printing.specs.PrintedTextLaws.{lines-all, line-fits, done_more, done
 use borrow.Author.Rules.{rules}
 use Rattle.printing.proofs.put_all.Goals as goal
 
-pub put_heading-at-requires : goal.put_heading-at-requires
-put_heading-at-requires c =
+pub put-at-requires : goal.put-at-requires
+put-at-requires c =
     let a = c.args in omega (arith, printed-length a.library.now a.lines.now a.n)
 
 pub loop-i-init : goal.loop-i-init
 loop-i-init c =
-    record { done = []; long = refl; wrote = put-nothing c.put_heading-at.new.out c.put_heading-at.result; whole = refl }
+    record { done = []; long = refl; wrote = put-nothing c.put-at.new.out c.put-at.result; whole = refl }
 
 pub put_line-at-requires : goal.put_line-at-requires
 put_line-at-requires c =
@@ -27,8 +27,8 @@ put_line-at-requires c =
       arith,
       l.invariant.wrote.ends,
       l.invariant.long,
-      c.put_heading-at.auto.out,
-      c.put_heading-at.ensures.ends,
+      c.put-at.auto.out,
+      c.put-at.ensures.ends,
       c.requires,
       printed-length a.library.now a.lines.now a.n,
       ap (λ r. length (printed_line a.library.now r)) c.line_at.ensures,
@@ -51,5 +51,5 @@ returns c =
     let a = c.args in
     let l = c.loop-i in
     put_as (lines-all a.library.now a.lines.now a.n)
-    (c.put_heading-at.ensures
+    (c.put-at.ensures
     then-put put_as (done_all a.library.now a.lines.now a.n l.i l.invariant.done l.invariant.whole c.loop-i-test.false) l.invariant.wrote)

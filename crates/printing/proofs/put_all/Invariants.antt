@@ -1,5 +1,5 @@
 -- `put_all` meets its contract: behind the heading, what was put and the lines that are left are all lines. Assumes nothing.
-use Prim.Native.Nat.{ℕ, ◌-◌}
+use Prim.Native.Nat.{ℕ}
 use mathlib.Core.Path.{◌≡◌}
 use mathlib.Core.List.{List, ◌++◌}
 use lib.ListN.{length}
@@ -16,7 +16,3 @@ pub record Turn (library lines : List ℕ) (n : ℕ) (out₀ : List ℕ) (at₀ 
 abbrev pub invariant-loop-i : goal.invariant-loop-i
 invariant-loop-i l =
     Turn l.library l.lines l.n l.initial.out l.initial.at l.out l.at l.i
-
-abbrev pub decreases-loop-i : goal.decreases-loop-i
-decreases-loop-i l =
-    l.n - l.i

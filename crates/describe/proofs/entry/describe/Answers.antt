@@ -1,21 +1,16 @@
--- `listing::describe::describe` meets its contract: no description, no room, or the text.
-use mathlib.Core.Path.{sym, ap, ◌∙◌}
+-- `describe` meets its contract: the text, no room for it, or no description.
 use native.Mathlib.Omega.{arith}
-use Rattle.describe.specs.Described.{sentence_in}
-use Rattle.describe.specs.DescribedLaws.{undescribed, too_short, fits}
+use mathlib.Core.Path.{ap}
+use Rattle.describe.specs.DescribedLaws.{fits}
+use Rattle.describe.specs.SpokenLaws.{longest}
+use Rattle.describe.specs.Described.{length_in}
 use Rattle.describe.proofs.entry.describe.Goals as goal
 
-pub returns-then-out-size : goal.returns-then-out-size
-returns-then-out-size c =
-    let a = c.args in
-    too_short a.name.now a.out.now (ap sentence_in (sym c.in-Whole.is) ∙ c.parse.ensures) (omega arith)
+pub size-requires : goal.size-requires
+size-requires c =
+    omega (arith, longest c.args.name.now, ap length_in c.in-Some.ensures)
 
-pub returns-else-out-size : goal.returns-else-out-size
-returns-else-out-size c =
+pub returns : goal.returns
+returns c =
     let a = c.args in
-    fits a.name.now a.out.now (ap sentence_in (sym c.in-Whole.is) ∙ c.parse.ensures) (omega arith) c.write.ensures
-
-pub returns-in-Nothing : goal.returns-in-Nothing
-returns-in-Nothing c =
-    let a = c.args in
-    undescribed a.name.now a.out.now (ap sentence_in (sym c.in-Nothing.is) ∙ c.parse.ensures)
+    fits a.name.now a.out.now c.in-Some.ensures (omega arith) c.write.ensures

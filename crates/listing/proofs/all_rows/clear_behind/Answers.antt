@@ -9,4 +9,4 @@ returns-then-end-count c =
 
 pub returns : goal.returns
 returns c =
-    behind-cleared c.args.m.now c.args.count c.clear.new.rows (omega (arith, c.if-end-count.false)) c.clear.ensures
+    behind-cleared c.args.m.now c.args.count c.fill.new.self (omega (arith, c.if-end-count.false)) (c.fill.ensures.after (λ y e. e))

@@ -16,4 +16,4 @@ returns c =
     all_listed cells a.skip k (length a.image.now) (view-length a.image.now (stretches_in a.s.now))
     a.lines.now inside.new.m past.new.lines
     c.leave.new.m inside.result past.result (c.list_beyond-all.auto.lines ∙ c.list_inside-inside.auto.m)
-    (inside.ensures k small) (past.ensures a.library.now k.ns number (names-tabled cells a.skip k a.names number)) c.leave.ensures
+    (inside.ensures k small) (past.ensures a.found.now.library.now k.ns number (names-tabled cells a.skip k a.names number)) c.leave.ensures

@@ -25,16 +25,4 @@ loop-at-preserved c =
     skips-on a.positions.now a.goals.now a.from a.end l.at r l.invariant (omega (arith, s.on)) (s.within (omega (arith, c.loop-at-test.true)))
     (bare-on a.positions.now a.goals.now l.at (l.at + 1) r
     (bare-one a.positions.now a.goals.now l.at
-    (sym c.number_at.ensures ∙ c.if-number_at-ne0.false) (sym c.number_at-in-loop-at.ensures ∙ c.if-number_at-ne0-2.false)) s.bare)
-
-pub returns-then-number_at-ne0 : goal.returns-then-number_at-ne0
-returns-then-number_at-ne0 c =
-    c.loop-at.invariant
-
-pub returns-then-number_at-ne0-2 : goal.returns-then-number_at-ne0-2
-returns-then-number_at-ne0-2 c =
-    c.loop-at.invariant
-
-pub returns : goal.returns
-returns c =
-    c.loop-at.invariant
+    (sym c.number_at.ensures ∙ c.if-number_at-eq0.true) (sym c.number_at-then-number_at-eq0.ensures ∙ c.if-number_at-eq0-2.true)) s.bare)

@@ -12,42 +12,30 @@ use Rattle.listing.proofs.grade.bear_out.Goals as goal
 use Rattle.listing.proofs.grade.bear_out.Goals.{In-loop-k}
 use Rattle.listing.proofs.grade.bear_out.Invariants.{bears}
 
-fits : (c : In-loop-k) → c.args.part.at + c.args.part.len ≤ length c.args.references.now / 6
+fits : (c : In-loop-k) → c.args.part.at + c.args.part.len ≤ length c.args.found.now.references.now / 6
 fits c =
-    rows_few reference_layout c.args.references.now c.args.part c.lies_within.result c.lies_within.ensures (ap not c.if-not-lies_within.false)
+    rows_few reference_layout c.args.found.now.references.now c.args.part c.lies_within.result c.lies_within.ensures (ap not c.if-not-lies_within.false)
 
 pub returns-then-not-lies_within : goal.returns-then-not-lies_within
 returns-then-not-lies_within c =
     let a = c.args in
-    sym (all_end (bears a.image.now (stretches_in a.s.now) a.rules a.library.now a.placed.now a.positions.now a.base)
-    (rows-past reference_layout a.references.now a.part c.lies_within.result c.lies_within.ensures (ap not c.if-not-lies_within.true)))
+    sym (all_end (bears a.image.now (stretches_in a.s.now) a.rules a.found.now.library.now a.found.now.placed.now a.found.now.positions.now a.base)
+    (rows-past reference_layout a.found.now.references.now a.part c.lies_within.result c.lies_within.ensures (ap not c.if-not-lies_within.true)))
 
 pub loop-k-init : goal.loop-k-init
 loop-k-init c =
     record { within = omega arith; left = refl }
 
-pub overflow_add-at : goal.overflow_add-at
-overflow_add-at c =
-    omega (arith, c.loop-k-test.true, fits (goal.at.overflow_add-at c).In-loop-k, c.well_formed.1.1.1.1.0)
-
 pub returns-then-not-bears_out : goal.returns-then-not-bears_out
 returns-then-not-bears_out c =
     let a = c.args in
-    sym (ap (all (bears a.image.now (stretches_in a.s.now) a.rules a.library.now a.placed.now a.positions.now a.base))
-    (rows-within reference_layout a.references.now a.part c.lies_within.result c.lies_within.ensures (ap not c.if-not-lies_within.false))
+    sym (ap (all (bears a.image.now (stretches_in a.s.now) a.rules a.found.now.library.now a.found.now.placed.now a.found.now.positions.now a.base))
+    (rows-within reference_layout a.found.now.references.now a.part c.lies_within.result c.lies_within.ensures (ap not c.if-not-lies_within.false))
     ∙ sym c.loop-k.invariant.left
-    ∙ all-fails (bears a.image.now (stretches_in a.s.now) a.rules a.library.now a.placed.now a.positions.now a.base)
-    (rows-turn reference_layout a.references.now a.part c.loop-k.k (omega (arith, c.loop-k-test.true)))
-    (ap (bears a.image.now (stretches_in a.s.now) a.rules a.library.now a.placed.now a.positions.now a.base)
+    ∙ all-fails (bears a.image.now (stretches_in a.s.now) a.rules a.found.now.library.now a.found.now.placed.now a.found.now.positions.now a.base)
+    (rows-turn reference_layout a.found.now.references.now a.part c.loop-k.k (omega (arith, c.loop-k-test.true)))
+    (ap (bears a.image.now (stretches_in a.s.now) a.rules a.found.now.library.now a.found.now.placed.now a.found.now.positions.now a.base)
     (sym c.reference_at-r.ensures) ∙ turned-true c.bears_out.result c.bears_out.ensures (ap not c.if-not-bears_out.true)))
-
-pub overflow_add-k : goal.overflow_add-k
-overflow_add-k c =
-    omega (arith, c.loop-k-test.true, fits (goal.at.overflow_add-k c).In-loop-k, c.well_formed.1.1.1.1.0)
-
-pub loop-k-smaller : goal.loop-k-smaller
-loop-k-smaller c =
-    omega (arith, c.loop-k-test.true)
 
 pub loop-k-preserved : goal.loop-k-preserved
 loop-k-preserved c =
@@ -55,9 +43,9 @@ loop-k-preserved c =
     record {
       within = omega (arith, c.loop-k-test.true);
       left =
-          sym (all-on (bears a.image.now (stretches_in a.s.now) a.rules a.library.now a.placed.now a.positions.now a.base)
-          (rows-turn reference_layout a.references.now a.part c.loop-k.k (omega (arith, c.loop-k-test.true)))
-          (ap (bears a.image.now (stretches_in a.s.now) a.rules a.library.now a.placed.now a.positions.now a.base)
+          sym (all-on (bears a.image.now (stretches_in a.s.now) a.rules a.found.now.library.now a.found.now.placed.now a.found.now.positions.now a.base)
+          (rows-turn reference_layout a.found.now.references.now a.part c.loop-k.k (omega (arith, c.loop-k-test.true)))
+          (ap (bears a.image.now (stretches_in a.s.now) a.rules a.found.now.library.now a.found.now.placed.now a.found.now.positions.now a.base)
           (sym c.reference_at-r.ensures) ∙ turned-false c.bears_out.result c.bears_out.ensures (ap not c.if-not-bears_out.false)))
           ∙ c.loop-k.invariant.left;
     }
@@ -65,8 +53,8 @@ loop-k-preserved c =
 pub returns : goal.returns
 returns c =
     let a = c.args in
-    sym (ap (all (bears a.image.now (stretches_in a.s.now) a.rules a.library.now a.placed.now a.positions.now a.base))
-    (rows-within reference_layout a.references.now a.part c.lies_within.result c.lies_within.ensures (ap not c.if-not-lies_within.false))
+    sym (ap (all (bears a.image.now (stretches_in a.s.now) a.rules a.found.now.library.now a.found.now.placed.now a.found.now.positions.now a.base))
+    (rows-within reference_layout a.found.now.references.now a.part c.lies_within.result c.lies_within.ensures (ap not c.if-not-lies_within.false))
     ∙ sym c.loop-k.invariant.left
-    ∙ all_end (bears a.image.now (stretches_in a.s.now) a.rules a.library.now a.placed.now a.positions.now a.base)
-    (rows_end reference_layout a.references.now a.part c.loop-k.k (omega (arith, c.loop-k-test.false))))
+    ∙ all_end (bears a.image.now (stretches_in a.s.now) a.rules a.found.now.library.now a.found.now.placed.now a.found.now.positions.now a.base)
+    (rows_end reference_layout a.found.now.references.now a.part c.loop-k.k (omega (arith, c.loop-k-test.false))))

@@ -1,5 +1,5 @@
 -- `bear_out` goes from row to row. The invariant: all of them do exactly if all that are left do. Assumes nothing.
-use Prim.Native.Nat.{ℕ, ◌-◌, ◌≤◌}
+use Prim.Native.Nat.{ℕ, ◌≤◌}
 use mathlib.Core.Path.{◌≡◌}
 use mathlib.Core.Bool.{Bool}
 use mathlib.Core.List.{List}
@@ -24,8 +24,4 @@ pub record Inv (p : Reference → Bool) (references : List ℕ) (part : Part) (k
 
 abbrev pub invariant-loop-k : goal.invariant-loop-k
 invariant-loop-k l =
-    Inv (bears l.image (stretches_in l.s) l.rules l.library l.placed l.positions l.base) l.references (record { at = l.at; len = l.len }) l.k
-
-abbrev pub decreases-loop-k : goal.decreases-loop-k
-decreases-loop-k l =
-    l.len - l.k
+    Inv (bears l.image (stretches_in l.s) l.rules l.found.library.now l.found.placed.now l.found.positions.now l.base) l.found.references.now l.part l.k

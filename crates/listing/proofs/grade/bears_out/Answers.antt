@@ -9,12 +9,12 @@ returns-in_default c =
 
 pub returns-in-PastEnd : goal.returns-in-PastEnd
 returns-in-PastEnd c =
-    ap (asks_of (is_found c.args.library.now 8 c.args.placed.now c.args.positions.now) c.args.r.goal)
+    ap (asks_of (is_found c.args.found.now.library.now 8 c.args.found.now.placed.now c.args.found.now.positions.now) c.args.r.goal)
     (sym (sym c.target_of.ensures ∙ c.in-PastEnd.is))
 
 pub returns-in-Withheld : goal.returns-in-Withheld
 returns-in-Withheld c =
-    ap (asks_of (is_found c.args.library.now 8 c.args.placed.now c.args.positions.now) c.args.r.goal)
+    ap (asks_of (is_found c.args.found.now.library.now 8 c.args.found.now.placed.now c.args.found.now.positions.now) c.args.r.goal)
     (sym (sym c.target_of.ensures ∙ c.in-Withheld.is))
 
 pub returns-in-Name : goal.returns-in-Name

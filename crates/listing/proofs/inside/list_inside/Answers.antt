@@ -21,7 +21,7 @@ loop-at-init c =
 
 pub overflow_add-at : goal.overflow_add-at
 overflow_add-at c =
-    omega (arith, c.loop-at-test.true, c.well_formed.0)
+    omega (arith, c.loop-at-test.true)
 
 pub loop-at-smaller : goal.loop-at-smaller
 loop-at-smaller c =

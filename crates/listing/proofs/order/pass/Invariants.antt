@@ -1,5 +1,5 @@
 -- `pass` lets one line after another sink. The invariant: the first i are passed. Assumes nothing.
-use Prim.Native.Nat.{ℕ, ◌-◌}
+use Prim.Native.Nat.{ℕ}
 use mathlib.Core.Path.{◌≡◌}
 use mathlib.Core.List.{List}
 use lib.ListN.{length}
@@ -14,7 +14,3 @@ pub record Inv (library m₀ : List ℕ) (from n gap : ℕ) (m : List ℕ) (i : 
 abbrev pub invariant-loop-i : goal.invariant-loop-i
 invariant-loop-i l =
     Inv l.library l.initial.m l.from l.n l.gap l.m l.i
-
-abbrev pub decreases-loop-i : goal.decreases-loop-i
-decreases-loop-i l =
-    l.n - l.i

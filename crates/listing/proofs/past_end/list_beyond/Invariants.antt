@@ -4,11 +4,11 @@ use mathlib.Core.Path.{◌≡◌}
 use mathlib.Core.List.{List}
 use lib.ListN.{length}
 use Rattle.tables.specs.declared.fill.Fill.{Fill}
-use Rattle.listing_rules.specs.declared.Skip.{Skip}
+use Rattle.listing_rules.specs.Listing.{SkipAmount}
 use Rattle.listing.specs.past_end.BeyondLaws.{Leaves}
 use Rattle.listing.proofs.past_end.list_beyond.Given as goal
 
-pub record Inv (noted : List ℕ) (n : ℕ) (goals : List ℕ) (end : ℕ) (skip : Skip) (lines₀ : List ℕ) (f₀ : Fill) (lines : List ℕ) (f : Fill) (bound : ℕ) : Type 0 where
+pub record Inv (noted : List ℕ) (n : ℕ) (goals : List ℕ) (end : ℕ) (skip : SkipAmount) (lines₀ : List ℕ) (f₀ : Fill) (lines : List ℕ) (f : Fill) (bound : ℕ) : Type 0 where
   pub long : length lines ≡ length lines₀
   pub leaves : Leaves noted n goals end skip lines₀ f₀ lines f bound
 

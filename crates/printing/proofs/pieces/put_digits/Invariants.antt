@@ -15,7 +15,3 @@ pub record Turn (out₀ : List ℕ) (at n number : ℕ) (out : List ℕ) (rest j
 abbrev pub invariant-loop-j : goal.invariant-loop-j
 invariant-loop-j l =
     Turn l.initial.out l.at l.n l.number l.out l.rest l.j
-
-abbrev pub decreases-loop-j : goal.decreases-loop-j
-decreases-loop-j l =
-    l.j

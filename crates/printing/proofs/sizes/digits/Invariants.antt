@@ -11,7 +11,3 @@ pub record Turn (address rest n : ℕ) : Type 0 where
 abbrev pub invariant-loop-n : goal.invariant-loop-n
 invariant-loop-n l =
     Turn l.address l.rest l.n
-
-abbrev pub decreases-loop-n : goal.decreases-loop-n
-decreases-loop-n l =
-    16 - l.n

@@ -2,28 +2,21 @@
 use mathlib.Core.Path.{refl}
 use native.Mathlib.Omega.{arith}
 use lib.ListN.{replicate}
-use Rattle.printing.specs.PieceLaws.{held, held-length}
+use Rattle.printing.specs.PieceLaws.{held, has-room, held-length}
 use Rattle.printing.proofs.sizes.remark.Goals as goal
+
+pub unwrap-requires : goal.unwrap-requires
+unwrap-requires c =
+    has-room c.args.bytes.now (replicate 88 0) refl c.describe.ensures
 
 pub overflow_add-result : goal.overflow_add-result
 overflow_add-result c =
-    omega (
-      arith,
-      (held c.args.bytes.now (replicate 88 0) refl
-          c.describe.ensures c.in-Written.is).short,
-    )
+    omega (arith, (held c.args.bytes.now (replicate 88 0) refl c.describe.ensures c.in-Some.ensures).short)
 
-pub returns-in-Written : goal.returns-in-Written
-returns-in-Written c =
-    let b = c.args.bytes.now in held-length b
-    (held b (replicate 88 0) refl c.describe.ensures c.in-Written.is)
+pub returns-in-Some : goal.returns-in-Some
+returns-in-Some c =
+    let b = c.args.bytes.now in held-length b (held b (replicate 88 0) refl c.describe.ensures c.in-Some.ensures)
 
-pub returns-in-NoRoom : goal.returns-in-NoRoom
-returns-in-NoRoom c =
-    let b = c.args.bytes.now in held-length b
-    (held b (replicate 88 0) refl c.describe.ensures c.in-NoRoom.is)
-
-pub returns-in-Nothing : goal.returns-in-Nothing
-returns-in-Nothing c =
-    let b = c.args.bytes.now in held-length b
-    (held b (replicate 88 0) refl c.describe.ensures c.in-Nothing.is)
+pub returns-in-None : goal.returns-in-None
+returns-in-None c =
+    let b = c.args.bytes.now in held-length b (held b (replicate 88 0) refl c.describe.ensures c.in-None.ensures)

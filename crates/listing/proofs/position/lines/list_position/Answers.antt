@@ -16,7 +16,7 @@ use Rattle.listing.proofs.position.lines.list_position.Goals as goal
 pub returns-then-f : goal.returns-then-f
 returns-then-f c =
     let a = c.args in
-    λ k small. extends-over (lines_at a.library.now (view a.image.now (stretches_in a.s.now)) k.a (segments_of (view a.image.now (stretches_in a.s.now)) k) k.ps
+    λ k small. extends-over (lines_at a.found.now.library.now (view a.image.now (stretches_in a.s.now)) k.a (segments_of (view a.image.now (stretches_in a.s.now)) k) k.ps
     k.ns a.skip a.at) a.m.now a.f c.if-f.true
 
 pub returns-then-m-from : goal.returns-then-m-from
@@ -49,7 +49,7 @@ returns c =
     λ k small lines front.
     let e = c.if-f.false in
     let long = sym (front.counted e) in
-    let heard = c.walk_noted-heard.ensures.walked a.library.now k.ns lines k.sought.notings small long (front.fits e) in
+    let heard = c.walk_noted-heard.ensures.walked a.found.now.library.now k.ns lines k.sought.notings small long (front.fits e) in
     let met = c.walk_placed-best.ensures.walked k lines (map noted_line (keep (noted_at_it a.at) k.ns)) small long heard in
     subst (λ ls. Front (lines ++ ls) c.finish.new.m c.finish.result) (met-listed cells k a.at a.skip)
     (c.finish.ensures lines (map (line_of cells k) (keep (stays_at cells k a.at) k.ps) ++ map noted_line

@@ -11,15 +11,15 @@ use Rattle.listing.proofs.position.placed.take_placed.Goals as goal
 
 pub returns-then-row-at : goal.returns-then-row-at
 returns-then-row-at c =
-    let graded : ℕ = row_grade (view c.args.image.now (stretches_in c.args.s.now)) c.args.library.now c.args.rules c.args.segments.now
-    c.args.references.now c.args.n c.args.placed.now c.args.positions.now c.args.noted.now c.args.goals.now c.args.row in
+    let graded : ℕ = row_grade (view c.args.image.now (stretches_in c.args.s.now)) c.args.found.now.library.now c.args.rules c.args.found.now.segments.now
+    c.args.found.now.references.now c.args.found.now.n c.args.found.now.placed.now c.args.found.now.positions.now c.args.found.now.noted.now c.args.found.now.goals.now c.args.row in
     meets-none c.args.from (placed_lines c.args.at (graded) c.args.row) c.args.m.now c.args.b
     (placed-elsewhere c.args.at (graded) c.args.row c.if-row-at.true)
 
 pub returns-then-grade-eq0 : goal.returns-then-grade-eq0
 returns-then-grade-eq0 c =
-    let graded : ℕ = row_grade (view c.args.image.now (stretches_in c.args.s.now)) c.args.library.now c.args.rules c.args.segments.now
-    c.args.references.now c.args.n c.args.placed.now c.args.positions.now c.args.noted.now c.args.goals.now c.args.row in
+    let graded : ℕ = row_grade (view c.args.image.now (stretches_in c.args.s.now)) c.args.found.now.library.now c.args.rules c.args.found.now.segments.now
+    c.args.found.now.references.now c.args.found.now.n c.args.found.now.placed.now c.args.found.now.positions.now c.args.found.now.noted.now c.args.found.now.goals.now c.args.row in
     let a = c.args in
     meets-none a.from (placed_lines a.at (graded) a.row) a.m.now a.b
     (placed-dropped a.at (graded) a.row c.if-row-at.false (sym c.grade-grade.ensures ∙ c.if-grade-eq0.true))
@@ -30,8 +30,8 @@ take_in-requires c =
 
 pub returns : goal.returns
 returns c =
-    let graded : ℕ = row_grade (view c.args.image.now (stretches_in c.args.s.now)) c.args.library.now c.args.rules c.args.segments.now
-    c.args.references.now c.args.n c.args.placed.now c.args.positions.now c.args.noted.now c.args.goals.now c.args.row in
+    let graded : ℕ = row_grade (view c.args.image.now (stretches_in c.args.s.now)) c.args.found.now.library.now c.args.rules c.args.found.now.segments.now
+    c.args.found.now.references.now c.args.found.now.n c.args.found.now.placed.now c.args.found.now.positions.now c.args.found.now.noted.now c.args.found.now.goals.now c.args.row in
     let a = c.args in
     meets-this a.from (placed_lines a.at (graded) a.row) (record { address = a.at; grade = graded; name = a.row.name })
     a.m.now c.take_in.new.m a.b c.take_in.result

@@ -25,20 +25,20 @@ none = record { position = 0; name = record { at = 0; len = 0 }; valid = false; 
 
 abbrev lines_of : (c : In-loop-here) → Placed → List Line
 lines_of c =
-    row_lines (view c.args.image.now (stretches_in c.args.s.now)) c.args.rules c.args.library.now c.args.segments.now c.args.n c.args.references.now
-    c.args.placed.now c.args.positions.now c.args.noted.now c.args.goals.now c.args.at
+    row_lines (view c.args.image.now (stretches_in c.args.s.now)) c.args.rules c.args.found.now.library.now c.args.found.now.segments.now c.args.found.now.n c.args.found.now.references.now
+    c.args.found.now.placed.now c.args.found.now.positions.now c.args.found.now.noted.now c.args.found.now.goals.now c.args.at
 
-pub returns-then-placed-here : goal.returns-then-placed-here
-returns-then-placed-here c =
-    let Known-at : Type 0 = Known c.args.rules c.args.library.now c.args.segments.now c.args.references.now c.args.n c.args.placed.now
-    c.args.positions.now c.args.noted.now c.args.goals.now in
+pub returns-then-found-here : goal.returns-then-found-here
+returns-then-found-here c =
+    let Known-at : Type 0 = Known c.args.rules c.args.found.now.library.now c.args.found.now.segments.now c.args.found.now.references.now c.args.found.now.n c.args.found.now.placed.now
+    c.args.found.now.positions.now c.args.found.now.noted.now c.args.found.now.goals.now in
     let within : (k : Known-at) → c.args.at < key_buckets → (p : Placing) → stays_at (view c.args.image.now (stretches_in c.args.s.now)) k c.args.at
-    p ≡ true → key_bucket p.position ≡ c.args.at = λ k small. known-within (view c.args.image.now (stretches_in c.args.s.now)) c.args.rules c.args.library.now c.args.segments.now
-    c.args.n c.args.references.now c.args.placed.now c.args.positions.now c.args.noted.now c.args.goals.now k c.args.at small in
+    p ≡ true → key_bucket p.position ≡ c.args.at = λ k small. known-within (view c.args.image.now (stretches_in c.args.s.now)) c.args.rules c.args.found.now.library.now c.args.found.now.segments.now
+    c.args.found.now.n c.args.found.now.references.now c.args.found.now.placed.now c.args.found.now.positions.now c.args.found.now.noted.now c.args.found.now.goals.now k c.args.at small in
     let started : (k : Known-at) (lines before : List Line) → c.args.at < key_buckets → Bests lines before c.args.m.now c.args.before → Walked
-    placed_sheet c.args.library.now k.ps c.args.at (stays_at (view c.args.image.now (stretches_in c.args.s.now)) k c.args.at)
+    placed_sheet c.args.found.now.library.now k.ps c.args.at (stays_at (view c.args.image.now (stretches_in c.args.s.now)) k c.args.at)
     (line_of (view c.args.image.now (stretches_in c.args.s.now)) k) lines before c.head_at-here.result c.args.m.now c.args.before = λ k lines before small h. let a = c.args in
-    walked-first placed_sheet a.library.now placed-reads none k.ps k.sought.placings refl a.at
+    walked-first placed_sheet a.found.now.library.now placed-reads none k.ps k.sought.placings refl a.at
     (stays_at (view a.image.now (stretches_in a.s.now)) k a.at) (within k small) (line_of (view a.image.now (stretches_in a.s.now)) k) lines before
     c.head_at-here.result a.m.now a.before small c.head_at-here.ensures h in
     let a = c.args in
@@ -47,9 +47,9 @@ returns-then-placed-here c =
       walked = λ k lines before small long h.
           absurd (omega (
             arith,
-            c.if-placed-here.true,
-            (le-div_iff_mul-le {k = 8} {x = c.head_at-here.result} {y = length a.placed.now} (omega arith)).1
-                (walked-room placed_sheet a.library.now placed-reads none k.ps k.sought.placings refl a.at
+            c.if-found-here.true,
+            (le-div_iff_mul-le {k = 8} {x = c.head_at-here.result} {y = length a.found.now.placed.now} (omega arith)).1
+                (walked-room placed_sheet a.found.now.library.now placed-reads none k.ps k.sought.placings refl a.at
                 (stays_at (view a.image.now (stretches_in a.s.now)) k a.at) (within k small)
                 (line_of (view a.image.now (stretches_in a.s.now)) k) lines before (started k lines before small h)),
           ));
@@ -57,19 +57,19 @@ returns-then-placed-here c =
 
 pub loop-here-init : goal.loop-here-init
 loop-here-init c =
-    let Known-at : Type 0 = Known c.args.rules c.args.library.now c.args.segments.now c.args.references.now c.args.n c.args.placed.now
-    c.args.positions.now c.args.noted.now c.args.goals.now in
+    let Known-at : Type 0 = Known c.args.rules c.args.found.now.library.now c.args.found.now.segments.now c.args.found.now.references.now c.args.found.now.n c.args.found.now.placed.now
+    c.args.found.now.positions.now c.args.found.now.noted.now c.args.found.now.goals.now in
     let within : (k : Known-at) → c.args.at < key_buckets → (p : Placing) → stays_at (view c.args.image.now (stretches_in c.args.s.now)) k c.args.at
-    p ≡ true → key_bucket p.position ≡ c.args.at = λ k small. known-within (view c.args.image.now (stretches_in c.args.s.now)) c.args.rules c.args.library.now c.args.segments.now
-    c.args.n c.args.references.now c.args.placed.now c.args.positions.now c.args.noted.now c.args.goals.now k c.args.at small in
+    p ≡ true → key_bucket p.position ≡ c.args.at = λ k small. known-within (view c.args.image.now (stretches_in c.args.s.now)) c.args.rules c.args.found.now.library.now c.args.found.now.segments.now
+    c.args.found.now.n c.args.found.now.references.now c.args.found.now.placed.now c.args.found.now.positions.now c.args.found.now.noted.now c.args.found.now.goals.now k c.args.at small in
     let started : (k : Known-at) (lines before : List Line) → c.args.at < key_buckets → Bests lines before c.args.m.now c.args.before → Walked
-    placed_sheet c.args.library.now k.ps c.args.at (stays_at (view c.args.image.now (stretches_in c.args.s.now)) k c.args.at)
+    placed_sheet c.args.found.now.library.now k.ps c.args.at (stays_at (view c.args.image.now (stretches_in c.args.s.now)) k c.args.at)
     (line_of (view c.args.image.now (stretches_in c.args.s.now)) k) lines before c.head_at-here.result c.args.m.now c.args.before = λ k lines before small h. let a = c.args in
-    walked-first placed_sheet a.library.now placed-reads none k.ps k.sought.placings refl a.at
+    walked-first placed_sheet a.found.now.library.now placed-reads none k.ps k.sought.placings refl a.at
     (stays_at (view a.image.now (stretches_in a.s.now)) k a.at) (within k small) (line_of (view a.image.now (stretches_in a.s.now)) k) lines before
     c.head_at-here.result a.m.now a.before small c.head_at-here.ensures h in
     record {
-      few = omega (arith, c.if-placed-here.false);
+      few = omega (arith, c.if-found-here.false);
       long = refl;
       walked = λ k lines before small long h. started k lines before small h;
     }
@@ -80,29 +80,20 @@ overflow_sub-here c =
 
 pub take_placed-b-requires : goal.take_placed-b-requires
 take_placed-b-requires c =
-    omega (
-      arith,
-      c.loop-here.invariant.few,
-      c.loop-here-test.true,
-      c.requires.0,
-      c.requires.1,
-      c.well_formed.1.1.1.1.1.1.1.0,
-      c.well_formed.1.1.1.1.1.1.1.1.1.0,
-      c.well_formed.1.1.1.1.1.1.1.1.1.1.1.1.0,
-    )
+    omega (arith, c.loop-here.invariant.few, c.loop-here-test.true, c.requires.0, c.requires.1)
 
 pub returns-then-here-next : goal.returns-then-here-next
 returns-then-here-next c =
-    let Known-at : Type 0 = Known c.args.rules c.args.library.now c.args.segments.now c.args.references.now c.args.n c.args.placed.now
-    c.args.positions.now c.args.noted.now c.args.goals.now in
+    let Known-at : Type 0 = Known c.args.rules c.args.found.now.library.now c.args.found.now.segments.now c.args.found.now.references.now c.args.found.now.n c.args.found.now.placed.now
+    c.args.found.now.positions.now c.args.found.now.noted.now c.args.found.now.goals.now in
     let within : (k : Known-at) → c.args.at < key_buckets → (p : Placing) → stays_at (view c.args.image.now (stretches_in c.args.s.now)) k c.args.at
-    p ≡ true → key_bucket p.position ≡ c.args.at = λ k small. known-within (view c.args.image.now (stretches_in c.args.s.now)) c.args.rules c.args.library.now c.args.segments.now
-    c.args.n c.args.references.now c.args.placed.now c.args.positions.now c.args.noted.now c.args.goals.now k c.args.at small in
+    p ≡ true → key_bucket p.position ≡ c.args.at = λ k small. known-within (view c.args.image.now (stretches_in c.args.s.now)) c.args.rules c.args.found.now.library.now c.args.found.now.segments.now
+    c.args.found.now.n c.args.found.now.references.now c.args.found.now.placed.now c.args.found.now.positions.now c.args.found.now.noted.now c.args.found.now.goals.now k c.args.at small in
     let are : (k : Known-at) (p : Placing) (link alike : ℕ) → (lines_of (goal.at.returns-then-here-next c).In-loop-here)
     (placed_sheet.row p link alike) ≡ map (line_of (view c.args.image.now (stretches_in c.args.s.now)) k)
     (keep (stays_at (view c.args.image.now (stretches_in c.args.s.now)) k c.args.at) (one p)) = λ k. known-lines
-    (view c.args.image.now (stretches_in c.args.s.now)) c.args.rules c.args.library.now c.args.segments.now c.args.n
-    c.args.references.now c.args.placed.now c.args.positions.now c.args.noted.now c.args.goals.now k c.args.at in
+    (view c.args.image.now (stretches_in c.args.s.now)) c.args.rules c.args.found.now.library.now c.args.found.now.segments.now c.args.found.now.n
+    c.args.found.now.references.now c.args.found.now.placed.now c.args.found.now.positions.now c.args.found.now.noted.now c.args.found.now.goals.now k c.args.at in
     let a = c.args in
     let l = c.loop-here in
     record {
@@ -111,7 +102,7 @@ returns-then-here-next c =
           absurd (omega (
             arith,
             c.if-here-next.true,
-            leads-back placed_sheet a.library.now placed-reads none k.ps k.sought.placings refl a.at
+            leads-back placed_sheet a.found.now.library.now placed-reads none k.ps k.sought.placings refl a.at
                 (stays_at (view a.image.now (stretches_in a.s.now)) k a.at) (within k small) (line_of (view a.image.now (stretches_in a.s.now)) k) lines before
                 l.here l.m l.b (l.invariant.walked k lines before small long h) c.loop-here-test.true
                 (λ r. r.link) (λ x link alike. refl) (lines_of (goal.at.returns-then-here-next c).In-loop-here) (are k) c.placed_at-row.result c.placed_at-row.ensures,
@@ -124,23 +115,23 @@ loop-here-smaller c =
 
 pub loop-here-preserved : goal.loop-here-preserved
 loop-here-preserved c =
-    let Known-at : Type 0 = Known c.args.rules c.args.library.now c.args.segments.now c.args.references.now c.args.n c.args.placed.now
-    c.args.positions.now c.args.noted.now c.args.goals.now in
+    let Known-at : Type 0 = Known c.args.rules c.args.found.now.library.now c.args.found.now.segments.now c.args.found.now.references.now c.args.found.now.n c.args.found.now.placed.now
+    c.args.found.now.positions.now c.args.found.now.noted.now c.args.found.now.goals.now in
     let within : (k : Known-at) → c.args.at < key_buckets → (p : Placing) → stays_at (view c.args.image.now (stretches_in c.args.s.now)) k c.args.at
-    p ≡ true → key_bucket p.position ≡ c.args.at = λ k small. known-within (view c.args.image.now (stretches_in c.args.s.now)) c.args.rules c.args.library.now c.args.segments.now
-    c.args.n c.args.references.now c.args.placed.now c.args.positions.now c.args.noted.now c.args.goals.now k c.args.at small in
+    p ≡ true → key_bucket p.position ≡ c.args.at = λ k small. known-within (view c.args.image.now (stretches_in c.args.s.now)) c.args.rules c.args.found.now.library.now c.args.found.now.segments.now
+    c.args.found.now.n c.args.found.now.references.now c.args.found.now.placed.now c.args.found.now.positions.now c.args.found.now.noted.now c.args.found.now.goals.now k c.args.at small in
     let are : (k : Known-at) (p : Placing) (link alike : ℕ) → (lines_of (goal.at.loop-here-preserved c).In-loop-here) (placed_sheet.row p link alike)
     ≡ map (line_of (view c.args.image.now (stretches_in c.args.s.now)) k)
     (keep (stays_at (view c.args.image.now (stretches_in c.args.s.now)) k c.args.at) (one p)) = λ k. known-lines
-    (view c.args.image.now (stretches_in c.args.s.now)) c.args.rules c.args.library.now c.args.segments.now c.args.n
-    c.args.references.now c.args.placed.now c.args.positions.now c.args.noted.now c.args.goals.now k c.args.at in
+    (view c.args.image.now (stretches_in c.args.s.now)) c.args.rules c.args.found.now.library.now c.args.found.now.segments.now c.args.found.now.n
+    c.args.found.now.references.now c.args.found.now.placed.now c.args.found.now.positions.now c.args.found.now.noted.now c.args.found.now.goals.now k c.args.at in
     let a = c.args in
     let l = c.loop-here in
     record {
       few = omega (arith, l.invariant.few, c.take_placed-b.ensures.few, c.if-here-next.false);
       long = c.take_placed-b.auto.m ∙ l.invariant.long;
       walked = λ k lines before small long h.
-          walked-turn placed_sheet a.library.now placed-reads none k.ps k.sought.placings refl a.at
+          walked-turn placed_sheet a.found.now.library.now placed-reads none k.ps k.sought.placings refl a.at
           (stays_at (view a.image.now (stretches_in a.s.now)) k a.at) (within k small) (line_of (view a.image.now (stretches_in a.s.now)) k) lines before
           l.here l.m l.b (l.invariant.walked k lines before small long h) c.loop-here-test.true
           (λ r. r.link) (λ x link alike. refl) (lines_of (goal.at.loop-here-preserved c).In-loop-here) (are k) c.placed_at-row.result c.placed_at-row.ensures
@@ -149,17 +140,17 @@ loop-here-preserved c =
 
 pub returns : goal.returns
 returns c =
-    let Known-at : Type 0 = Known c.args.rules c.args.library.now c.args.segments.now c.args.references.now c.args.n c.args.placed.now
-    c.args.positions.now c.args.noted.now c.args.goals.now in
+    let Known-at : Type 0 = Known c.args.rules c.args.found.now.library.now c.args.found.now.segments.now c.args.found.now.references.now c.args.found.now.n c.args.found.now.placed.now
+    c.args.found.now.positions.now c.args.found.now.noted.now c.args.found.now.goals.now in
     let within : (k : Known-at) → c.args.at < key_buckets → (p : Placing) → stays_at (view c.args.image.now (stretches_in c.args.s.now)) k c.args.at
-    p ≡ true → key_bucket p.position ≡ c.args.at = λ k small. known-within (view c.args.image.now (stretches_in c.args.s.now)) c.args.rules c.args.library.now c.args.segments.now
-    c.args.n c.args.references.now c.args.placed.now c.args.positions.now c.args.noted.now c.args.goals.now k c.args.at small in
+    p ≡ true → key_bucket p.position ≡ c.args.at = λ k small. known-within (view c.args.image.now (stretches_in c.args.s.now)) c.args.rules c.args.found.now.library.now c.args.found.now.segments.now
+    c.args.found.now.n c.args.found.now.references.now c.args.found.now.placed.now c.args.found.now.positions.now c.args.found.now.noted.now c.args.found.now.goals.now k c.args.at small in
     let a = c.args in
     let l = c.loop-here in
     record {
       few = omega (arith, l.invariant.few);
       walked = λ k lines before small long h.
-          walked-last placed_sheet a.library.now placed-reads none k.ps k.sought.placings refl a.at
+          walked-last placed_sheet a.found.now.library.now placed-reads none k.ps k.sought.placings refl a.at
           (stays_at (view a.image.now (stretches_in a.s.now)) k a.at) (within k small) (line_of (view a.image.now (stretches_in a.s.now)) k) lines before
           l.here l.m l.b c.loop-here-test.false (l.invariant.walked k lines before small long h);
     }

@@ -22,8 +22,8 @@ pub record Inv (cells : List ℕ) (rules : Rules) (library segments : List ℕ) 
 
 abbrev pub invariant-loop-here : goal.invariant-loop-here
 invariant-loop-here l =
-    Inv (view l.image (stretches_in l.s)) l.rules l.library
-    l.segments l.n l.references l.placed l.positions l.noted l.goals l.at l.initial.m l.from l.initial.b l.m l.b l.here
+    Inv (view l.image (stretches_in l.s)) l.rules l.found.library.now
+    l.found.segments.now l.found.n l.found.references.now l.found.placed.now l.found.positions.now l.found.noted.now l.found.goals.now l.at l.initial.m l.from l.initial.b l.m l.b l.here
 
 abbrev pub decreases-loop-here : goal.decreases-loop-here
 decreases-loop-here l =

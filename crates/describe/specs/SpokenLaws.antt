@@ -6,7 +6,7 @@ use Rattle.std.proofs.Math.ListN.{get_elem?}
 use Rattle.lent.specs.Lists.{all, place_of}
 use Rattle.lent.specs.ChoiceLaws.{both}
 use Rattle.describe.specs.Describe.{Said, Step, Words, one_of, word_off, starts_with, more, onward, otherwise, ◌and◌, ◌or◌, perhaps, front, signs, types, operations, moves, memories, into, moving, description, said_in, describe}
-use Rattle.printing.specs.Pieces.{length_in}
+use Rattle.describe.specs.Described.{length_in}
 
 -- what a step says is at most so long, whatever the name
 record Short (n : ℕ) (p : Step) : Type 0 where
