@@ -1,6 +1,6 @@
 -- A BANK'S VIEW OF WHAT IS WITHHELD: the view of a board's cells is that of the bank's bytes under the stretches that are cut. Assumes nothing.
 use Rattle.std.specs.Prelude.{ℕ, zero, suc, ◌+◌, ◌-◌, ◌*◌, ◌≤◌, ◌<◌, min, ◌≡◌, drop, set}
-use Rattle.std.proofs.Math.Path.{refl, sym, ap}
+use Rattle.std.proofs.Math.Path.{refl, sym, ap, subst}
 use Rattle.std.proofs.Common.{◌∙◌, arith, lt-ltb, le-ltb, le-leb, length-set, take-append-drop, ext_get_or, take_at, drop_at, drop-cons, drop-drop, length-take-le}
 use mathlib.Core.List.{List, [], ◌∷◌, ◌++◌, map, append_assoc}
 use Rattle.std.proofs.Math.Decide.{dec_lt}
@@ -72,16 +72,6 @@ module _ (k x i : ℕ) (h : Stands k x i) where
   within_same [] = refl
   within_same (s ∷ rest) = rw (one_same s, within_same rest) refl
 
--- what is shown of the file grows with it
-pub place-grows : (k x y : ℕ) → x ≤ y → place k x ≤ place k y
-place-grows k x y l = both (min x 32768) (min y 32768) (min (x - bank_start k) 32768) (min (y - bank_start k) 32768) (less x y l) (less (x - bank_start k) (y - bank_start k) (omega (arith, l)))
-  where
-    less : (x y : ℕ) → x ≤ y → min x 32768 ≤ min y 32768
-    less x y h = omega (arith, h)
-
-    both : (a b c d : ℕ) → a ≤ b → c ≤ d → a + c ≤ b + d
-    both a b c d h g = omega (arith, h, g)
-
 -- the numbers of a cover, cut
 cut-stretches : (k : ℕ) (xs : List ℕ) → stretches_in (cut_numbers k xs) ≡ map (cut_one k) (stretches_in xs)
 unfolding stretches_in cut_numbers
@@ -134,7 +124,7 @@ module _ (k : ℕ) (xs : List ℕ) where
   pub cutting-starts : Cutting xs 0
   cutting-starts = record { within = omega arith; long = refl; cut = refl; left = refl }
 
-  pub cutting-on : {now : List ℕ} {i : ℕ} → i + 1 < length xs → Cutting now i → (first last : ℕ) → first ≡ place k (get_or now i 0)
+  cutting-on : {now : List ℕ} {i : ℕ} → i + 1 < length xs → Cutting now i → (first last : ℕ) → first ≡ place k (get_or now i 0)
       → last ≡ place k (get_or now i 0 + get_or now (i + 1) 0) → Cutting (set (set now i first) (i + 1) (last - first)) (i + 2)
   cutting-on {now} {i} h c first last e f = record {
     within = omega arith;
@@ -164,6 +154,16 @@ module _ (k : ℕ) (xs : List ℕ) where
 
       turn : cut_numbers k (drop i xs) ≡ first ∷ (last - first) ∷ cut_numbers k (drop (i + 2) xs)
       turn = cut-two k xs i h ∙ rw (e, f, start_is, here 1) refl
+
+  -- by the place of the second number of a pair
+  pub cutting-next : {now : List ℕ} {i : ℕ} → 1 ≤ i → i < length xs → Cutting now (i - 1) → (first last : ℕ) → first ≡ place k (get_or now (i - 1) 0)
+      → last ≡ place k (get_or now (i - 1) 0 + get_or now i 0) → Cutting (set (set now (i - 1) first) i (last - first)) (i + 2 - 1)
+  cutting-next {now} {i} a h c first last e f =
+      let back : i - 1 + 1 ≡ i = omega (arith, a) in
+      let on : i - 1 + 2 ≡ i + 2 - 1 = omega (arith, a) in
+      subst (λ m. Cutting (set (set now (i - 1) first) m (last - first)) (i + 2 - 1)) back
+      (subst (λ m. Cutting (set (set now (i - 1) first) (i - 1 + 1) (last - first)) m) on
+      (cutting-on {now = now} {i = i - 1} (omega (arith, a, h)) c first last e (f ∙ ap (λ m. place k (get_or now (i - 1) 0 + get_or now m 0)) (sym back))))
 
   pub cutting-ends : {now : List ℕ} {i : ℕ} → length xs ≤ i + 1 → Cutting now i → now ≡ cut_numbers k xs
   unfolding cut_numbers

@@ -1,5 +1,5 @@
 -- A board with switched banks: its file, the views of its banks, what a run on it gives, refuses and leaves (W-210).
-use Rattle.std.specs.Prelude.{ℕ, zero, suc, ◌+◌, ◌-◌, ◌*◌, ◌/◌, ◌%◌, ◌≤◌, max, Bool, not, ◌&&◌, List, [], ◌++◌, eqb, leb, length, take, drop}
+use Rattle.std.specs.Prelude.{ℕ, zero, suc, ◌+◌, ◌-◌, ◌*◌, ◌/◌, ◌%◌, ◌≤◌, max, Bool, not, ◌&&◌, List, [], ◌++◌, eqb, leb, length, take, drop, Result, Ok, Err}
 use Rattle.std.proofs.Math.Option.{Option}
 use Rattle.lent.specs.declared.refusal.Refusal.{Refusal}
 use Rattle.lent.specs.declared.refusal.Refusal.TheVariants.{NotBanked}
@@ -10,10 +10,8 @@ use Rattle.image.specs.View.{view}
 use Rattle.listing_rules.specs.declared.Line.{Line}
 use Rattle.run.specs.declared.Settings.{Settings}
 use Rattle.run.specs.declared.Counts.{Counts}
-use Rattle.run.specs.declared.Answer.{Answer}
-use Rattle.run.specs.declared.Answer.TheVariants.{Done, Refused}
-use Rattle.run.specs.Run.{Lent, Yield, Outcome, segments_of, stages, counts_with, run_by, cover}
-use Rattle.bank_rules.specs.declared.BankAnswer.{BankAnswer}
+use Rattle.run.specs.Run.{Lent, Yield, Outcome, segments_of, stages, counts_with, run_by, cover, Answer}
+use Rattle.bank_rules.specs.declared.BankCounts.{BankCounts}
 
 -- a file has 32 KiB of common code and 1 to 16 banks of 32 KiB, and nothing else
 abbrev pub is_banked : ℕ → Bool
@@ -73,15 +71,33 @@ module _ (cells library : List ℕ) (s : Settings) where
   abbrev pub needed_to : ℕ → Counts
   needed_to k = counts_with (segments_of library s) (most_to (λ y. y.placed) k) (most_to (λ y. y.noted) k) (length (lines_to k))
 
+-- the answer of a run on a board: its counts with those of the banks, or a refusal
+abbrev pub BankAnswer : Type 0
+BankAnswer = Result BankCounts Refusal
+
+-- what is of the run in it
+abbrev pub run_answer : BankAnswer → Answer
+run_answer (Ok b) = Ok b.counts
+run_answer (Err r) = Err r
+
+-- how many banks there are, and how many lines each has; with a refusal there is neither bank nor line
+abbrev pub bank_count : BankAnswer → ℕ
+bank_count (Ok b) = b.banks
+bank_count (Err r) = 0
+
+abbrev pub bank_lines : BankAnswer → List ℕ
+bank_lines (Ok b) = b.lines
+bank_lines (Err r) = zeros 16
+
 -- what a run on a board comes to: the answer, and the lent lists afterwards
 pub record BankOutcome : Type 0 where
   pub answer : BankAnswer
   pub left : Lent
 
--- the answer, with the lines of each of so many banks; a refusal has neither
+-- the answer of the run, with the lines of each of so many banks
 abbrev pub with_banks : ℕ → List ℕ → Answer → BankAnswer
-with_banks n each (Done c) = record { answer = Done c; banks = n; lines = padded 16 each }
-with_banks n each (Refused r) = record { answer = Refused r; banks = 0; lines = zeros 16 }
+with_banks n each (Ok c) = Ok (record { counts = c; banks = n; lines = padded 16 each })
+with_banks n each (Err r) = Err r
 
 -- the run on the cells of a board: the refusals are those of a run, with the board's own
 unfoldable pub banks_seen : List ℕ → List ℕ → Settings → Lent → BankOutcome

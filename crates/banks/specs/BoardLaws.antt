@@ -1,6 +1,6 @@
 -- The loop over the banks comes to the run on the board. Assumes nothing.
 use Prim.Native.Nat.{ℕ, zero, suc, ◌+◌, ◌*◌, ◌≤◌, ◌<◌}
-use Rattle.std.specs.Prelude.{◌≡◌, List, length, set}
+use Rattle.std.specs.Prelude.{◌≡◌, List, length, set, Ok, Err}
 use Rattle.std.proofs.Math.Path.{refl, ap, subst}
 use Rattle.std.proofs.Common.{sym, ◌∙◌, length-append}
 use native.Mathlib.Omega.{arith}
@@ -13,13 +13,12 @@ use Rattle.collect.specs.declared.stored.CollectCounts.{CollectCounts as Stored}
 use Rattle.collect.specs.Outcome.{counted_in}
 use Rattle.run.specs.declared.Settings.{Settings}
 use Rattle.run.specs.declared.Counts.{Counts}
-use Rattle.run.specs.declared.Answer.TheVariants.{Done, Refused}
 use Rattle.run.specs.Run.{Lent, segments_of, counts_with, counted, filled_with}
 use Rattle.run.proofs.Answers.{SameLengths}
 use Rattle.libfind.specs.Ends.{collectable, Filled}
 use Rattle.libfind.specs.FindingLaws.{nine-finding, none-finding}
 use Rattle.bank_rules.specs.Banks.{shown, lines_to, each_to, last_to, given_to, needed_to, Has}
-use Rattle.banks.specs.Turns.{with_lines, FindsView, without_rows, joined_counts, no_banks, board_by}
+use Rattle.banks.specs.Turns.{with_lines, FindsView, without_rows, joined_counts, board_by}
 use Rattle.bank_rules.proofs.OverLaws.{over-grows, lines_next}
 use Rattle.banks.specs.TurnLaws.{place, Listed, left_to, none-listed, turn-done, turn-refused}
 
@@ -72,11 +71,11 @@ module _ (cells library : List ℕ) (s : Settings) (n : ℕ) (lent : Lent) (c : 
         lines = long.lines ∙ l.lines;
       }
 
-      pub shown-on : {next : Counts} → FindsView cells library s c k (counts.lines * 4) now (Done next) after → k < 16
+      pub shown-on : {next : Counts} → FindsView cells library s c k (counts.lines * 4) now (Ok next) after → k < 16
           → Shown (k + 1) after (joined_counts counts next (counts.lines + next.lines)) (set each k next.lines)
       unfolding counted last_to lines_to each_to
       shown-on {next} v l =
-          let t = turn-done cells library s lent h.filled k has now h.listed (there (λ x. FindsView cells library s c k x now (Done next) after) v) keeps in
+          let t = turn-done cells library s lent h.filled k has now h.listed (there (λ x. FindsView cells library s c k x now (Ok next) after) v) keeps in
           let one_more : suc k ≡ k + 1 = omega arith in
           subst (λ j. Shown j after (joined_counts counts next (counts.lines + next.lines)) (set each k next.lines)) one_more
           (record {
@@ -88,19 +87,19 @@ module _ (cells library : List ℕ) (s : Settings) (n : ℕ) (lent : Lent) (c : 
             each-are = rw (h.each-are, t.1) (padded-set 16 (each_to cells library s k) (length (shown cells library s k).lines) k (each-length cells library s k) l);
           })
 
-      pub shown-stops : {r : Refusal} {lines : List ℕ} → FindsView cells library s c k (counts.lines * 4) now (Refused r) after → lines ≡ zeros (length after.lines)
-          → record { answer = no_banks (Refused r); left = with_lines after lines } ≡ board_by cells library s n lent
+      pub shown-stops : {r : Refusal} {lines : List ℕ} → FindsView cells library s c k (counts.lines * 4) now (Err r) after → lines ≡ zeros (length after.lines)
+          → record { answer = Err r; left = with_lines after lines } ≡ board_by cells library s n lent
       shown-stops {r} {lines} v e =
-          let t = turn-refused cells library s lent h.filled k has now h.listed (there (λ x. FindsView cells library s c k x now (Refused r) after) v) keeps in
+          let t = turn-refused cells library s lent h.filled k has now h.listed (there (λ x. FindsView cells library s c k x now (Err r) after) v) keeps in
           let nine = nine-finding lent (needed_to cells library s n) (over-grows cells library s lent (suc k) n more t.case) in
-          rw (nine, t.is) (ap (λ x. record { answer = no_banks (Refused TooFewRows); left = x }) (t.zero lines e))
+          rw (nine, t.is) (ap (λ x. record { answer = Err TooFewRows; left = x }) (t.zero lines e))
 
     -- ALL BANKS ARE LISTED
-    pub shown-ends : n ≤ k → 1 ≤ n → record { answer = record { answer = Done counts; banks = n; lines = each }; left = now } ≡ board_by cells library s n lent
+    pub shown-ends : n ≤ k → 1 ≤ n → record { answer = Ok (record { counts = counts; banks = n; lines = each }); left = now } ≡ board_by cells library s n lent
     unfolding left_to
     shown-ends all some-bank =
         let last : k ≡ n = omega (arith, all, h.within) in
-        subst (λ j. record { answer = record { answer = Done counts; banks = j; lines = each }; left = now } ≡ board_by cells library s j lent) last
+        subst (λ j. record { answer = Ok (record { counts = counts; banks = j; lines = each }); left = now } ≡ board_by cells library s j lent) last
         (rw (none-finding lent (needed_to cells library s k) h.listed.searched h.listed.listed, h.counts-are, h.each-are, h.listed.lists, full k (omega (arith, last, some-bank))) refl)
       where
         full : (j : ℕ) → 1 ≤ j → left_to cells library s lent h.filled j ≡ filled_with library (given_to cells library s j) lent

@@ -1,5 +1,5 @@
 -- WHAT IS PROVED OF A RUN ON A BOARD: from the contract of the entry point alone. Assumes nothing.
-use Rattle.std.specs.Prelude.{ℕ, suc, ◌+◌, ◌-◌, ◌≤◌, ◌<◌, ◌≡◌, ◌↔◌, List, get_or}
+use Rattle.std.specs.Prelude.{ℕ, suc, ◌+◌, ◌-◌, ◌≤◌, ◌<◌, ◌≡◌, ◌↔◌, List, get_or, Ok, Err}
 use Rattle.std.proofs.Math.Path.{refl, sym, ap}
 use Rattle.std.proofs.Common.{subst, ◌∙◌, arith}
 use Rattle.std.proofs.Math.ListN.{length, get_or-append}
@@ -17,14 +17,11 @@ use Rattle.omf51.specs.File.{modules_in}
 use Rattle.listing_rules.specs.declared.Line.{Line}
 use Rattle.listing_rules.specs.LineLayout.{line_at}
 use Rattle.run.specs.declared.Settings.{Settings}
-use Rattle.run.specs.declared.Answer.{Answer}
-use Rattle.run.specs.declared.Answer.TheVariants.{Done, Refused}
-use Rattle.run.specs.Run.{Lent, Outcome, library_read, stages, counted, refusals, filled_with, number_of, counts_of, cover}
+use Rattle.run.specs.Run.{Lent, Outcome, library_read, stages, counted, refusals, filled_with, number_of, counts_of, cover, Answer}
 use Rattle.run.proofs.Answers.{SameLengths, SoundBy, sound-by, filled-lengths, kept_by}
 use Rattle.run.proofs.ListedRows.{grades, row-is-line}
 use Rattle.run.proofs.Demands.{Contract as SingleContract, memory as single-memory, answered-exactly as single-answered}
-use Rattle.bank_rules.specs.Banks.{bank_cells, banks_in, not_banked, shown, lines_to, each_to, given_to, needed_to, BankOutcome, with_banks, banks_seen, find_banks, Has}
-use Rattle.bank_rules.specs.declared.BankAnswer.{BankAnswer}
+use Rattle.bank_rules.specs.Banks.{bank_cells, banks_in, not_banked, shown, lines_to, each_to, given_to, needed_to, BankAnswer, BankOutcome, run_answer, bank_count, bank_lines, with_banks, banks_seen, find_banks, Has}
 use Rattle.bank_rules.specs.Cut.{cut_settings}
 use Rattle.bank_rules.proofs.CutLaws.{cut-cover, bank-view}
 use Rattle.bank_rules.proofs.OverLaws.{lines-grow, given-needed, lines_next}
@@ -39,7 +36,7 @@ Contract file library s lent o = o ≡ find_banks file library s lent
 
 -- what a single run would be told of it
 abbrev pub as_single : BankOutcome → Outcome
-as_single o = record { answer = o.answer.answer; left = o.left }
+as_single o = record { answer = run_answer o.answer; left = o.left }
 
 no_line : Line
 no_line = record { address = 0; grade = 0; name = record { at = 0; len = 0 } }
@@ -57,7 +54,7 @@ module _ (file library : List ℕ) (s : Settings) (lent : Lent) where
 
   -- as many banks as the file has, and the lines of each
   abbrev pub Counted : BankAnswer → Type 0
-  Counted a = (a.banks ≡ n) × ((k : ℕ) → k < n → get_or a.lines k 0 ≡ length (shown cells library s k).lines)
+  Counted a = (bank_count a ≡ n) × ((k : ℕ) → k < n → get_or (bank_lines a) k 0 ≡ length (shown cells library s k).lines)
 
   -- what a bank's view gives is what its bytes give as one image, with what is cut for it
   module _ (k : ℕ) (has : Has k file) where
@@ -67,10 +64,10 @@ module _ (file library : List ℕ) (s : Settings) (lent : Lent) where
 
   module _ (o : BankOutcome) (c : Contract file library s lent o) where
     -- THE TABLE OF REFUSALS: each number exactly in its case, and 0 exactly if none applies
-    pub refused-exactly : (r : Refusal) → (number_of o.answer.answer ≡ refusal_number r) ↔ GivenBoard file library s lent r
+    pub refused-exactly : (r : Refusal) → (number_of (run_answer o.answer) ≡ refusal_number r) ↔ GivenBoard file library s lent r
     refused-exactly r = rw c (given-exactly file library s lent r)
 
-    pub answered-exactly : (number_of o.answer.answer ≡ 0) ↔ NoneGiven file library s lent
+    pub answered-exactly : (number_of (run_answer o.answer) ≡ 0) ↔ NoneGiven file library s lent
     answered-exactly = rw c (done-exactly file library s lent)
 
     -- MEMORY AND COUNTS: on 0 the rows of the collection and of the last bank's search, and the lines of all banks, then zeros, and the
@@ -84,42 +81,42 @@ module _ (file library : List ℕ) (s : Settings) (lent : Lent) where
     unfolding counted
     same-lengths = kept_by memory fits
       where
-        fits : number_of o.answer.answer ≡ 0 → SameLengths (filled_with library (given_to cells library s n) lent) lent
+        fits : number_of (run_answer o.answer) ≡ 0 → SameLengths (filled_with library (given_to cells library s n) lent) lent
         fits z =
             let h = answered-exactly.0 z in
             filled-lengths library (given_to cells library s n) lent (rules_of s.rules) (modules_in (library_read library s)) refl
             h.reached.room (λ q. h.searched (given-needed cells library s lent n q)) h.listed
 
-    told : o.answer ≡ with_banks n (each_to cells library s n) o.answer.answer
+    told : o.answer ≡ with_banks n (each_to cells library s n) (run_answer o.answer)
     told = rw c (answer-is file library s lent)
 
     -- BANKS: on 0 there are as many as the file has, and each has its count of lines; with a refusal there is none
-    pub banks-counted : number_of o.answer.answer ≡ 0 → Counted o.answer
-    banks-counted z = subst Counted (sym told) (go o.answer.answer z)
+    pub banks-counted : number_of (run_answer o.answer) ≡ 0 → Counted o.answer
+    banks-counted z = subst Counted (sym told) (go (run_answer o.answer) z)
       where
         go : (a : Answer) → number_of a ≡ 0 → Counted (with_banks n (each_to cells library s n) a)
-        go (Done d) e = (refl, λ k l. get_or-append (each_to cells library s n) (zeros (16 - length (each_to cells library s n))) 0 k (omega (arith, l, each-length cells library s n)) ∙ count_of cells library s k n l)
-        go (Refused r) e = absurd (omega (arith, e, numbered r))
+        go (Ok d) e = (refl, λ k l. get_or-append (each_to cells library s n) (zeros (16 - length (each_to cells library s n))) 0 k (omega (arith, l, each-length cells library s n)) ∙ count_of cells library s k n l)
+        go (Err r) e = absurd (omega (arith, e, numbered r))
 
-    pub no-banks : 1 ≤ number_of o.answer.answer → (o.answer.banks ≡ 0) × (o.answer.lines ≡ zeros 16)
-    no-banks z = subst (λ a. (a.banks ≡ 0) × (a.lines ≡ zeros 16)) (sym told) (go o.answer.answer z)
+    pub no-banks : 1 ≤ number_of (run_answer o.answer) → (bank_count o.answer ≡ 0) × (bank_lines o.answer ≡ zeros 16)
+    no-banks z = subst (λ a. (bank_count a ≡ 0) × (bank_lines a ≡ zeros 16)) (sym told) (go (run_answer o.answer) z)
       where
-        go : (a : Answer) → 1 ≤ number_of a → ((with_banks n (each_to cells library s n) a).banks ≡ 0) × ((with_banks n (each_to cells library s n) a).lines ≡ zeros 16)
-        go (Done d) e = absurd (omega arith)
-        go (Refused r) e = (refl, refl)
+        go : (a : Answer) → 1 ≤ number_of a → (bank_count (with_banks n (each_to cells library s n) a) ≡ 0) × (bank_lines (with_banks n (each_to cells library s n) a) ≡ zeros 16)
+        go (Ok d) e = absurd (omega arith)
+        go (Err r) e = (refl, refl)
 
-    pub sixteen : length o.answer.lines ≡ 16
-    sixteen = ap (λ a. length a.lines) told ∙ go o.answer.answer refl
+    pub sixteen : length (bank_lines o.answer) ≡ 16
+    sixteen = ap (λ a. length (bank_lines a)) told ∙ go (run_answer o.answer) refl
       where
-        go : (a : Answer) → o.answer.answer ≡ a → length (with_banks n (each_to cells library s n) a).lines ≡ 16
-        go (Done d) e =
+        go : (a : Answer) → run_answer o.answer ≡ a → length (bank_lines (with_banks n (each_to cells library s n) a)) ≡ 16
+        go (Ok d) e =
             let b = has-banks (length file) ((is-banked (length file)).1 (answered-exactly.0 (ap number_of e)).reached.accepted.image-fits) in
             padded-length 16 (each_to cells library s n) (omega (arith, each-length cells library s n, b.few))
-        go (Refused r) e = refl
+        go (Err r) e = refl
 
     -- EACH LIST IS THE SINGLE IMAGE'S: for every bank, the run on its bytes as one image, with what is cut for it, lists as many lines, and the same ones
-    pub each-list : number_of o.answer.answer ≡ 0 → (k : ℕ) → k < n → (other : Lent) (p : Outcome) → SingleContract (bank_cells k file) library (cut_settings k s) other p → number_of p.answer ≡ 0
-        → (get_or o.answer.lines k 0 ≡ (counts_of p.answer).lines)
+    pub each-list : number_of (run_answer o.answer) ≡ 0 → (k : ℕ) → k < n → (other : Lent) (p : Outcome) → SingleContract (bank_cells k file) library (cut_settings k s) other p → number_of p.answer ≡ 0
+        → (get_or (bank_lines o.answer) k 0 ≡ (counts_of p.answer).lines)
         × ((i : ℕ) → i < (counts_of p.answer).lines → line_at o.left.lines (length (lines_to cells library s k) + i) ≡ line_at p.left.lines i)
     unfolding counted filled_with stages
     each-list z k l other p d w = (

@@ -1,5 +1,5 @@
 -- THE STEPS MAKE UP THE RUN ON A BOARD: the beginning, the collection, and then the banks. Assumes nothing.
-use Rattle.std.specs.Prelude.{ℕ, ◌+◌, ◌*◌, ◌%◌, ◌≤◌, ◌≡◌, Bool, true, false, not, ◌&&◌, List, eqb, leb, length}
+use Rattle.std.specs.Prelude.{ℕ, ◌+◌, ◌*◌, ◌%◌, ◌≤◌, ◌≡◌, Bool, true, false, not, ◌&&◌, List, eqb, leb, length, Ok, Err}
 use Rattle.std.proofs.Math.Path.{refl, ap}
 use Rattle.std.proofs.Common.{sym, subst, ◌∙◌, inr, arith, eqb-true, leb-true}
 use Rattle.std.proofs.Math.Option.{Option, none, some}
@@ -20,21 +20,18 @@ use Rattle.omf51.specs.File.{file_refusal}
 use Rattle.library.specs.Gathered.{items_at}
 use Rattle.collect.specs.declared.stored.CollectCounts.{CollectCounts as Stored}
 use Rattle.collect.specs.stored.Stores.{CollectLists as Collectable}
-use Rattle.collect.specs.declared.Collection.TheVariants as Collection
 use Rattle.collect.specs.Outcome.{collect_filled, collection}
 use Rattle.run.specs.declared.Settings.{Settings}
 use Rattle.run.specs.declared.Counts.{Counts}
-use Rattle.run.specs.declared.Answer.{Answer}
-use Rattle.run.specs.declared.Answer.TheVariants.{Done, Refused}
-use Rattle.run.specs.Run.{Lent, lent_lists, Outcome, library_read, zeroed, filled_with, run_by, cover}
+use Rattle.run.specs.Run.{Lent, lent_lists, Outcome, library_read, zeroed, filled_with, run_by, cover, Answer}
 use Rattle.run.proofs.Answers.{SameLengths}
 use Rattle.run.proofs.StageLaws.{when-none}
 use Rattle.libfind.specs.Begin.{settings_refusal, Begun}
 use Rattle.libfind.specs.Ends.{collectable, finding_by, Filled}
 use Rattle.libfind.specs.EndLaws as end
 use Rattle.libfind.specs.FindingLaws.{finding-late}
-use Rattle.bank_rules.specs.Banks.{is_banked, banks_in, not_banked, lines_to, each_to, most_to, given_to, needed_to, BankOutcome, with_banks, banks_seen, find_banks}
-use Rattle.banks.specs.Turns.{no_banks, board_by}
+use Rattle.bank_rules.specs.Banks.{is_banked, banks_in, not_banked, lines_to, each_to, most_to, given_to, needed_to, BankOutcome, run_answer, with_banks, banks_seen, find_banks}
+use Rattle.banks.specs.Turns.{board_by}
 
 -- 18 writes nothing
 mild : (size : ℕ) (r : Refusal) → not_banked size ≡ some r → zeroes r ≡ false
@@ -114,47 +111,47 @@ module _ (file library : List ℕ) (s : Settings) (lent : Lent) where
 
   -- a refusal has no banks
   pub answer-is : (find_banks file library s lent).answer
-      ≡ with_banks (banks_in (length file)) (each_to (view file (cover s)) library s (banks_in (length file))) (find_banks file library s lent).answer.answer
-  answer-is = subst (λ o. o.answer ≡ with_banks n (each_to cells library s n) o.answer.answer) board-is
+      ≡ with_banks (banks_in (length file)) (each_to (view file (cover s)) library s (banks_in (length file))) (run_answer (find_banks file library s lent).answer)
+  answer-is = subst (λ o. o.answer ≡ with_banks n (each_to cells library s n) (run_answer o.answer)) board-is
       (again (run_by (not_banked size) size library s lent (needed_to cells library s n) (given_to cells library s n)).answer)
     where
-      again : (a : Answer) → with_banks n (each_to cells library s n) a ≡ with_banks n (each_to cells library s n) (with_banks n (each_to cells library s n) a).answer
-      again (Done c) = refl
-      again (Refused r) = refl
+      again : (a : Answer) → with_banks n (each_to cells library s n) a ≡ with_banks n (each_to cells library s n) (run_answer (with_banks n (each_to cells library s n) a))
+      again (Ok c) = refl
+      again (Err r) = refl
 
   -- without its banks it is a run by its refusals
-  pub single-is : record { answer = (find_banks file library s lent).answer.answer; left = (find_banks file library s lent).left }
+  pub single-is : record { answer = run_answer (find_banks file library s lent).answer; left = (find_banks file library s lent).left }
       ≡ run_by (not_banked (length file)) (length file) library s lent (needed_to (view file (cover s)) library s (banks_in (length file)))
       (given_to (view file (cover s)) library s (banks_in (length file)))
-  single-is = ap (λ o. record { answer = o.answer.answer; left = o.left }) (sym board-is) ∙ bare
+  single-is = ap (λ o. record { answer = run_answer o.answer; left = o.left }) (sym board-is) ∙ bare
       (run_by (not_banked size) size library s lent (needed_to cells library s n) (given_to cells library s n))
     where
-      bare : (o : Outcome) → record { answer = (banked o).answer.answer; left = o.left } ≡ o
+      bare : (o : Outcome) → record { answer = run_answer (banked o).answer; left = o.left } ≡ o
       bare o = go o.answer o.left
         where
-          go : (a : Answer) (l : Lent) → ◌≡◌ {A = Outcome} (record { answer = (with_banks n (each_to cells library s n) a).answer; left = l }) (record { answer = a; left = l })
-          go (Done c) l = refl
-          go (Refused r) l = refl
+          go : (a : Answer) (l : Lent) → ◌≡◌ {A = Outcome} (record { answer = run_answer (with_banks n (each_to cells library s n) a); left = l }) (record { answer = a; left = l })
+          go (Ok c) l = refl
+          go (Err r) l = refl
 
   -- REFUSED EARLY: nothing is written
   pub refused-early : {r : Refusal} → or_else (settings_refusal (not_banked size) size (length library) s) (file_refusal (library_read library s)) ≡ some r
-      → record { answer = no_banks (Refused r); left = lent } ≡ find_banks file library s lent
+      → record { answer = Err r; left = lent } ≡ find_banks file library s lent
   refused-early e = ap banked (end.refused-early (not_banked size) (mild size) size library s lent (most_to cells library s (λ y. y.placed) n)
       (most_to cells library s (λ y. y.noted) n) (length (lines_to cells library s n)) (given_to cells library s n) e) ∙ board-is
 
   module _ {first : ℕ} (b : BegunBoard file library s first) where
     -- REFUSED BY THE COLLECTION: all that was lent is set to zero
     pub refused-collecting : {r : Refusal} {left : Collectable} {placed noted lines : List ℕ}
-        → record { answer = Collection.Refused r; left = left } ≡ collection (rules_of s.rules) library (items_at library (module_at library) first) (collectable lent)
+        → record { answer = Err r; left = left } ≡ collection (rules_of s.rules) library (items_at library (module_at library) first) (collectable lent)
         → placed ≡ zeros (length lent.placed) → noted ≡ zeros (length lent.noted) → lines ≡ zeros (length lent.lines)
-        → record { answer = no_banks (Refused r); left = lent_lists left.segments left.references left.symbols left.bytes left.masks placed noted lines } ≡ find_banks file library s lent
+        → record { answer = Err r; left = lent_lists left.segments left.references left.symbols left.bytes left.masks placed noted lines } ≡ find_banks file library s lent
     refused-collecting e u v w =
         ap banked (end.refused-collecting (not_banked size) (mild size) size library s lent (most_to cells library s (λ y. y.placed) n)
         (most_to cells library s (λ y. y.noted) n) (length (lines_to cells library s n)) (given_to cells library s n) b e u v w) ∙ board-is
 
     -- COLLECTED: the rest of the run is the banks
     pub collected-filled : {c : Stored} {left : Collectable}
-        → record { answer = Collection.Done c; left = left } ≡ collection (rules_of s.rules) library (items_at library (module_at library) first) (collectable lent) → Filled library s lent c left
+        → record { answer = Ok c; left = left } ≡ collection (rules_of s.rules) library (items_at library (module_at library) first) (collectable lent) → Filled library s lent c left
     collected-filled e = end.collected-filled (not_banked size) (mild size) size library s lent 0 0 0 (given_to cells library s n) b e
 
     pub banks-then : {c : Stored} {left : Collectable} → Filled library s lent c left → board_by cells library s n lent ≡ find_banks file library s lent

@@ -15,7 +15,7 @@ use Rattle.run.specs.Run.{Lent, run_by, number_of, cover}
 use Rattle.run.specs.Given.{Shape, GivenBy, NothingRefusedBy}
 use Rattle.run.proofs.StageLaws.{when-some, when-none, not-over, Worded}
 use Rattle.run.proofs.Refused.{given_by, done-by}
-use Rattle.bank_rules.specs.Banks.{is_banked, banks_in, not_banked, given_to, needed_to, find_banks}
+use Rattle.bank_rules.specs.Banks.{is_banked, banks_in, not_banked, given_to, needed_to, run_answer, find_banks}
 use Rattle.banks.specs.EntryLaws.{has-banks, single-is}
 
 -- 32 KiB of common code and 1 to 16 banks of 32 KiB, in words
@@ -73,11 +73,11 @@ module _ (file library : List ℕ) (s : Settings) (lent : Lent) where
   abbrev pub NoneGiven : Type 0
   NoneGiven = NothingRefusedBy (board (length file)) library s lent (needed_to cells library s n)
 
-  number_is : number_of (find_banks file library s lent).answer.answer ≡ number_of (run_by (not_banked (length file)) (length file) library s lent (needed_to cells library s n) (given_to cells library s n)).answer
+  number_is : number_of (run_answer (find_banks file library s lent).answer) ≡ number_of (run_by (not_banked (length file)) (length file) library s lent (needed_to cells library s n) (given_to cells library s n)).answer
   number_is = ap (λ o. number_of o.answer) (single-is file library s lent)
 
-  pub given-exactly : (r : Refusal) → (number_of (find_banks file library s lent).answer.answer ≡ refusal_number r) ↔ GivenBoard r
+  pub given-exactly : (r : Refusal) → (number_of (run_answer (find_banks file library s lent).answer) ≡ refusal_number r) ↔ GivenBoard r
   given-exactly r = rw number_is (given_by (board (length file)) (not_banked (length file)) (board-words (length file)) library s lent (needed_to cells library s n) (given_to cells library s n) r)
 
-  pub done-exactly : (number_of (find_banks file library s lent).answer.answer ≡ 0) ↔ NoneGiven
+  pub done-exactly : (number_of (run_answer (find_banks file library s lent).answer) ≡ 0) ↔ NoneGiven
   done-exactly = rw number_is (done-by (board (length file)) (not_banked (length file)) (board-words (length file)) library s lent (needed_to cells library s n) (given_to cells library s n))

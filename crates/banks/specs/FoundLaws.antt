@@ -6,8 +6,7 @@ use Rattle.image.specs.View.{view}
 use Rattle.collect.specs.declared.stored.CollectCounts.{CollectCounts as Stored}
 use Rattle.listing.specs.Outcome.{find_outcome}
 use Rattle.run.specs.declared.Settings.{Settings}
-use Rattle.run.specs.declared.Answer.{Answer}
-use Rattle.run.specs.Run.{Lent, Outcome, asked_of, cover}
+use Rattle.run.specs.Run.{Lent, Outcome, asked_of, cover, Answer}
 use Rattle.libfind.specs.Ends.{given_lists, concluded, FindsCollected}
 use Rattle.bank_rules.specs.Banks.{bank_cells, Has}
 use Rattle.bank_rules.specs.Cut.{cut_settings}

@@ -1,6 +1,6 @@
 -- FROM BANK TO BANK: each list is that of the run on the bank's view as a single image, proved once over the bank's number. Assumes nothing.
 use Prim.Native.Nat.{ℕ, zero, suc, ◌-◌, ◌*◌}
-use Rattle.std.specs.Prelude.{◌≡◌, ◌⊎◌, Bool, true, false, drop}
+use Rattle.std.specs.Prelude.{◌≡◌, ◌⊎◌, Bool, true, false, drop, Ok, Err}
 use Rattle.std.proofs.Math.Path.{refl, sym, ap}
 use Rattle.std.proofs.Common.{◌∙◌, arith, length-drop, length-append, take-append-drop}
 use Rattle.std.proofs.Math.Logic.{inl, inr}
@@ -23,9 +23,7 @@ use Rattle.listing_rules.specs.declared.Line.{Line}
 use Rattle.listing_rules.specs.Listing.{line_width, line_cells, line_numbers}
 use Rattle.run.specs.declared.Settings.{Settings}
 use Rattle.run.specs.declared.Counts.{Counts}
-use Rattle.run.specs.declared.Answer.{Answer}
-use Rattle.run.specs.declared.Answer.TheVariants.{Done, Refused}
-use Rattle.run.specs.Run.{Lent, lent_lists, Yield, asked_of, stages, counted, zeroed, filled_with, left_by, outcome_of}
+use Rattle.run.specs.Run.{Lent, lent_lists, Yield, asked_of, stages, counted, zeroed, filled_with, left_by, outcome_of, Answer}
 use Rattle.run.specs.Given.{SearchOver, ListOver}
 use Rattle.run.proofs.Answers.{SameLengths}
 use Rattle.libfind.specs.Ends.{collectable, findable, concluded, finding_by, Filled}
@@ -43,16 +41,16 @@ numbers-length lines = rows-length line_width line_cells (λ l. refl) lines
 
 -- what an answer says
 is_done : Answer → Bool
-is_done (Done c) = true
-is_done (Refused r) = false
+is_done (Ok c) = true
+is_done (Err r) = false
 
 refusal_in : Answer → Refusal
-refusal_in (Done c) = TooFewRows
-refusal_in (Refused r) = r
+refusal_in (Ok c) = TooFewRows
+refusal_in (Err r) = r
 
 counts_in : Counts → Answer → Counts
-counts_in d (Done c) = c
-counts_in d (Refused r) = d
+counts_in d (Ok c) = c
+counts_in d (Err r) = d
 
 module _ (cells library : List ℕ) (s : Settings) (lent : Lent) {c : Stored} {left : Collectable} (f : Filled library s lent c left) where
   -- the lent lists once k banks are listed: those of the collection, the rows of the last bank, all lines so far
@@ -153,11 +151,11 @@ module _ (cells library : List ℕ) (s : Settings) (lent : Lent) {c : Stored} {l
         count : length (drop (place k) now.lines) - length more ≡ length lent.lines - length (before ++ more)
         count = omega (arith, behind, length-append before more, numbers-length (lines_to cells library s k))
 
-    pub turn-done : {n : Counts} {after : Lent} → FindsView cells library s c k (place k) now (Done n) after → SameLengths after lent → Listed (suc k) after × (n ≡ counted y)
+    pub turn-done : {n : Counts} {after : Lent} → FindsView cells library s c k (place k) now (Ok n) after → SameLengths after lent → Listed (suc k) after × (n ≡ counted y)
     unfolding is_done counts_in left_to filled_with last_to stages
     turn-done {n} {after} v long = go (finding_by lent_now (counted y)) refl (came v)
       where
-        go : (o : Option Refusal) → finding_by lent_now (counted y) ≡ o → record { answer = Done n; left = with_lines after (drop (place k) after.lines) } ≡ outcome_of library o y lent_now
+        go : (o : Option Refusal) → finding_by lent_now (counted y) ≡ o → record { answer = Ok n; left = with_lines after (drop (place k) after.lines) } ≡ outcome_of library o y lent_now
             → Listed (suc k) after × (n ≡ counted y)
         go (some r) q p = absurd (false≢true (sym (ap (λ o. is_done o.answer) p)))
         go none q p =
@@ -189,11 +187,11 @@ module _ (cells library : List ℕ) (s : Settings) (lent : Lent) {c : Stored} {l
       pub case : SearchOver lent (needed_to cells library s (suc k)) ⊎ ListOver lent (needed_to cells library s (suc k))
       pub zero : (lines : List ℕ) → lines ≡ zeros (length after.lines) → with_lines after lines ≡ zeroed lent
 
-    pub turn-refused : {r : Refusal} {after : Lent} → FindsView cells library s c k (place k) now (Refused r) after → SameLengths after lent → Stopped r after
+    pub turn-refused : {r : Refusal} {after : Lent} → FindsView cells library s c k (place k) now (Err r) after → SameLengths after lent → Stopped r after
     unfolding is_done refusal_in zeroed
     turn-refused {r} {after} v long = go (finding_by lent_now (counted y)) refl (came v)
       where
-        go : (o : Option Refusal) → finding_by lent_now (counted y) ≡ o → record { answer = Refused r; left = with_lines after (drop (place k) after.lines) } ≡ outcome_of library o y lent_now
+        go : (o : Option Refusal) → finding_by lent_now (counted y) ≡ o → record { answer = Err r; left = with_lines after (drop (place k) after.lines) } ≡ outcome_of library o y lent_now
             → Stopped r after
         go none q p = absurd (false≢true (ap (λ o. is_done o.answer) p))
         go (some x) q p =

@@ -1,14 +1,11 @@
 -- What one bank's view comes to in the run on a board, once the segments are collected.
 use Rattle.std.specs.Prelude.{ℕ, ◌≡◌, List, take, drop}
-use Rattle.lent.specs.Rows.{zeros}
 use Rattle.collect.specs.declared.stored.CollectCounts.{CollectCounts as Stored}
 use Rattle.listing.specs.Outcome.{find_outcome}
 use Rattle.run.specs.declared.Settings.{Settings}
 use Rattle.run.specs.declared.Counts.{Counts}
-use Rattle.run.specs.declared.Answer.{Answer}
-use Rattle.run.specs.Run.{Lent, lent_lists, Outcome, asked_of, outcome_of}
+use Rattle.run.specs.Run.{Lent, lent_lists, Outcome, asked_of, outcome_of, Answer}
 use Rattle.libfind.specs.Ends.{given_lists, concluded, finding_by}
-use Rattle.bank_rules.specs.declared.BankAnswer.{BankAnswer}
 use Rattle.bank_rules.specs.Banks.{bank_cells, each_to, given_to, needed_to, BankOutcome, with_banks}
 
 -- the same lists, of which the lines are others
@@ -35,10 +32,6 @@ joined_counts c next lines = record {
   noted = next.noted;
   lines = lines;
 }
-
--- an answer without banks
-abbrev pub no_banks : Answer → BankAnswer
-no_banks a = record { answer = a; banks = 0; lines = zeros 16 }
 
 -- the outcome on a board whose lent lists are these, once the segments are collected: by 9 for what is found
 abbrev pub board_by : List ℕ → List ℕ → Settings → ℕ → Lent → BankOutcome

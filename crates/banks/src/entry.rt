@@ -6,14 +6,13 @@ ghost use Rattle.bank_rules.specs.Banks.{find_banks};
 ghost use Rattle.banks.specs.EntryLaws.{BegunBoard};
 
 use crate::board::{banks_in, board};
-use crate::views::{find_views, no_banks};
-use bank_rules::BankAnswer;
-use collect::Collection;
+use crate::views::find_views;
+use bank_rules::BankCounts;
 use collect::entry::collect;
-use lent::rows::clear;
-use libfind::begin::{Beginning, begin};
+use lent::refusal::Refusal;
+use libfind::begin::begin;
 use libfind::collected::rules_of;
-use run::{Answer, Settings};
+use run::Settings;
 
 // Lists at which addresses of each bank's view the names of a library stand, for a board's file. Lent are the lists of `find_names`
 // (libfind), of which the lines are for all banks together. The answer, and what is left in the lent lists, are those of
@@ -30,18 +29,16 @@ pub fn find_banks(
     placed: &mut [u64],
     noted: &mut [u64],
     lines: &mut [u64],
-) -> BankAnswer
+) -> Result<BankCounts, Refusal>
     ensures { record { answer = result; left = lent_lists segments.new references.new symbols.new bytes.new masks.new placed.new noted.new lines.new }
         ≡ find_banks file.now library.now settings
         (lent_lists segments.old references.old symbols.old bytes.old masks.old placed.old noted.old lines.old) }
 {
-    match begin(board(file.len()), file.len(), library, settings) {
-        Beginning::At(first) => find_from(
-            file, library, settings, first, segments, references, symbols, bytes, masks, placed,
-            noted, lines,
-        ),
-        Beginning::Refused(r) => no_banks(Answer::Refused(r)),
-    }
+    let first = begin(board(file.len()), file.len(), library, settings)?;
+    find_from(
+        file, library, settings, first, segments, references, symbols, bytes, masks, placed, noted,
+        lines,
+    )
 }
 
 // The run once the settings are accepted and the library's modules are known to start at `first`: the segments are
@@ -59,7 +56,7 @@ fn find_from(
     placed: &mut [u64],
     noted: &mut [u64],
     lines: &mut [u64],
-) -> BankAnswer
+) -> Result<BankCounts, Refusal>
     requires { BegunBoard file.now library.now settings first }
     ensures { record { answer = result; left = lent_lists segments.new references.new symbols.new bytes.new masks.new placed.new noted.new lines.new }
         ≡ find_banks file.now library.now settings
@@ -69,7 +66,7 @@ fn find_from(
     match collect(
         library, rules, first, segments, references, symbols, bytes, masks,
     ) {
-        Collection::Done(collected) => find_views(
+        Ok(collected) => find_views(
             file,
             library,
             settings,
@@ -84,11 +81,11 @@ fn find_from(
             noted,
             lines,
         ),
-        Collection::Refused(r) => {
-            clear(placed);
-            clear(noted);
-            clear(lines);
-            no_banks(Answer::Refused(r))
+        Err(r) => {
+            placed.fill(0);
+            noted.fill(0);
+            lines.fill(0);
+            Err(r)
         }
     }
 }

@@ -6,10 +6,13 @@ ghost use Rattle.banks.specs.Turns.{FindsView};
 ghost use Rattle.bank_rules.specs.Banks.{Has};
 
 use crate::cut::cut;
-use crate::view::{show_bank, view_room};
+use crate::view::show_bank;
 use collect::stored::CollectCounts;
+use image::LONGEST_IMAGE;
+use lent::refusal::Refusal;
 use libfind::collected::find_collected;
-use run::{Answer, Settings};
+use run::{Counts, Settings};
+use tables::zeros::zeros;
 
 // Searches bank k's view of a board's file, and lists what is found in the lines from the number `at` on; those before stay as
 // they are. The other parameters are those of `find_collected`.
@@ -28,13 +31,13 @@ pub fn find_view(
     noted: &mut [u64],
     lines: &mut [u64],
     at: usize,
-) -> Answer
+) -> Result<Counts, Refusal>
     requires { Has k file.now × (k < 16) × (at ≤ length lines.old) }
     ensures { FindsView (view file.now (cover settings)) library.now settings collected k at
         (lent_lists segments.old references.old symbols.old bytes.old masks.old placed.old noted.old lines.old) result
         (lent_lists segments.new references.new symbols.new bytes.new masks.new placed.new noted.new lines.new) }
 {
-    let mut seen = view_room();
+    let mut seen: [u8; LONGEST_IMAGE] = zeros();
     show_bank(file, k, &mut seen);
     find_collected(
         &seen,

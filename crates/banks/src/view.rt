@@ -1,16 +1,8 @@
 // A bank's view: the common part and the bank, side by side.
 ghost use Rattle.std.specs.Prelude.{◌≡◌, length};
-ghost use Rattle.tables.specs.zeros.Zeros.{zero_list};
 ghost use Rattle.bank_rules.specs.Banks.{bank_cells, Has};
 
 use crate::board::BANK;
-
-// Room for a view.
-pub fn view_room() -> [u8; 65536]
-    ensures { result ≡ zero_list 65536 }
-{
-    [0u8; 65536]
-}
 
 // Copies the common part of a board's file, and behind it bank k.
 pub fn show_bank(file: &[u8], k: usize, seen: &mut [u8])

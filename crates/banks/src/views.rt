@@ -4,14 +4,14 @@ ghost use Rattle.image.specs.View.{view};
 ghost use Rattle.run.specs.Run.{lent_lists, cover};
 ghost use Rattle.collect.specs.stored.Segments.{lists};
 ghost use Rattle.libfind.specs.Ends.{Filled};
-ghost use Rattle.banks.specs.Turns.{without_rows, joined_counts, no_banks, board_by};
+ghost use Rattle.banks.specs.Turns.{without_rows, board_by};
 
 use crate::one_view::find_view;
-use bank_rules::BankAnswer;
+use bank_rules::BankCounts;
 use collect::stored::CollectCounts;
-use lent::rows::clear;
+use lent::refusal::Refusal;
 use listing_rules::rows::LINE_WIDTH;
-use run::{Answer, Counts, Settings};
+use run::{Counts, Settings};
 
 // The counts before the first bank is searched.
 fn without_rows(collected: CollectCounts) -> Counts
@@ -25,32 +25,6 @@ fn without_rows(collected: CollectCounts) -> Counts
         placed: 0,
         noted: 0,
         lines: 0,
-    }
-}
-
-// The counts with one bank more: the rows of the search are this bank's, the lines those of all.
-fn joined(before: Counts, next: Counts, lines: usize) -> Counts
-    ensures { result ≡ joined_counts before next lines }
-{
-    Counts {
-        segments: before.segments,
-        references: before.references,
-        symbols: before.symbols,
-        pattern: before.pattern,
-        placed: next.placed,
-        noted: next.noted,
-        lines,
-    }
-}
-
-// An answer without banks, which a refusal is.
-pub fn no_banks(answer: Answer) -> BankAnswer
-    ensures { result ≡ no_banks answer }
-{
-    BankAnswer {
-        answer,
-        banks: 0,
-        lines: [0u64; 16],
     }
 }
 
@@ -70,7 +44,7 @@ pub fn find_views(
     placed: &mut [u64],
     noted: &mut [u64],
     lines: &mut [u64],
-) -> BankAnswer
+) -> Result<BankCounts, Refusal>
     requires { (32768 * (banks + 1) ≤ length file.now) × (1 ≤ banks) × (banks ≤ 16)
         × Filled library.now settings (lent_lists segments.old references.old symbols.old bytes.old masks.old placed.old noted.old lines.old) collected (lists segments.old references.old symbols.old bytes.old masks.old) }
     ensures { record { answer = result; left = lent_lists segments.new references.new symbols.new bytes.new masks.new placed.new noted.new lines.new }
@@ -79,36 +53,31 @@ pub fn find_views(
 {
     let mut each = [0u64; 16];
     let mut counts = without_rows(collected);
-    let mut k = 0;
-    while k < banks {
+    for k in 0..banks {
         let before = counts.lines;
-        let came = find_view(
-            file,
-            library,
-            settings,
-            collected,
-            k,
-            segments,
-            references,
-            symbols,
-            bytes,
-            masks,
-            placed,
-            noted,
-            lines,
-            before * LINE_WIDTH,
-        );
-        let Answer::Done(next) = came else {
-            clear(lines);
-            return no_banks(came);
+        let at = before * LINE_WIDTH;
+        let next = match find_view(
+            file, library, settings, collected, k, segments, references, symbols, bytes, masks,
+            placed, noted, lines, at,
+        ) {
+            Ok(next) => next,
+            Err(r) => {
+                lines.fill(0);
+                return Err(r);
+            }
         };
         each[k] = next.lines as u64;
-        counts = joined(counts, next, before + next.lines);
-        k += 1;
+        // The rows of the search are this bank's, the lines those of all banks so far.
+        counts = Counts {
+            placed: next.placed,
+            noted: next.noted,
+            lines: before + next.lines,
+            ..counts
+        };
     }
-    BankAnswer {
-        answer: Answer::Done(counts),
+    Ok(BankCounts {
+        counts,
         banks,
         lines: each,
-    }
+    })
 }

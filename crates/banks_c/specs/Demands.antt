@@ -11,7 +11,7 @@ use Rattle.run.specs.declared.Settings.{Settings}
 use Rattle.run.specs.Run.{Lent, number_of, cover}
 use Rattle.run.proofs.Answers.{SameLengths}
 use Rattle.exported.specs.Exported.{counts_in}
-use Rattle.bank_rules.specs.Banks.{BankOutcome, find_banks}
+use Rattle.bank_rules.specs.Banks.{BankOutcome, run_answer, bank_lines, find_banks}
 use Rattle.banks.specs.Exactly.{GivenBoard, NoneGiven}
 use Rattle.banks.specs.Demands.{refused-exactly as board-refused, answered-exactly as board-answered, same-lengths as board-lengths, sixteen as board-sixteen, stretch-alone as board-alone}
 use Rattle.banks_c.specs.Exported.{HandedBanks, handed, handed_banks}
@@ -21,8 +21,8 @@ Contract file library s counts each lent h = h ≡ handed_banks file library s c
 
 -- by the settings, what the run came to, the number, the counts and the lines of each bank
 pub handed-over : (file library : List ℕ) (s t : Settings) (counts each : List ℕ) (lent : Lent) (r : ℕ) (after : List ℕ) (o : BankOutcome)
-    → s ≡ t → o ≡ find_banks file library s lent → r ≡ number_of o.answer.answer → after ≡ counts_in counts o.answer.answer
-    → {lines : List ℕ} → lines ≡ put_row (length o.answer.lines) each 0 o.answer.lines
+    → s ≡ t → o ≡ find_banks file library s lent → r ≡ number_of (run_answer o.answer) → after ≡ counts_in counts (run_answer o.answer)
+    → {lines : List ℕ} → lines ≡ put_row (length (bank_lines o.answer)) each 0 (bank_lines o.answer)
     → (record { number = r; counts = after; each = lines; left = o.left }) ≡ handed_banks file library t counts each lent
 unfolding handed_banks handed
 handed-over file library s t counts each lent r after o same ran number counted e =

@@ -4,7 +4,7 @@ use Rattle.lent.specs.Rows.{put_row}
 use Rattle.run.specs.declared.Settings.{Settings}
 use Rattle.run.specs.Run.{Lent, number_of}
 use Rattle.exported.specs.Exported.{counts_in}
-use Rattle.bank_rules.specs.Banks.{BankOutcome, find_banks}
+use Rattle.bank_rules.specs.Banks.{BankOutcome, run_answer, bank_lines, find_banks}
 
 -- what the caller gets: the number, the counts, the lines of each bank, and the lent lists
 pub record HandedBanks : Type 0 where
@@ -16,9 +16,9 @@ pub record HandedBanks : Type 0 where
 -- the number; the seven counts, and the lines of each of 16 banks, in the first places of what is lent for them, if there are as many
 unfoldable pub handed : List ℕ → List ℕ → BankOutcome → HandedBanks
 handed counts each o = record {
-  number = number_of o.answer.answer;
-  counts = counts_in counts o.answer.answer;
-  each = put_row 16 each 0 o.answer.lines;
+  number = number_of (run_answer o.answer);
+  counts = counts_in counts (run_answer o.answer);
+  each = put_row 16 each 0 (bank_lines o.answer);
   left = o.left;
 }
 

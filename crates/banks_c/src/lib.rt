@@ -40,11 +40,16 @@ pub extern "C" fn sillmarble_find_banks(
         (lent_lists segments.old references.old symbols.old bytes.old masks.old placed.old noted.old lines.old) }
 {
     let settings = settings_of(rules, edition, depth, minimum, skips, amount, withheld);
-    let found = find_banks(
+    match find_banks(
         file, library, settings, segments, references, symbols, bytes, masks, placed, noted, lines,
-    );
-    let answer = found.answer;
-    let of_banks = found.lines;
-    put(each, 0, &of_banks);
-    hand_over(answer, counts)
+    ) {
+        Ok(board) => {
+            put(each, 0, &board.lines);
+            hand_over(Ok(board.counts), counts)
+        }
+        Err(r) => {
+            put(each, 0, &[0; 16]);
+            hand_over(Err(r), counts)
+        }
+    }
 }

@@ -23,8 +23,7 @@ use Rattle.listing_rules.specs.declared.Line.{Line}
 use Rattle.listing_rules.specs.Listing.{line_width, line_cells, line_numbers}
 use Rattle.listing_rules.specs.LineLayout.{line_at}
 use Rattle.run.specs.declared.Settings.{Settings}
-use Rattle.run.specs.declared.Answer.{Answer}
-use Rattle.run.specs.Run.{library_read, Lent, Outcome, counted, zeroed, filled_with, run_seen, run, number_of, counts_of, asked_of, cover}
+use Rattle.run.specs.Run.{library_read, Lent, Outcome, counted, zeroed, filled_with, run_seen, run, number_of, counts_of, asked_of, cover, Answer}
 use Rattle.run.specs.Given.{Given, NothingRefused}
 use Rattle.run.proofs.Answers.{SameLengths, Sound, yielded}
 use Rattle.run.specs.Own.{Own}

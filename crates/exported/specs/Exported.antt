@@ -1,24 +1,19 @@
 -- What the exported functions give their callers: plain numbers instead of settings, answers and counts.
-use Rattle.std.specs.Prelude.{ℕ, Bool, List, [], ◌∷◌, get_or, if◌then◌else◌}
+use Rattle.std.specs.Prelude.{ℕ, Bool, List, [], ◌∷◌, get_or, Ok, Err, Some, None, if◌then◌else◌}
 use Rattle.lent.specs.Rows.{put_row}
 use Rattle.image.specs.Cover.{no_stretches, gathered}
 use Rattle.segments.specs.SegmentRows.{segment_width, reference_width, symbol_width}
 use Rattle.search_rules.specs.SearchRows.{placed_width, noted_width}
-use Rattle.describe.specs.declared.Described.{Described}
-use Rattle.describe.specs.declared.Described.TheVariants.{Written as Said, NoRoom as NoRoomToSay, Nothing}
-use Rattle.listing_rules.specs.declared.Skip.{Skip}
-use Rattle.listing_rules.specs.declared.Skip.TheVariants.{Never, Above}
-use Rattle.listing_rules.specs.Listing.{line_width}
-use Rattle.printing.specs.declared.Printed.{Printed}
-use Rattle.printing.specs.declared.Printed.TheVariants.{Written, NoRoom}
+use Rattle.describe.specs.Described.{Answer as Described}
+use Rattle.listing_rules.specs.Listing.{SkipAmount, line_width}
+use Rattle.printing.specs.PrintedText.{Printed}
 use Rattle.run.specs.declared.Settings.{Settings}
 use Rattle.run.specs.declared.Counts.{Counts}
-use Rattle.run.specs.declared.Answer.{Answer}
-use Rattle.run.specs.Run.{Lent, Outcome, run, number_of, counts_of}
+use Rattle.run.specs.Run.{Lent, Outcome, run, number_of, counts_of, Answer}
 
 -- the skip amount, if there is one
-abbrev pub skip_of : Bool → ℕ → Skip
-skip_of skips amount = if skips then Above amount else Never
+abbrev pub skip_of : Bool → ℕ → SkipAmount
+skip_of skips amount = if skips then Some amount else None
 
 -- the settings: rule set, edition, to what depth references are checked, minimum, whether there is a skip amount and which,
 -- and the stretches as pairs of numbers
@@ -56,8 +51,8 @@ handed_run image library s counts lent = handed counts (run image library s lent
 
 -- the length of a printed text; 0 if it did not fit
 abbrev pub size_of : Printed → ℕ
-size_of (Written n) = n
-size_of NoRoom = 0
+size_of (Ok n) = n
+size_of (Err e) = 0
 
 -- that length, and the buffer
 abbrev pub written_in : Printed × List ℕ → ℕ × List ℕ
@@ -65,9 +60,9 @@ written_in p = (size_of p.0, p.1)
 
 -- the length of a description: 0 if the name has none, the largest number of 64 bits if it did not fit
 abbrev pub length_of : Described → ℕ
-length_of (Said n) = n
-length_of NoRoomToSay = 0xFFFFFFFFFFFFFFFF
-length_of Nothing = 0
+length_of (Ok (Some n)) = n
+length_of (Err e) = 0xFFFFFFFFFFFFFFFF
+length_of (Ok None) = 0
 
 -- that length, and the buffer
 abbrev pub said_in : Described × List ℕ → ℕ × List ℕ

@@ -1,13 +1,10 @@
 -- Each exported function has one outcome, the number and what is left in lent memory, by its contract alone. Assumes nothing.
 use Rattle.std.specs.Prelude.{ℕ, ◌≡◌, Bool, List}
 use Rattle.lent.specs.OneOutcome.{Determines, by-equation}
-use Rattle.describe.specs.declared.Described.{Described}
-use Rattle.describe.specs.Described.{described}
-use Rattle.printing.specs.declared.Printed.{Printed}
-use Rattle.printing.specs.PrintedText.{fitted_text}
+use Rattle.describe.specs.Described.{Answer as Described, described}
+use Rattle.printing.specs.PrintedText.{Printed, fitted_text}
 use Rattle.run.specs.declared.Settings.{Settings}
-use Rattle.run.specs.declared.Answer.{Answer}
-use Rattle.run.specs.Run.{Lent, number_of}
+use Rattle.run.specs.Run.{Lent, number_of, Answer}
 use Rattle.exported.specs.Exported.{settings_of, counts_in, handed_run, size_of, written_in, length_of, said_in, width_of}
 
 pub find-one : (image library : List ℕ) (s : Settings) (counts : List ℕ) (lent : Lent) → Determines (λ o. o ≡ handed_run image library s counts lent)

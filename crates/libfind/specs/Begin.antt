@@ -1,5 +1,5 @@
 -- The beginning of a run, before anything is written: the first refusal, and where the library's modules start.
-use Rattle.std.specs.Prelude.{ℕ, ◌≡◌, List, [], ◌∷◌, ltb, length}
+use Rattle.std.specs.Prelude.{ℕ, ◌≡◌, List, [], ◌∷◌, ltb, length, Result, Ok, Err}
 use Rattle.std.proofs.Math.Option.{Option, none, some}
 use Rattle.lent.specs.declared.refusal.Refusal.{Refusal}
 use Rattle.lent.specs.declared.refusal.Refusal.TheVariants.{RuleSet, OtherEdition, TooDeep, LibraryTooLong, TooManyStretches, StretchPastEnd}
@@ -12,8 +12,6 @@ use Rattle.library.specs.Reading.{first_at}
 use Rattle.run.specs.declared.Settings.{Settings}
 use Rattle.run.specs.Run.{library_read, other_edition, too_deep, cover}
 use Rattle.run.specs.Given.{AcceptedBy}
-use Rattle.libfind.specs.declared.begin.Checked.{Checked}
-use Rattle.libfind.specs.declared.begin.Beginning.{Beginning}
 
 -- refusals 1, 30, 17, the image's own, 3, 16 and 4 in their order, by the lengths of the image and of the library
 abbrev pub settings_refusals : Option Refusal → ℕ → ℕ → Settings → List (Option Refusal)
@@ -32,22 +30,22 @@ unfoldable pub settings_refusal : Option Refusal → ℕ → ℕ → Settings �
 settings_refusal own size library s = leading (settings_refusals own size library s)
 
 -- the code's answer for such a refusal
-abbrev pub checked : Option Refusal → Checked
-checked none = Checked.Accepted
-checked (some r) = Checked.Refused r
+abbrev pub checked : Option Refusal → Result Unit Refusal
+checked none = Ok tt
+checked (some r) = Err r
 
 -- the refusal in such an answer
-abbrev pub refusal_in : Checked → Option Refusal
-refusal_in Checked.Accepted = none
-refusal_in (Checked.Refused r) = some r
+abbrev pub refusal_in : Result Unit Refusal → Option Refusal
+refusal_in (Ok u) = none
+refusal_in (Err r) = some r
 
 -- the code's answer: a refusal, or the place of the first module
-abbrev pub begins_at : ℕ → Option Refusal → Beginning
-begins_at first none = Beginning.At first
-begins_at first (some r) = Beginning.Refused r
+abbrev pub begins_at : ℕ → Option Refusal → Result ℕ Refusal
+begins_at first none = Ok first
+begins_at first (some r) = Err r
 
 -- the first refusal of the settings, the lengths or the reading that applies, or the place of the first module
-unfoldable pub beginning : Option Refusal → ℕ → List ℕ → Settings → Beginning
+unfoldable pub beginning : Option Refusal → ℕ → List ℕ → Settings → Result ℕ Refusal
 beginning own size library s = begins_at (first_at library) (or_else (settings_refusal own size (length library) s) (file_refusal (library_read library s)))
 
 -- none of these applies, and the modules start at the place `first`

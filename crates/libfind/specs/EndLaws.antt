@@ -1,5 +1,5 @@
 -- THE STEPS MAKE UP THE RUN, whatever is searched: the beginning, the collection, and then what is found. Assumes nothing.
-use Rattle.std.specs.Prelude.{ℕ, ◌≡◌, Bool, ◌&&◌, ◌||◌, ◌⊎◌, leb, ltb, length}
+use Rattle.std.specs.Prelude.{ℕ, ◌≡◌, Bool, ◌&&◌, ◌||◌, ◌⊎◌, leb, ltb, length, Ok, Err, Result}
 use Rattle.std.proofs.Math.Path.{refl, sym, ap}
 use Rattle.std.proofs.Common.{◌∙◌, inl, inr, arith}
 use Rattle.std.proofs.Math.Bool.{true, false}
@@ -27,11 +27,9 @@ use Rattle.segments.specs.Refuse.{collect_refusal}
 use Rattle.segments.proofs.RefuseLaws.{collect-late}
 use Rattle.collect.specs.declared.stored.CollectCounts.{CollectCounts as Stored}
 use Rattle.collect.specs.stored.Stores.{CollectLists as Collectable}
-use Rattle.collect.specs.declared.Collection.{Collection}
 use Rattle.collect.specs.Outcome.{CollectOutcome as Collecting, counted_in, refusal_of as refusal_of_collection, collect_zeroed as zeroed_collection, collect_outcome_of as collection_of, collection}
 use Rattle.run.specs.declared.Settings.{Settings}
 use Rattle.run.specs.declared.Counts.{Counts}
-use Rattle.run.specs.declared.Answer.TheVariants.{Refused}
 use Rattle.run.specs.Run.{Lent, lent_lists, Yield, Outcome, library_read, segments_of, counts_with, other_edition, too_deep, collect_over, refusals, zeroed, outcome_of, run_by, cover}
 use Rattle.run.proofs.StageLaws.{reading-stage}
 use Rattle.libfind.specs.Begin.{settings_refusals, settings_refusal, Begun}
@@ -39,17 +37,17 @@ use Rattle.libfind.specs.BeginLaws.{known-edition}
 use Rattle.libfind.specs.Ends.{collectable, findable, all_of, finding_by, Filled}
 
 -- what an answer of the collection says
-refusal_in : Collection → Refusal
-refusal_in (Collection.Done c) = TooFewRows
-refusal_in (Collection.Refused r) = r
+refusal_in : Result Stored Refusal → Refusal
+refusal_in (Ok c) = TooFewRows
+refusal_in (Err r) = r
 
-is_done : Collection → Bool
-is_done (Collection.Done c) = true
-is_done (Collection.Refused r) = false
+is_done : Result Stored Refusal → Bool
+is_done (Ok c) = true
+is_done (Err r) = false
 
-counts_in : Collection → Stored
-counts_in (Collection.Done c) = c
-counts_in (Collection.Refused r) = record { segments = 0; references = 0; symbols = 0; pattern = 0 }
+counts_in : Result Stored Refusal → Stored
+counts_in (Ok c) = c
+counts_in (Err r) = record { segments = 0; references = 0; symbols = 0; pattern = 0 }
 
 -- any run by its refusals: an image's own, which writes nothing, its length, and what the later stages need and give
 module _ (own : Option Refusal) (mild : (r : Refusal) → own ≡ some r → zeroes r ≡ false) (size : ℕ) (library : List ℕ) (s : Settings) (lent : Lent) (p n l : ℕ) (y : Yield) where
@@ -117,7 +115,7 @@ module _ (own : Option Refusal) (mild : (r : Refusal) → own ≡ some r → zer
       go false false false none false false true o k h q = same refl q
       go false false false none false false false o k h q = h r q
 
-  pub refused-early : {r : Refusal} → early ≡ some r → record { answer = Refused r; left = lent } ≡ run_by own size library s lent (counts_with (segments_of library s) p n l) y
+  pub refused-early : {r : Refusal} → early ≡ some r → record { answer = Err r; left = lent } ≡ run_by own size library s lent (counts_with (segments_of library s) p n l) y
   refused-early {r} e =
       sym (run_is ∙ ap (λ o. outcome_of library (or_else o (or_else collecting finding)) y lent) e ∙ rw (writes_nothing e) refl)
 
@@ -165,29 +163,29 @@ module _ (own : Option Refusal) (mild : (r : Refusal) → own ≡ some r → zer
         go true q = let n = same_number q in zeroes-late r (omega (arith, n)) (omega (arith, n))
         go false q = let n = collect-late modules q in zeroes-late r (omega (arith, n.0)) n.1
 
-    pub refused-collecting : {r : Refusal} {left : Collectable} {placed noted lines : List ℕ} → record { answer = Collection.Refused r; left = left } ≡ collected
+    pub refused-collecting : {r : Refusal} {left : Collectable} {placed noted lines : List ℕ} → record { answer = Err r; left = left } ≡ collected
         → placed ≡ zeros (length lent.placed) → noted ≡ zeros (length lent.noted) → lines ≡ zeros (length lent.lines)
         → record {
-          answer = Refused r;
+          answer = Err r;
           left = lent_lists left.segments left.references left.symbols left.bytes left.masks placed noted
               lines;
         } ≡ run_by own size library s lent (counts_with (segments_of library s) p n l) y
     unfolding zeroed zeroed_collection refusal_in is_done
     refused-collecting {r} {left} e u v w = rw (u, v, w) (go collecting refl (e ∙ collected-is))
       where
-        go : (o : Option Refusal) → collecting ≡ o → record { answer = Collection.Refused r; left = left } ≡ collection_of o gs (collectable lent)
-            → record { answer = Refused r; left = all_of (findable left (zeroed lent)) } ≡ run_by own size library s lent (counts_with (segments_of library s) p n l) y
+        go : (o : Option Refusal) → collecting ≡ o → record { answer = Err r; left = left } ≡ collection_of o gs (collectable lent)
+            → record { answer = Err r; left = all_of (findable left (zeroed lent)) } ≡ run_by own size library s lent (counts_with (segments_of library s) p n l) y
         go none q p = absurd (false≢true (ap (λ o. is_done o.answer) p))
         go (some x) q p =
             let late = late-zeroes q in
             let same : r ≡ x = ap (λ o. refusal_in o.answer) p in
             let zero : left ≡ zeroed_collection (collectable lent) = ap (λ o. o.left) p ∙ rw late refl in
-            ap (λ y. record { answer = Refused y; left = all_of (findable left (zeroed lent)) }) same
-            ∙ ap (λ y. record { answer = Refused x; left = all_of (findable y (zeroed lent)) }) zero
+            ap (λ y. record { answer = Err y; left = all_of (findable left (zeroed lent)) }) same
+            ∙ ap (λ y. record { answer = Err x; left = all_of (findable y (zeroed lent)) }) zero
             ∙ sym (run-by ∙ ap (λ o. outcome_of library (or_else o finding) y lent) q ∙ rw late refl)
 
     -- COLLECTED: the lists of the collection are filled, and the rest of the run goes by what is found
-    pub collected-filled : {c : Stored} {left : Collectable} → record { answer = Collection.Done c; left = left } ≡ collected → Filled library s lent c left
+    pub collected-filled : {c : Stored} {left : Collectable} → record { answer = Ok c; left = left } ≡ collected → Filled library s lent c left
     unfolding counts_in is_done
     collected-filled {c} {left} e = go collecting refl (e ∙ collected-is)
       where
@@ -195,7 +193,7 @@ module _ (own : Option Refusal) (mild : (r : Refusal) → own ≡ some r → zer
         quiet true o q = absurd (none≢some (sym q))
         quiet false o q = (refl, q)
 
-        go : (o : Option Refusal) → collecting ≡ o → record { answer = Collection.Done c; left = left } ≡ collection_of o gs (collectable lent) → Filled library s lent c left
+        go : (o : Option Refusal) → collecting ≡ o → record { answer = Ok c; left = left } ≡ collection_of o gs (collectable lent) → Filled library s lent c left
         go (some x) q p = absurd (false≢true (sym (ap (λ o. is_done o.answer) p)))
         go none q p =
             let h = quiet (collect_over lent counts) (collect_refusal modules) q in

@@ -1,10 +1,10 @@
 -- What a run comes to once the library is read: by the collection, and then by search and list.
-use Rattle.std.specs.Prelude.{ℕ, ◌≤◌, ◌≡◌, false, List, [], ◌∷◌, length}
+use Rattle.std.specs.Prelude.{ℕ, ◌≤◌, ◌<◌, ◌≡◌, false, List, [], ◌∷◌, length, Ok, Err}
 use Rattle.std.proofs.Math.Option.{Option, none}
 use Rattle.lent.specs.declared.refusal.Refusal.{Refusal}
 use Rattle.lent.specs.declared.refusal.Refusal.TheVariants.{TooFewRows}
 use Rattle.lent.specs.Choice.{when, leading}
-use Rattle.tables.specs.by_name.Heads.{Blank}
+use Rattle.tables.specs.by_name.Heads.{head_count, head_limit}
 use Rattle.image.specs.View.{view}
 use Rattle.omf51.specs.File.{modules_in}
 use Rattle.segments.specs.Refuse.{collect_refusal}
@@ -12,13 +12,10 @@ use Rattle.search.specs.visit.Visits.{stored}
 use Rattle.collect.specs.declared.stored.CollectCounts.{CollectCounts as Stored}
 use Rattle.collect.specs.stored.Stores.{CollectLists as Collectable}
 use Rattle.collect.specs.Outcome.{counted_in, collect_filled}
-use Rattle.listing.specs.declared.FindAnswer.{FindAnswer}
-use Rattle.listing.specs.Outcome.{FindLists, FindOutcome as Finding, find_outcome}
+use Rattle.listing.specs.Outcome.{FindAnswer, FindLists, FindOutcome as Finding, find_outcome}
 use Rattle.run.specs.declared.Settings.{Settings}
 use Rattle.run.specs.declared.Counts.{Counts}
-use Rattle.run.specs.declared.Answer.{Answer}
-use Rattle.run.specs.declared.Answer.TheVariants.{Done, Refused}
-use Rattle.run.specs.Run.{Lent, Outcome, asked_of, library_read, segments_of, counts_with, collect_over, search_over, list_over, too_long, run, cover}
+use Rattle.run.specs.Run.{Lent, Outcome, asked_of, library_read, segments_of, counts_with, collect_over, search_over, list_over, too_long, run, cover, Answer}
 use Rattle.libfind.specs.Begin.{Begun}
 
 -- the five lists that are lent to the collection
@@ -55,8 +52,8 @@ all_of l = record {
 
 -- the answer of the run, from the counts of the collection and the answer of search and list
 abbrev pub answer_by : Stored → FindAnswer → Answer
-answer_by c (FindAnswer.Done f) =
-    Done (record {
+answer_by c (Ok f) =
+    Ok (record {
       segments = c.segments;
       references = c.references;
       symbols = c.symbols;
@@ -65,7 +62,7 @@ answer_by c (FindAnswer.Done f) =
       noted = f.noted;
       lines = f.lines;
     })
-answer_by c (FindAnswer.Refused r) = Refused r
+answer_by c (Err r) = Err r
 
 -- the outcome of the run, from the counts of the collection and the outcome of search and list
 abbrev pub concluded : Stored → Finding → Outcome
@@ -88,10 +85,10 @@ FindsCollected image library s c before r after =
     length image ≤ 65536
     → record { answer = r; left = after } ≡ concluded c (find_outcome (view image (cover s)) (asked_of s) s.skip library c.segments (given_lists before))
 
--- the same with heads that are blank before
-abbrev pub FindsByHeads : List ℕ → List ℕ → Settings → Stored → Lent → List ℕ → List ℕ → Answer → Lent → Type 0
-FindsByHeads image library s c before positions goals r after =
-    Blank (length before.placed) positions → Blank (length before.noted) goals → FindsCollected image library s c before r after
+-- the same with so many heads, if they are enough for the lists of the search
+abbrev pub FindsByHeads : ℕ → List ℕ → List ℕ → Settings → Stored → Lent → Answer → Lent → Type 0
+FindsByHeads n image library s c before r after =
+    head_count ≤ n → length before.placed < head_limit n → length before.noted < head_limit n → FindsCollected image library s c before r after
 
 -- the run from the place of the first module on
 abbrev pub FindsFrom : List ℕ → List ℕ → Settings → ℕ → Lent → Answer → Lent → Type 0

@@ -1,5 +1,5 @@
 -- Once the segments are collected, search and list come to what the stages give on the cells of a view. Assumes nothing.
-use Rattle.std.specs.Prelude.{ℕ, ◌≤◌, ◌≡◌, List, length}
+use Rattle.std.specs.Prelude.{ℕ, ◌≤◌, ◌≡◌, List, length, Err}
 use Rattle.std.proofs.Math.Path.{refl, ap}
 use Rattle.std.proofs.Common.{◌∙◌, le-ltb}
 use Rattle.std.proofs.Math.Option.{Option, none, some}
@@ -16,7 +16,6 @@ use Rattle.search.specs.visit.Visits.{segments_in}
 use Rattle.search.specs.Outcome.{search_zeroed, search_filled}
 use Rattle.listing.specs.Outcome.{Yield as Findings, yields, refusal_of, find_outcome_of, find_outcome}
 use Rattle.run.specs.declared.Settings.{Settings}
-use Rattle.run.specs.declared.Answer.TheVariants.{Refused}
 use Rattle.run.specs.Run.{Lent, Yield, asked_of, library_read, segments_of, stages, counted, zeroed, filled_with, outcome_of}
 use Rattle.libfind.specs.Ends.{collectable, findable, all_of, concluded, finding_by, Filled}
 use Rattle.libfind.specs.FindingLaws.{finding-late}
@@ -52,7 +51,7 @@ module _ (cells : List ℕ) (short : length cells ≤ 65536) (library : List ℕ
   rest-is : (o : Option Refusal) → finding ≡ o → concluded (counted_in gs) (find_outcome_of library o findings (findable filled lent)) ≡ outcome_of library o yield lent
   unfolding leading counted counted_in stages yields filled_with collect_filled search_filled zeroed collect_zeroed search_zeroed
   rest-is none e = refl
-  rest-is (some r) e = rw (finding-late lent (counted yield) e) (ap (λ z. record { answer = Refused r; left = all_of (findable z (zeroed lent)) }) zero)
+  rest-is (some r) e = rw (finding-late lent (counted yield) e) (ap (λ z. record { answer = Err r; left = all_of (findable z (zeroed lent)) }) zero)
     where
       zero : collect_zeroed filled ≡ collect_zeroed (collectable lent)
       zero = collection-zeroed (rules_of s.rules) library (modules_in (library_read library s)) (collectable lent) f.room

@@ -1,5 +1,5 @@
 -- The steps make up the run on a single image. Assumes nothing.
-use Rattle.std.specs.Prelude.{ℕ, ◌≤◌, ◌≡◌, Bool, true, false, List, ltb}
+use Rattle.std.specs.Prelude.{ℕ, ◌≤◌, ◌≡◌, Bool, true, false, List, ltb, Ok, Err}
 use Rattle.std.proofs.Math.Path.{sym, ap}
 use Rattle.std.proofs.Common.{◌∙◌, inl, arith}
 use Rattle.std.proofs.Math.Option.{Option, some}
@@ -19,11 +19,9 @@ use Rattle.omf51.specs.File.{file_refusal}
 use Rattle.library.specs.Gathered.{items_at}
 use Rattle.collect.specs.declared.stored.CollectCounts.{CollectCounts as Stored}
 use Rattle.collect.specs.stored.Stores.{CollectLists as Collectable}
-use Rattle.collect.specs.declared.Collection.TheVariants as Collection
 use Rattle.collect.specs.Outcome.{collection}
 use Rattle.listing.specs.Outcome.{find_outcome}
 use Rattle.run.specs.declared.Settings.{Settings}
-use Rattle.run.specs.declared.Answer.TheVariants.{Refused}
 use Rattle.run.specs.Run.{Lent, lent_lists, Yield, asked_of, library_read, stages, counted, too_long, run_by, run_seen, run, cover}
 use Rattle.run.proofs.StageLaws.{not-less}
 use Rattle.libfind.specs.Begin.{settings_refusal, Begun}
@@ -56,7 +54,7 @@ module _ (image library : List ℕ) (s : Settings) (lent : Lent) where
 
   -- REFUSED EARLY: nothing is written
   pub refused-early : {r : Refusal} → or_else (settings_refusal own (length image) (length library) s) (file_refusal (library_read library s)) ≡ some r
-      → record { answer = Refused r; left = lent } ≡ run image library s lent
+      → record { answer = Err r; left = lent } ≡ run image library s lent
   unfolding counted stages
   refused-early e = end.refused-early own (mild (length image)) (length image) library s lent (length yield.placed) (length yield.noted) (length yield.lines) yield e ∙ run_is
 
@@ -66,16 +64,16 @@ module _ (image library : List ℕ) (s : Settings) (lent : Lent) where
 
     -- REFUSED BY THE COLLECTION: all that was lent is set to zero
     pub refused-collecting : {r : Refusal} {left : Collectable} {placed noted lines : List ℕ}
-        → record { answer = Collection.Refused r; left = left } ≡ collection (rules_of s.rules) library (items_at library (module_at library) first) (collectable lent)
+        → record { answer = Err r; left = left } ≡ collection (rules_of s.rules) library (items_at library (module_at library) first) (collectable lent)
         → placed ≡ zeros (length lent.placed) → noted ≡ zeros (length lent.noted) → lines ≡ zeros (length lent.lines)
-        → record { answer = Refused r; left = lent_lists left.segments left.references left.symbols left.bytes left.masks placed noted lines } ≡ run image library s lent
+        → record { answer = Err r; left = lent_lists left.segments left.references left.symbols left.bytes left.masks placed noted lines } ≡ run image library s lent
     unfolding counted stages
     refused-collecting e p q r =
         end.refused-collecting own (mild (length image)) (length image) library s lent (length yield.placed) (length yield.noted) (length yield.lines) yield b e p q r ∙ run_is
 
     -- COLLECTED: the rest of the run is what is found
     pub collected-then : {c : Stored} {left : Collectable}
-        → record { answer = Collection.Done c; left = left } ≡ collection (rules_of s.rules) library (items_at library (module_at library) first) (collectable lent)
+        → record { answer = Ok c; left = left } ≡ collection (rules_of s.rules) library (items_at library (module_at library) first) (collectable lent)
         → concluded c (find_outcome cells (asked_of s) s.skip library c.segments (findable left lent)) ≡ run image library s lent
     unfolding counted stages
     collected-then e =

@@ -1,5 +1,5 @@
 -- What each stage says in document 01's terms: its number, and its values. Each follows from the stage's contract alone. Assumes nothing.
-use Rattle.std.specs.Prelude.{ℕ, ◌≡◌, refl, List, length}
+use Rattle.std.specs.Prelude.{ℕ, ◌≡◌, refl, List, length, Ok, Err, Result}
 use Rattle.std.proofs.Common.{ap, ◌∙◌}
 use Rattle.std.proofs.Math.Option.{Option, none, some}
 use Rattle.lent.specs.declared.refusal.Refusal.{Refusal}
@@ -9,51 +9,48 @@ use Rattle.image.specs.declared.fixup.Rules.{Rules}
 use Rattle.omf51.specs.Module.{Module}
 use Rattle.omf51.specs.File.{file_refusal}
 use Rattle.segments.specs.Collect.{Collected, collect}
-use Rattle.collect.specs.declared.Collection.{Collection}
 use Rattle.collect.specs.declared.stored.CollectCounts.{CollectCounts}
 use Rattle.collect.specs.stored.Stores.{CollectLists}
 use Rattle.collect.specs.Outcome.{CollectOutcome, counted_in, refusal_of as collection_refusal, collect_outcome_of, collection}
 use Rattle.search_rules.specs.declared.Asked.{Asked}
 use Rattle.search_rules.specs.Search.{Placing, Noting, placed, noted}
-use Rattle.search.specs.declared.Searched.{Searched}
+use Rattle.search.specs.declared.SearchCounts.{SearchCounts}
 use Rattle.search.specs.visit.Visits.{segments_in}
 use Rattle.search.specs.Outcome.{SearchLists, SearchOutcome, refusal_of as search_refusal, search_outcome_of, searched}
-use Rattle.listing_rules.specs.declared.Skip.{Skip}
-use Rattle.listing.specs.declared.FindAnswer.{FindAnswer}
-use Rattle.listing.specs.Outcome.{FindLists, FindOutcome, Yield, yields, refusal_of as find_refusal, find_outcome_of, find_outcome}
+use Rattle.listing_rules.specs.Listing.{SkipAmount}
+use Rattle.listing.specs.Outcome.{FindAnswer, FindLists, FindOutcome, Yield, yields, refusal_of as find_refusal, find_outcome_of, find_outcome}
 use Rattle.library.specs.Reading.{first_at}
 use Rattle.run.specs.declared.Settings.{Settings}
 use Rattle.run.specs.Run.{library_read}
-use Rattle.libfind.specs.declared.begin.Beginning.{Beginning}
 use Rattle.libfind.specs.Begin.{settings_refusal, begins_at, beginning}
 
 -- the number of each answer; its values are in the answer itself, and a refusal has none
-abbrev pub beginning_number : Beginning → ℕ
-beginning_number (Beginning.At first) = 0
-beginning_number (Beginning.Refused r) = refusal_number r
+abbrev pub beginning_number : Result ℕ Refusal → ℕ
+beginning_number (Ok first) = 0
+beginning_number (Err r) = refusal_number r
 
-abbrev pub collection_number : Collection → ℕ
-collection_number (Collection.Done counts) = 0
-collection_number (Collection.Refused r) = refusal_number r
+abbrev pub collection_number : Result CollectCounts Refusal → ℕ
+collection_number (Ok counts) = 0
+collection_number (Err r) = refusal_number r
 
-abbrev pub searched_number : Searched → ℕ
-searched_number (Searched.Done counts) = 0
-searched_number (Searched.Refused r) = refusal_number r
+abbrev pub searched_number : Result SearchCounts Refusal → ℕ
+searched_number (Ok counts) = 0
+searched_number (Err r) = refusal_number r
 
 abbrev pub find_number : FindAnswer → ℕ
-find_number (FindAnswer.Done counts) = 0
-find_number (FindAnswer.Refused r) = refusal_number r
+find_number (Ok counts) = 0
+find_number (Err r) = refusal_number r
 
 -- the counts of the collection; zeros with a refusal
-abbrev pub collection_counts : Collection → CollectCounts
-collection_counts (Collection.Done counts) = counts
-collection_counts (Collection.Refused r) = record { segments = 0; references = 0; symbols = 0; pattern = 0 }
+abbrev pub collection_counts : Result CollectCounts Refusal → CollectCounts
+collection_counts (Ok counts) = counts
+collection_counts (Err r) = record { segments = 0; references = 0; symbols = 0; pattern = 0 }
 
 begin-of : (first : ℕ) (o : Option Refusal) → beginning_number (begins_at first o) ≡ stage_number o
 begin-of first none = refl
 begin-of first (some r) = refl
 
-pub begin-number : (own : Option Refusal) (size : ℕ) (library : List ℕ) (s : Settings) (r : Beginning) → r ≡ beginning own size library s
+pub begin-number : (own : Option Refusal) (size : ℕ) (library : List ℕ) (s : Settings) (r : Result ℕ Refusal) → r ≡ beginning own size library s
     → beginning_number r ≡ stage_number (or_else (settings_refusal own size (length library) s) (file_refusal (library_read library s)))
 unfolding beginning
 begin-number own size library s r c =
@@ -87,7 +84,7 @@ find-of : (library : List ℕ) (o : Option Refusal) (y : Yield) (l : FindLists) 
 find-of library none y l = refl
 find-of library (some r) y l = refl
 
-pub find-number : (cells : List ℕ) (a : Asked) (skip : Skip) (library : List ℕ) (n : ℕ) (l : FindLists) (o : FindOutcome) → o ≡ find_outcome cells a skip library n l
+pub find-number : (cells : List ℕ) (a : Asked) (skip : SkipAmount) (library : List ℕ) (n : ℕ) (l : FindLists) (o : FindOutcome) → o ≡ find_outcome cells a skip library n l
     → find_number o.answer ≡ stage_number (find_refusal cells l (yields cells a skip library (segments_in l.searched.stored n)))
 unfolding find_outcome
 find-number cells a skip library n l o c =

@@ -4,12 +4,11 @@ ghost use Rattle.std.specs.Prelude.{◌≡◌};
 ghost use Rattle.run.specs.Run.{lent_lists, run};
 ghost use Rattle.libfind.specs.Ends.{FindsFrom};
 
-use crate::begin::{Beginning, begin, single};
+use crate::begin::{begin, single};
 use crate::collected::{find_collected, rules_of};
-use collect::Collection;
 use collect::entry::collect;
-use lent::rows::clear;
-use run::{Answer, Settings};
+use lent::refusal::Refusal;
+use run::{Counts, Settings};
 
 // Lists at which addresses of an image the names of a library stand. Lent are the five lists of the collection, the two
 // of the search (`placed`, `noted`), and the lines. The answer, and what is left in the lent lists, are those of `run`
@@ -26,18 +25,16 @@ pub fn find_names(
     placed: &mut [u64],
     noted: &mut [u64],
     lines: &mut [u64],
-) -> Answer
+) -> Result<Counts, Refusal>
     ensures { record { answer = result; left = lent_lists segments.new references.new symbols.new bytes.new masks.new placed.new noted.new lines.new }
         ≡ run image.now library.now settings
         (lent_lists segments.old references.old symbols.old bytes.old masks.old placed.old noted.old lines.old) }
 {
-    match begin(single(image.len()), image.len(), library, settings) {
-        Beginning::At(first) => find_from(
-            image, library, settings, first, segments, references, symbols, bytes, masks, placed,
-            noted, lines,
-        ),
-        Beginning::Refused(r) => Answer::Refused(r),
-    }
+    let first = begin(single(image.len()), image.len(), library, settings)?;
+    find_from(
+        image, library, settings, first, segments, references, symbols, bytes, masks, placed,
+        noted, lines,
+    )
 }
 
 // The run once the settings are accepted and the library's modules are known to start at `first`: the segments are
@@ -55,7 +52,7 @@ fn find_from(
     placed: &mut [u64],
     noted: &mut [u64],
     lines: &mut [u64],
-) -> Answer
+) -> Result<Counts, Refusal>
     ensures { FindsFrom image.now library.now settings first
         (lent_lists segments.old references.old symbols.old bytes.old masks.old placed.old noted.old lines.old) result
         (lent_lists segments.new references.new symbols.new bytes.new masks.new placed.new noted.new lines.new) }
@@ -64,15 +61,15 @@ fn find_from(
     match collect(
         library, rules, first, segments, references, symbols, bytes, masks,
     ) {
-        Collection::Done(collected) => find_collected(
+        Ok(collected) => find_collected(
             image, library, settings, collected, segments, references, symbols, bytes, masks,
             placed, noted, lines,
         ),
-        Collection::Refused(r) => {
-            clear(placed);
-            clear(noted);
-            clear(lines);
-            Answer::Refused(r)
+        Err(r) => {
+            placed.fill(0);
+            noted.fill(0);
+            lines.fill(0);
+            Err(r)
         }
     }
 }

@@ -103,8 +103,5 @@ pub extern "C" fn sillmarble_row_width(list: usize) -> usize
         NOTED_WIDTH,
         LINE_WIDTH,
     ];
-    if list < 8 {
-        return widths[list];
-    }
-    0
+    widths.get(list).copied().unwrap_or(0)
 }

@@ -1,5 +1,5 @@
 -- The fourteen examples of document 01, all proved by one statement over the table, and its whole printed case.
-use Rattle.std.specs.Prelude.{ℕ, ◌-◌, ◌^◌, ◌≡◌, refl, List, [], ◌∷◌, ◌++◌, map, length, replicate}
+use Rattle.std.specs.Prelude.{ℕ, ◌-◌, ◌^◌, ◌≡◌, refl, List, [], ◌∷◌, ◌++◌, map, length, replicate, None, Ok}
 use Rattle.std.proofs.Math.Option.{Option, none, some}
 use Rattle.lent.specs.Choice.{leading}
 use Rattle.lent.specs.Lists.{one, keep, joined, fold, any, all, place_of, from, numbered, insert, sorted, total}
@@ -29,12 +29,10 @@ use Rattle.tables.specs.by_name.Newest.{newest_from}
 use Rattle.tables.specs.by_name.Sheet.{name_bucket, linked_from}
 use Rattle.search_rules.specs.Search.{positions_of, all_matches, is_valid, holds_to, notes, note, noted, symbols_at, place, placed}
 use Rattle.search_rules.specs.SearchRows.{placed_numbers, noted_numbers}
-use Rattle.listing_rules.specs.declared.Skip.TheVariants.{Never}
 use Rattle.listing_rules.specs.Listing.{best_grade, best, grade, graded_at, lines_at, leftovers, listing, line_numbers}
 use Rattle.describe.specs.Describe.{text, one_of, description, describe}
 use Rattle.listing_rules.specs.Print.{digits, more_digits, printed_line, printed}
 use Rattle.run.specs.declared.Settings.{Settings}
-use Rattle.run.specs.declared.Answer.TheVariants.{Done}
 use Rattle.run.specs.Run.{Lent, Outcome, stages, counted, refusals, filled_with, run_seen, run}
 
 -- a row of the table: its number, what is computed, and the result that the document gives
@@ -109,7 +107,7 @@ library =
     ∷ []
 
 abbrev settings : Settings
-settings = record { rules = 0; edition = 1; depth = 1; minimum = 3; skip = Never; withheld = no_stretches }
+settings = record { rules = 0; edition = 1; depth = 1; minimum = 3; skip = None; withheld = no_stretches }
 
 -- lent for it: one number more than a row for each stage, so that what is left over can be seen to be zero
 abbrev lent : Lent
@@ -126,7 +124,7 @@ lent = record {
 
 abbrev outcome : Outcome
 outcome = record {
-  answer = Done (record { segments = 1; references = 0; symbols = 1; pattern = 3; placed = 1; noted = 0; lines = 1 });
+  answer = Ok (record { segments = 1; references = 0; symbols = 1; pattern = 3; placed = 1; noted = 0; lines = 1 });
   left = record {
     segments = 0 ∷ 0 ∷ 0 ∷ 3 ∷ 0 ∷ 0 ∷ 0 ∷ 1 ∷ 0 ∷ [];
     references = zeros 1;

@@ -12,8 +12,7 @@ use Rattle.segments.specs.Collect.{Collected}
 use Rattle.search_rules.specs.declared.Asked.{Asked}
 use Rattle.search_rules.specs.Search.{Placing, Noting, is_noted}
 use Rattle.listing_rules.specs.declared.Line.{Line}
-use Rattle.listing_rules.specs.declared.Skip.{Skip}
-use Rattle.listing_rules.specs.Listing.{borne_out, grade, listing, line_width, line_numbers}
+use Rattle.listing_rules.specs.Listing.{SkipAmount, borne_out, grade, listing, line_width, line_numbers}
 use Rattle.listing_rules.proofs.CompleteLaws.{graded-line}
 use Rattle.listing_rules.specs.LineLayout.{line_layout, line_at}
 use Rattle.listing_rules.proofs.LineLayoutLaws.{line-width, line-back}
@@ -42,7 +41,7 @@ module _ (library cells : List ℕ) (a : Asked) (segments : List Collected) (pla
       go true true = omega arith
       go true false = omega arith
 
-  pub grades : (skip : Skip) {l : Line} → l among listing library cells a skip segments placed noted → l.grade ≤ 3
+  pub grades : (skip : SkipAmount) {l : Line} → l among listing library cells a skip segments placed noted → l.grade ≤ 3
   grades skip {l} i = go (dec_lt 0 l.grade)
     where
       go : Dec (0 < l.grade) → l.grade ≤ 3

@@ -26,8 +26,7 @@ use Rattle.search_rules.specs.Search.{Placing, is_valid, holds_to, is_noted, pla
 use Rattle.search_rules.proofs.SearchLaws.{Seated, holds-each, PlacedBy, placed_by}
 use Rattle.search_rules.proofs.NotedLaws.{NotedAs, noted-as}
 use Rattle.listing_rules.specs.declared.Line.{Line}
-use Rattle.listing_rules.specs.declared.Skip.{Skip}
-use Rattle.listing_rules.specs.Listing.{listing}
+use Rattle.listing_rules.specs.Listing.{SkipAmount, listing}
 use Rattle.listing_rules.proofs.CompleteLaws.{graded-line}
 use Rattle.run.specs.declared.Settings.{Settings}
 use Rattle.run.specs.Run.{library_read, asked_of, stages, cover}
@@ -114,13 +113,13 @@ why library cells a segments p b c = record {
     go (inr n) = inr (moved b.named b.standing (noted-as library cells a segments p.name p.position n))
 
 -- the lines of a search under a rule set
-abbrev lines_by : Rules → ℕ → ℕ → Skip → List ℕ → List ℕ → List Module → List Line
+abbrev lines_by : Rules → ℕ → ℕ → SkipAmount → List ℕ → List ℕ → List Module → List Line
 lines_by rules depth minimum skip library cells modules =
     let a : Asked = record { rules = rules; depth = depth; minimum = minimum } in
     let segments = collect rules library modules in
     listing library cells a skip segments (placed library cells a segments) (noted library cells a segments)
 
-own_line : (depth minimum : ℕ) (skip : Skip) (library cells : List ℕ) (modules : List Module) (rules : Rules) → rules ≡ Documented
+own_line : (depth minimum : ℕ) (skip : SkipAmount) (library cells : List ℕ) (modules : List Module) (rules : Rules) → rules ≡ Documented
     → (l : Line) → l among lines_by rules depth minimum skip library cells modules → 1 ≤ l.grade
     → Own library cells (record { rules = rules; depth = depth; minimum = minimum }) modules l.name l.address
 own_line depth minimum skip library cells modules rules e = rw e λ l i h.

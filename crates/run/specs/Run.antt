@@ -1,5 +1,5 @@
 -- The whole run: what is lent, the stages, the order of the refusals, the answer, and what is left in lent memory.
-use Rattle.std.specs.Prelude.{ℕ, Bool, ◌||◌, List, [], ◌∷◌, ltb, length, if◌then◌else◌}
+use Rattle.std.specs.Prelude.{ℕ, Bool, ◌||◌, List, [], ◌∷◌, ltb, length, Result, Ok, Err, if◌then◌else◌}
 use Rattle.std.proofs.Math.Option.{Option, none, some}
 use Rattle.lent.specs.declared.refusal.Refusal.{Refusal}
 use Rattle.lent.specs.declared.refusal.Refusal.TheVariants.{RuleSet, ImageTooLong, LibraryTooLong, TooManyStretches, StretchPastEnd, TooFewRows, TooDeep, OtherEdition}
@@ -25,8 +25,6 @@ use Rattle.listing_rules.specs.declared.Line.{Line}
 use Rattle.listing_rules.specs.Listing.{listing, line_width, line_numbers}
 use Rattle.run.specs.declared.Settings.{Settings}
 use Rattle.run.specs.declared.Counts.{Counts}
-use Rattle.run.specs.declared.Answer.{Answer}
-use Rattle.run.specs.declared.Answer.TheVariants.{Done, Refused}
 
 -- the eight lent lists of numbers: the rows of each stage, the pattern bytes and the masks
 pub record Lent : Type 0 where
@@ -50,6 +48,10 @@ pub record Yield : Type 0 where
   pub placed : List Placing
   pub noted : List Noting
   pub lines : List Line
+
+-- the answer of a run: its counts, or a refusal
+abbrev pub Answer : Type 0
+Answer = Result Counts Refusal
 
 -- what a run comes to: the answer, and the lent lists afterwards
 pub record Outcome : Type 0 where
@@ -174,8 +176,8 @@ left_by r lent = if zeroes r then zeroed lent else lent
 
 -- the outcome of a run with a refusal or without
 abbrev pub outcome_of : List ℕ → Option Refusal → Yield → Lent → Outcome
-outcome_of library none y lent = record { answer = Done (counted y); left = filled_with library y lent }
-outcome_of library (some r) y lent = record { answer = Refused r; left = left_by r lent }
+outcome_of library none y lent = record { answer = Ok (counted y); left = filled_with library y lent }
+outcome_of library (some r) y lent = record { answer = Err r; left = left_by r lent }
 
 -- the outcome of a run by its refusals and by what the stages give
 abbrev pub run_by : Option Refusal → ℕ → List ℕ → Settings → Lent → Counts → Yield → Outcome
@@ -193,8 +195,8 @@ run image library s lent = run_seen (view image (cover s)) library s lent
 
 -- the number of an answer: 0, or that of the refusal
 abbrev pub number_of : Answer → ℕ
-number_of (Done c) = 0
-number_of (Refused r) = refusal_number r
+number_of (Ok c) = 0
+number_of (Err r) = refusal_number r
 
 -- the counts of a refusal: all zero
 abbrev pub no_counts : Counts
@@ -202,5 +204,5 @@ no_counts = record { segments = 0; references = 0; symbols = 0; pattern = 0; pla
 
 -- the counts of an answer
 abbrev pub counts_of : Answer → Counts
-counts_of (Done c) = c
-counts_of (Refused r) = no_counts
+counts_of (Ok c) = c
+counts_of (Err r) = no_counts

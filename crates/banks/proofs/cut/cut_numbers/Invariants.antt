@@ -1,13 +1,8 @@
 -- `cut_numbers` goes from pair to pair. The invariant: those before are cut, and the others are as they were. Assumes nothing.
 use Prim.Native.Nat.{◌-◌}
-use lib.ListN.{length}
 use Rattle.bank_rules.proofs.CutLaws.{Cutting}
 use Rattle.banks.proofs.cut.cut_numbers.Given as goal
 
 abbrev pub invariant-loop-i : goal.invariant-loop-i
 invariant-loop-i l =
-    Cutting l.k l.initial.pairs l.pairs l.i
-
-abbrev pub decreases-loop-i : goal.decreases-loop-i
-decreases-loop-i l =
-    length l.initial.pairs - l.i
+    Cutting l.k l.initial.pairs l.pairs (l.i - 1)

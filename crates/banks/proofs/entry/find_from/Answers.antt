@@ -16,9 +16,9 @@ use Rattle.bank_rules.specs.Banks.{banks_in}
 use Rattle.banks.specs.Turns.{board_by}
 use Rattle.banks.specs.EntryLaws.{begun-banks, refilled, same-board, refused-collecting, collected-filled, banks-then}
 use Rattle.banks.proofs.entry.find_from.Goals as goal
-use Rattle.banks.proofs.entry.find_from.Goals.{In-Done}
+use Rattle.banks.proofs.entry.find_from.Goals.{In-Ok}
 
-abbrev between : (c : In-Done) → Lent
+abbrev between : (c : In-Ok) → Lent
 between c =
     let left : CollectLists = let q = c.collect.new in lists q.segments q.references q.symbols q.bytes q.masks in let l = left in let a = c.args in lent_lists l.segments l.references l.symbols l.bytes l.masks a.placed.now a.noted.now a.lines.now
 
@@ -27,7 +27,7 @@ find_views-requires c =
     let lent : Lent = let a = c.args in lent_lists a.segments.now a.references.now a.symbols.now a.bytes.now a.masks.now a.placed.now a.noted.now a.lines.now in
     let collected : Rules → CollectOutcome = λ rules. collection rules c.args.library.now (items_at c.args.library.now (module_at c.args.library.now) c.args.first) (collectable (lent)) in
     let left : CollectLists = let q = c.collect.new in lists q.segments q.references q.symbols q.bytes q.masks in
-    let kept : SameLengths (between (goal.at.find_views-requires c).In-Done) (lent) = record {
+    let kept : SameLengths (between (goal.at.find_views-requires c).In-Ok) (lent) = record {
       segments = c.segments-1.given;
       references = c.references-1.given;
       symbols = c.symbols-1.given;
@@ -37,24 +37,24 @@ find_views-requires c =
       noted = refl;
       lines = refl;
     } in
-    let filled : Filled c.args.library.now c.args.settings (lent) c.in-Done.collected (left) = let a = c.args in
+    let filled : Filled c.args.library.now c.args.settings (lent) c.in-Ok.collected (left) = let a = c.args in
     collected-filled a.file.now a.library.now a.settings (lent) c.requires
-    (ap (λ r. record { answer = r; left = left }) (sym c.in-Done.is) ∙ c.collect.ensures ∙ ap (collected) c.rules_of-rules.ensures) in
+    (ap (λ r. record { answer = r; left = left }) (sym c.in-Ok.is) ∙ c.collect.ensures ∙ ap (collected) c.rules_of-rules.ensures) in
     let a = c.args in
     let n = c.banks_in.ensures in
     let b = begun-banks a.file.now a.library.now a.settings a.first c.requires in (
       omega (arith, n, b.whole),
       omega (arith, n, b.some-bank),
       omega (arith, n, b.few),
-      refilled a.library.now a.settings (lent) c.in-Done.collected (left) (kept) (filled),
+      refilled a.library.now a.settings (lent) c.in-Ok.collected (left) (kept) (filled),
     )
 
-pub returns-in-Done : goal.returns-in-Done
-returns-in-Done c =
+pub returns-in-Ok : goal.returns-in-Ok
+returns-in-Ok c =
     let lent : Lent = let a = c.args in lent_lists a.segments.now a.references.now a.symbols.now a.bytes.now a.masks.now a.placed.now a.noted.now a.lines.now in
     let collected : Rules → CollectOutcome = λ rules. collection rules c.args.library.now (items_at c.args.library.now (module_at c.args.library.now) c.args.first) (collectable (lent)) in
     let left : CollectLists = let q = c.collect.new in lists q.segments q.references q.symbols q.bytes q.masks in
-    let kept : SameLengths (between (goal.at.returns-in-Done c).In-Done) (lent) = record {
+    let kept : SameLengths (between (goal.at.returns-in-Ok c).In-Ok) (lent) = record {
       segments = c.segments-1.given;
       references = c.references-1.given;
       symbols = c.symbols-1.given;
@@ -64,24 +64,22 @@ returns-in-Done c =
       noted = refl;
       lines = refl;
     } in
-    let filled : Filled c.args.library.now c.args.settings (lent) c.in-Done.collected (left) = let a = c.args in
+    let filled : Filled c.args.library.now c.args.settings (lent) c.in-Ok.collected (left) = let a = c.args in
     collected-filled a.file.now a.library.now a.settings (lent) c.requires
-    (ap (λ r. record { answer = r; left = left }) (sym c.in-Done.is) ∙ c.collect.ensures ∙ ap (collected) c.rules_of-rules.ensures) in
+    (ap (λ r. record { answer = r; left = left }) (sym c.in-Ok.is) ∙ c.collect.ensures ∙ ap (collected) c.rules_of-rules.ensures) in
     let a = c.args in
     let cells = view a.file.now (cover a.settings) in
     c.find_views.ensures
-    ∙ ap (λ n. board_by cells a.library.now a.settings n (between (goal.at.returns-in-Done c).In-Done)) c.banks_in.ensures
-    ∙ same-board a.library.now a.settings (lent) c.in-Done.collected (left) cells (banks_in (length a.file.now)) (kept)
+    ∙ ap (λ n. board_by cells a.library.now a.settings n (between (goal.at.returns-in-Ok c).In-Ok)) c.banks_in.ensures
+    ∙ same-board a.library.now a.settings (lent) c.in-Ok.collected (left) cells (banks_in (length a.file.now)) (kept)
     ∙ banks-then a.file.now a.library.now a.settings (lent) c.requires (filled)
 
-pub returns-in-Refused : goal.returns-in-Refused
-returns-in-Refused c =
+pub returns-in-Err : goal.returns-in-Err
+returns-in-Err c =
     let lent : Lent = let a = c.args in lent_lists a.segments.now a.references.now a.symbols.now a.bytes.now a.masks.now a.placed.now a.noted.now a.lines.now in
     let collected : Rules → CollectOutcome = λ rules. collection rules c.args.library.now (items_at c.args.library.now (module_at c.args.library.now) c.args.first) (collectable (lent)) in
     let left : CollectLists = let q = c.collect.new in lists q.segments q.references q.symbols q.bytes q.masks in
     let a = c.args in
-    let after : Lent = lent_lists (left).segments (left).references (left).symbols (left).bytes (left).masks c.clear.new.rows c.clear-in-Refused.new.rows c.clear-in-Refused-2.new.rows in
-    ap (λ x. record { answer = x; left = after }) c.no_banks.ensures
-    ∙ refused-collecting a.file.now a.library.now a.settings (lent) c.requires
-    (ap (λ r. record { answer = r; left = left }) (sym c.in-Refused.is) ∙ c.collect.ensures ∙ ap (collected) c.rules_of-rules.ensures)
-    c.clear.ensures c.clear-in-Refused.ensures c.clear-in-Refused-2.ensures
+    refused-collecting a.file.now a.library.now a.settings (lent) c.requires
+    (ap (λ r. record { answer = r; left = left }) (sym c.in-Err.is) ∙ c.collect.ensures ∙ ap (collected) c.rules_of-rules.ensures)
+    (c.fill.ensures.after (λ y e. e)) (c.fill-in-Err.ensures.after (λ y e. e)) (c.fill-in-Err-2.ensures.after (λ y e. e))

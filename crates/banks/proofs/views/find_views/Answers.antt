@@ -1,15 +1,14 @@
 use Prim.Native.Nat.{ℕ, ◌+◌, ◌*◌, ◌≤◌, ◌<◌}
-use mathlib.Core.Path.{◌≡◌, sym, ap, subst, ◌∙◌}
+use mathlib.Core.Path.{◌≡◌, subst, ◌∙◌}
 use mathlib.Core.List.{List}
 use native.Mathlib.Omega.{arith}
 use lib.ListN.{length, set}
 use Rattle.image.specs.View.{view}
 use Rattle.image.proofs.ViewLaws.{view-length}
-use Rattle.run.specs.declared.Answer.{Answer}
-use Rattle.run.specs.Run.{Lent, lent_lists, cover}
+use Rattle.run.specs.Run.{Lent, lent_lists, cover, Answer}
 use Rattle.run.proofs.Answers.{SameLengths}
 use Rattle.bank_rules.specs.Banks.{Has}
-use Rattle.banks.specs.Turns.{with_lines, FindsView, joined_counts, no_banks}
+use Rattle.banks.specs.Turns.{FindsView, joined_counts}
 use Rattle.banks.specs.BoardLaws.{Shown, shown-starts, shown-room, shown-on, shown-stops, shown-ends}
 use Rattle.banks.proofs.views.find_views.Goals as goal
 use Rattle.banks.proofs.views.find_views.Goals.{After-without_rows-counts}
@@ -27,26 +26,26 @@ loop-k-init c =
     let a = c.args in
     shown-starts (seen c) a.library.now a.settings a.banks (lent c) a.collected c.requires.3 c.without_rows-counts.ensures
 
-pub overflow_mul-before : goal.overflow_mul-before
-overflow_mul-before c =
+pub overflow_mul-at : goal.overflow_mul-at
+overflow_mul-at c =
     let room : c.loop-k.counts.lines * 4 ≤ length c.loop-k.lines = let a = c.args in
-    shown-room (seen (goal.at.overflow_mul-before c).After-without_rows-counts) a.library.now a.settings a.banks
-    (lent (goal.at.overflow_mul-before c).After-without_rows-counts) a.collected c.loop-k.invariant in
+    shown-room (seen (goal.at.overflow_mul-at c).After-without_rows-counts) a.library.now a.settings a.banks
+    (lent (goal.at.overflow_mul-at c).After-without_rows-counts) a.collected c.loop-k.invariant in
     omega (arith, room, c.well_formed, c.loop-k.invariant.listed.long.lines)
 
-pub find_view-came-requires : goal.find_view-came-requires
-find_view-came-requires c =
+pub find_view-requires : goal.find_view-requires
+find_view-requires c =
     let has-bank : let a = c.args in Has c.loop-k.k a.file.now = omega (arith, c.loop-k-test.true, c.requires.0) in
     let few : c.loop-k.k < 16 = omega (arith, c.loop-k-test.true, c.requires.2) in
     let room : c.loop-k.counts.lines * 4 ≤ length c.loop-k.lines = let a = c.args in
-    shown-room (seen (goal.at.find_view-came-requires c).After-without_rows-counts) a.library.now a.settings a.banks
-    (lent (goal.at.find_view-came-requires c).After-without_rows-counts) a.collected c.loop-k.invariant in
+    shown-room (seen (goal.at.find_view-requires c).After-without_rows-counts) a.library.now a.settings a.banks
+    (lent (goal.at.find_view-requires c).After-without_rows-counts) a.collected c.loop-k.invariant in
     (has-bank, few, room)
 
-pub returns-in_default : goal.returns-in_default
-returns-in_default c =
+pub returns-in-Err : goal.returns-in-Err
+returns-in-Err c =
     let turn : Lent = let l = c.loop-k in lent_lists l.segments l.references l.symbols l.bytes l.masks l.placed l.noted l.lines in
-    let after : Lent = let q = c.find_view-came.new in
+    let after : Lent = let q = c.find_view.new in
     lent_lists q.segments q.references q.symbols q.bytes q.masks q.placed q.noted q.lines in
     let kept : SameLengths (after) (turn) = record {
       segments = c.segments-1.given;
@@ -59,22 +58,21 @@ returns-in_default c =
       lines = c.lines-1.given;
     } in
     let has-bank : let a = c.args in Has c.loop-k.k a.file.now = omega (arith, c.loop-k-test.true, c.requires.0) in
-    let has-view : Has c.loop-k.k (seen (goal.at.returns-in_default c).After-without_rows-counts) = let a = c.args in omega (arith, has-bank, view-length a.file.now (cover a.settings)) in
-    let finds : (r : Answer) → c.find_view-came.result ≡ r → let a = c.args in let l = c.loop-k in FindsView
-    (seen (goal.at.returns-in_default c).After-without_rows-counts) a.library.now a.settings a.collected l.k (l.counts.lines * 4) (turn) r (after) = λ _ e. let a = c.args in
+    let has-view : Has c.loop-k.k (seen (goal.at.returns-in-Err c).After-without_rows-counts) = let a = c.args in omega (arith, has-bank, view-length a.file.now (cover a.settings)) in
+    let finds : (r : Answer) → c.find_view.result ≡ r → let a = c.args in let l = c.loop-k in FindsView
+    (seen (goal.at.returns-in-Err c).After-without_rows-counts) a.library.now a.settings a.collected l.k (l.counts.lines * 4) (turn) r (after) = λ _ e. let a = c.args in
     let l = c.loop-k in
-    subst (λ x. FindsView (seen (goal.at.returns-in_default c).After-without_rows-counts) a.library.now a.settings a.collected l.k (l.counts.lines * 4) (turn) x (after)) e c.find_view-came.ensures in
+    subst (λ x. FindsView (seen (goal.at.returns-in-Err c).After-without_rows-counts) a.library.now a.settings a.collected l.k (l.counts.lines * 4) (turn) x (after)) e c.find_view.ensures in
     let a = c.args in
-    let told = c.in_default.is in
-    ap (λ x. record { answer = x; left = with_lines (after) c.clear.new.rows }) (c.no_banks.ensures ∙ ap no_banks told)
-    ∙ shown-stops (seen (goal.at.returns-in_default c).After-without_rows-counts) a.library.now a.settings a.banks
-    (lent (goal.at.returns-in_default c).After-without_rows-counts) a.collected c.loop-k.invariant (omega (arith, c.loop-k-test.true)) (has-view)
-    (kept) (finds _ told) c.clear.ensures
+    let told = c.in-Err.is in
+    shown-stops (seen (goal.at.returns-in-Err c).After-without_rows-counts) a.library.now a.settings a.banks
+    (lent (goal.at.returns-in-Err c).After-without_rows-counts) a.collected c.loop-k.invariant (omega (arith, c.loop-k-test.true)) (has-view)
+    (kept) (finds _ told) (c.fill.ensures.after (λ y e. e))
 
-pub overflow_add-before : goal.overflow_add-before
-overflow_add-before c =
+pub overflow_add-counts : goal.overflow_add-counts
+overflow_add-counts c =
     let turn : Lent = let l = c.loop-k in lent_lists l.segments l.references l.symbols l.bytes l.masks l.placed l.noted l.lines in
-    let after : Lent = let q = c.find_view-came.new in
+    let after : Lent = let q = c.find_view.new in
     lent_lists q.segments q.references q.symbols q.bytes q.masks q.placed q.noted q.lines in
     let kept : SameLengths (after) (turn) = record {
       segments = c.segments-1.given;
@@ -87,13 +85,13 @@ overflow_add-before c =
       lines = c.lines-1.given;
     } in
     let has-bank : let a = c.args in Has c.loop-k.k a.file.now = omega (arith, c.loop-k-test.true, c.requires.0) in
-    let has-view : Has c.loop-k.k (seen (goal.at.overflow_add-before c).After-without_rows-counts) = let a = c.args in omega (arith, has-bank, view-length a.file.now (cover a.settings)) in
+    let has-view : Has c.loop-k.k (seen (goal.at.overflow_add-counts c).After-without_rows-counts) = let a = c.args in omega (arith, has-bank, view-length a.file.now (cover a.settings)) in
     let few : c.loop-k.k < 16 = omega (arith, c.loop-k-test.true, c.requires.2) in
-    let finds : (r : Answer) → c.find_view-came.result ≡ r → let a = c.args in let l = c.loop-k in FindsView
-    (seen (goal.at.overflow_add-before c).After-without_rows-counts) a.library.now a.settings a.collected l.k (l.counts.lines * 4) (turn) r (after) = λ _ e. let a = c.args in
+    let finds : (r : Answer) → c.find_view.result ≡ r → let a = c.args in let l = c.loop-k in FindsView
+    (seen (goal.at.overflow_add-counts c).After-without_rows-counts) a.library.now a.settings a.collected l.k (l.counts.lines * 4) (turn) r (after) = λ _ e. let a = c.args in
     let l = c.loop-k in
-    subst (λ x. FindsView (seen (goal.at.overflow_add-before c).After-without_rows-counts) a.library.now a.settings a.collected l.k (l.counts.lines * 4) (turn) x (after)) e c.find_view-came.ensures in
-    let kept-all : SameLengths (after) (lent (goal.at.overflow_add-before c).After-without_rows-counts) = let k = kept in
+    subst (λ x. FindsView (seen (goal.at.overflow_add-counts c).After-without_rows-counts) a.library.now a.settings a.collected l.k (l.counts.lines * 4) (turn) x (after)) e c.find_view.ensures in
+    let kept-all : SameLengths (after) (lent (goal.at.overflow_add-counts c).After-without_rows-counts) = let k = kept in
     let l = c.loop-k.invariant.listed.long in
     record {
       segments = k.segments ∙ l.segments;
@@ -105,18 +103,18 @@ overflow_add-before c =
       noted = k.noted ∙ l.noted;
       lines = k.lines ∙ l.lines;
     } in
-    let on : let a = c.args in let l = c.loop-k in let next = c.in-Done.next in Shown
-    (seen (goal.at.overflow_add-before c).After-without_rows-counts) a.library.now a.settings a.banks
-    (lent (goal.at.overflow_add-before c).After-without_rows-counts) a.collected (l.k + 1) (after)
+    let on : let a = c.args in let l = c.loop-k in let next = c.in-Ok.next in Shown
+    (seen (goal.at.overflow_add-counts c).After-without_rows-counts) a.library.now a.settings a.banks
+    (lent (goal.at.overflow_add-counts c).After-without_rows-counts) a.collected (l.k + 1) (after)
     (joined_counts l.counts next (l.counts.lines + next.lines)) (set l.each l.k next.lines) = let a = c.args in
-    shown-on (seen (goal.at.overflow_add-before c).After-without_rows-counts) a.library.now a.settings a.banks
-    (lent (goal.at.overflow_add-before c).After-without_rows-counts) a.collected c.loop-k.invariant (omega (arith, c.loop-k-test.true)) (has-view)
-    (kept) (finds _ c.in-Done.is) (few) in
+    shown-on (seen (goal.at.overflow_add-counts c).After-without_rows-counts) a.library.now a.settings a.banks
+    (lent (goal.at.overflow_add-counts c).After-without_rows-counts) a.collected c.loop-k.invariant (omega (arith, c.loop-k-test.true)) (has-view)
+    (kept) (finds _ c.in-Ok.is) (few) in
     let a = c.args in
     omega (
       arith,
-      shown-room (seen (goal.at.overflow_add-before c).After-without_rows-counts) a.library.now a.settings a.banks
-          (lent (goal.at.overflow_add-before c).After-without_rows-counts) a.collected (on),
+      shown-room (seen (goal.at.overflow_add-counts c).After-without_rows-counts) a.library.now a.settings a.banks
+          (lent (goal.at.overflow_add-counts c).After-without_rows-counts) a.collected (on),
       (kept-all).lines,
       c.well_formed,
     )
@@ -124,7 +122,7 @@ overflow_add-before c =
 pub loop-k-preserved : goal.loop-k-preserved
 loop-k-preserved c =
     let turn : Lent = let l = c.loop-k in lent_lists l.segments l.references l.symbols l.bytes l.masks l.placed l.noted l.lines in
-    let after : Lent = let q = c.find_view-came.new in
+    let after : Lent = let q = c.find_view.new in
     lent_lists q.segments q.references q.symbols q.bytes q.masks q.placed q.noted q.lines in
     let kept : SameLengths (after) (turn) = record {
       segments = c.segments-1.given;
@@ -139,44 +137,17 @@ loop-k-preserved c =
     let has-bank : let a = c.args in Has c.loop-k.k a.file.now = omega (arith, c.loop-k-test.true, c.requires.0) in
     let has-view : Has c.loop-k.k (seen (goal.at.loop-k-preserved c).After-without_rows-counts) = let a = c.args in omega (arith, has-bank, view-length a.file.now (cover a.settings)) in
     let few : c.loop-k.k < 16 = omega (arith, c.loop-k-test.true, c.requires.2) in
-    let finds : (r : Answer) → c.find_view-came.result ≡ r → let a = c.args in let l = c.loop-k in FindsView
+    let finds : (r : Answer) → c.find_view.result ≡ r → let a = c.args in let l = c.loop-k in FindsView
     (seen (goal.at.loop-k-preserved c).After-without_rows-counts) a.library.now a.settings a.collected l.k (l.counts.lines * 4) (turn) r (after) = λ _ e. let a = c.args in
     let l = c.loop-k in
-    subst (λ x. FindsView (seen (goal.at.loop-k-preserved c).After-without_rows-counts) a.library.now a.settings a.collected l.k (l.counts.lines * 4) (turn) x (after)) e c.find_view-came.ensures in
-    let on : let a = c.args in let l = c.loop-k in let next = c.in-Done.next in Shown (seen (goal.at.loop-k-preserved c).After-without_rows-counts)
-    a.library.now a.settings a.banks (lent (goal.at.loop-k-preserved c).After-without_rows-counts) a.collected (l.k + 1) (after)
-    (joined_counts l.counts next (l.counts.lines + next.lines)) (set l.each l.k next.lines) = let a = c.args in
+    subst (λ x. FindsView (seen (goal.at.loop-k-preserved c).After-without_rows-counts) a.library.now a.settings a.collected l.k (l.counts.lines * 4) (turn) x (after)) e c.find_view.ensures in
+    let a = c.args in
     shown-on (seen (goal.at.loop-k-preserved c).After-without_rows-counts) a.library.now a.settings a.banks
     (lent (goal.at.loop-k-preserved c).After-without_rows-counts) a.collected c.loop-k.invariant (omega (arith, c.loop-k-test.true)) (has-view)
-    (kept) (finds _ c.in-Done.is) (few) in
-    let a = c.args in
-    let l = c.loop-k in
-    subst (λ x. Shown (seen (goal.at.loop-k-preserved c).After-without_rows-counts) a.library.now a.settings a.banks
-    (lent (goal.at.loop-k-preserved c).After-without_rows-counts) a.collected (l.k + 1) (after)
-    x (set l.each l.k c.in-Done.next.lines))
-    (sym c.joined-counts.ensures) (on)
+    (kept) (finds _ c.in-Ok.is) (few)
 
 pub returns : goal.returns
 returns c =
     let a = c.args in
     shown-ends (seen (goal.at.returns c).After-without_rows-counts) a.library.now a.settings a.banks
     (lent (goal.at.returns c).After-without_rows-counts) a.collected c.loop-k.invariant (omega (arith, c.loop-k-test.false)) c.requires.1
-
-pub offset_bounds-each-k : goal.offset_bounds-each-k
-offset_bounds-each-k c =
-    let few : c.loop-k.k < 16 = omega (arith, c.loop-k-test.true, c.requires.2) in
-    omega (arith, few)
-
-pub bounds-each-k : goal.bounds-each-k
-bounds-each-k c =
-    let few : c.loop-k.k < 16 = omega (arith, c.loop-k-test.true, c.requires.2) in
-    omega (arith, few)
-
-pub overflow_add-k : goal.overflow_add-k
-overflow_add-k c =
-    let few : c.loop-k.k < 16 = omega (arith, c.loop-k-test.true, c.requires.2) in
-    omega (arith, few)
-
-pub loop-k-smaller : goal.loop-k-smaller
-loop-k-smaller c =
-    omega (arith, c.loop-k-test.true)

@@ -2,22 +2,25 @@
 use mathlib.Core.Path.{◌≡◌, sym, ap, ◌∙◌}
 use lib.ListN.{length}
 use Rattle.run.specs.Run.{Lent, lent_lists, too_long}
+use Rattle.omf51.proofs.Exits.{handed_on}
 use Rattle.libfind.specs.Begin.{beginning}
 use Rattle.libfind.specs.BeginLaws.{own_is, begun, never-begun}
 use Rattle.libfind.specs.SingleLaws.{refused-early}
 use Rattle.libfind.proofs.entry.find_names.Goals as goal
 
-pub returns-in-At : goal.returns-in-At
-returns-in-At c =
+pub returns : goal.returns
+returns c =
     let begins : let a = c.args in c.begin.result ≡ beginning (too_long (length a.image.now)) (length a.image.now) a.library.now a.settings = let a = c.args in
     c.begin.ensures ∙ ap (λ o. beginning o (length a.image.now) a.library.now a.settings) (own_is (too_long (length a.image.now)) c.single.ensures) in
     let a = c.args in c.find_from.ensures
-    (begun (too_long (length a.image.now)) (length a.image.now) a.library.now a.settings (sym c.in-At.is ∙ begins))
+    (begun (too_long (length a.image.now)) (length a.image.now) a.library.now a.settings (sym c.in_ok-first.was ∙ begins))
 
-pub returns-in-Refused : goal.returns-in-Refused
-returns-in-Refused c =
+pub returns-in_err-first : goal.returns-in_err-first
+returns-in_err-first c =
     let lent : Lent = let a = c.args in lent_lists a.segments.now a.references.now a.symbols.now a.bytes.now a.masks.now a.placed.now a.noted.now a.lines.now in
     let begins : let a = c.args in c.begin.result ≡ beginning (too_long (length a.image.now)) (length a.image.now) a.library.now a.settings = let a = c.args in
     c.begin.ensures ∙ ap (λ o. beginning o (length a.image.now) a.library.now a.settings) (own_is (too_long (length a.image.now)) c.single.ensures) in
-    let a = c.args in refused-early a.image.now a.library.now a.settings (lent)
-    (never-begun (too_long (length a.image.now)) (length a.image.now) a.library.now a.settings (sym c.in-Refused.is ∙ begins))
+    let a = c.args in
+    ap (λ x. record { answer = x; left = lent }) (handed_on c.from_residual.result c.from_residual.ensures.1)
+    ∙ refused-early a.image.now a.library.now a.settings (lent)
+    (never-begun (too_long (length a.image.now)) (length a.image.now) a.library.now a.settings (sym c.in_err-first.was ∙ begins))
