@@ -1,15 +1,18 @@
 // The run: both files, what is lent, and what comes of it.
 use crate::memory;
+use crate::memory::{BOARD_ROOM, NOTED_NUMBERS, PLACED_NUMBERS};
 use crate::print::print;
 use banks::board::board;
 use banks::entry::find_banks;
 use command::file;
-use command::file::{Loaded, bytes_of, load};
+use command::file::load;
 use command::library_room::{is_refused, taken};
+use command::memory::{
+    LINE_NUMBERS, PATTERN, REFERENCE_NUMBERS, SEGMENT_NUMBERS, SYMBOL_NUMBERS, filled,
+};
 use command::refusal_words::say_refused;
 use lent::refusal::Refusal;
-use libfind::begin::Checked;
-use run::{Answer, Settings};
+use run::Settings;
 use std::env::Env;
 use std::fs::Files;
 use std::io;
@@ -21,14 +24,14 @@ fn find(
     library: &[u8],
     settings: Settings,
 ) -> io::Result<()> {
-    let mut segments = command::memory::segments();
-    let mut references = command::memory::references();
-    let mut symbols = command::memory::symbols();
-    let mut bytes = command::memory::pattern();
-    let mut masks = command::memory::pattern();
-    let mut placed = memory::placed();
-    let mut noted = memory::noted();
-    let mut lines = command::memory::lines();
+    let mut segments = filled::<u64, SEGMENT_NUMBERS>(0);
+    let mut references = filled::<u64, REFERENCE_NUMBERS>(0);
+    let mut symbols = filled::<u64, SYMBOL_NUMBERS>(0);
+    let mut bytes = filled::<u8, PATTERN>(0);
+    let mut masks = filled::<u8, PATTERN>(0);
+    let mut placed = filled::<u64, PLACED_NUMBERS>(0);
+    let mut noted = filled::<u64, NOTED_NUMBERS>(0);
+    let mut lines = filled::<u64, LINE_NUMBERS>(0);
     let came = find_banks(
         board,
         library,
@@ -42,10 +45,9 @@ fn find(
         &mut noted,
         &mut lines,
     );
-    let answer = came.answer;
-    match answer {
-        Answer::Done(_) => print(rt, library, &lines, came),
-        Answer::Refused(r) => {
+    match came {
+        Ok(found) => print(rt, library, &lines, found),
+        Err(r) => {
             say_refused(rt, r, memory::lent());
             Ok(())
         }
@@ -54,10 +56,7 @@ fn find(
 
 // Whether a file of this length is accepted as a board's.
 fn is_board(size: usize) -> bool {
-    match board(size) {
-        Checked::Accepted => true,
-        Checked::Refused(_) => false,
-    }
+    board(size).is_ok()
 }
 
 fn find_on(
@@ -85,18 +84,13 @@ pub fn list_banks<R: Env + Files + Print + StandardError>(
     library: usize,
     settings: Settings,
 ) -> io::Result<()> {
-    let mut first = memory::board_room();
-    let Loaded::Size(in_board) = load(rt, board, &mut first) else {
+    let mut first = filled::<u8, BOARD_ROOM>(0);
+    let Some(board) = load(rt, board, &mut first) else {
         return Ok(());
     };
     let mut second = file::room();
-    let Loaded::Size(in_library) = load(rt, library, &mut second) else {
+    let Some(library) = load(rt, library, &mut second) else {
         return Ok(());
     };
-    find_on(
-        rt,
-        bytes_of(&first, in_board),
-        bytes_of(&second, in_library),
-        settings,
-    )
+    find_on(rt, board, library, settings)
 }

@@ -7,7 +7,7 @@ mod memory;
 mod print;
 
 use crate::find::list_banks;
-use command::arguments::{Requested, read_request};
+use command::arguments::read_request;
 use command::message::ended;
 use command::mistake::say_usage;
 use command::settings::settings_with;
@@ -15,20 +15,13 @@ use std::process::ExitCode;
 
 fn main(rt: HostRuntime) -> ExitCode {
     let asked = read_request(&rt);
-    let requested = asked.requested;
-    let withheld = asked.withheld;
-    match requested {
-        Requested::Whole(request) => {
-            let plain = request.settings;
-            let written = list_banks(
-                &rt,
-                request.image,
-                request.library,
-                settings_with(plain, withheld),
-            );
+    match asked.requested {
+        Ok(request) => {
+            let settings = settings_with(request.settings, asked.withheld);
+            let written = list_banks(&rt, request.image, request.library, settings);
             ended(&rt, written)
         }
-        Requested::Wrong(mistake) => {
+        Err(mistake) => {
             say_usage(&rt, mistake);
             ExitCode::SUCCESS
         }

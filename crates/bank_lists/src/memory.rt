@@ -11,19 +11,14 @@ const PLACED: usize = 4096;
 
 const NOTED: usize = 4096;
 
+// How many numbers the rows take: eight for a symbol that is placed, six for a name that is noted.
+pub const PLACED_NUMBERS: usize = 8 * PLACED;
+
+pub const NOTED_NUMBERS: usize = 6 * NOTED;
+
 pub fn lent() -> Counts {
     lent_with(PLACED, NOTED)
 }
 
-pub fn placed() -> [u64; 32768] {
-    [0u64; 32768]
-}
-
-pub fn noted() -> [u64; 24576] {
-    [0u64; 24576]
-}
-
 // Longer by one byte than any board's file, so that a longer file is known by its length.
-pub fn board_room() -> [u8; 557057] {
-    [0u8; 557057]
-}
+pub const BOARD_ROOM: usize = 557057;

@@ -1,5 +1,5 @@
 // The lists of all banks on standard output: for each bank a line with its number, from 0 on, and its list behind that; an empty line between two banks.
-use bank_rules::BankAnswer;
+use bank_rules::BankCounts;
 use command::output::write_lines;
 use std::io;
 
@@ -25,15 +25,7 @@ fn put_bank(
     write_lines(rt, library, lines, from, to)
 }
 
-// How many lines a bank has.
-fn lines_of(each: &[u64], k: usize) -> usize {
-    if k < each.len() {
-        return each[k] as usize;
-    }
-    0
-}
-
-// Puts all banks. Their lines stand one after another.
+// Puts all banks. Their lines stand one after another; `each` says how many each has.
 fn put_banks(
     rt: &impl Print,
     library: &[u8],
@@ -42,15 +34,14 @@ fn put_banks(
     banks: usize,
 ) -> io::Result<()> {
     let mut from: usize = 0;
-    for k in 0..banks {
-        let to = from.wrapping_add(lines_of(each, k));
+    for (k, n) in each.iter().take(banks).enumerate() {
+        let to = from.wrapping_add(*n as usize);
         put_bank(rt, library, lines, k, from, to)?;
         from = to;
     }
     Ok(())
 }
 
-pub fn print(rt: &impl Print, library: &[u8], lines: &[u64], came: BankAnswer) -> io::Result<()> {
-    let each = came.lines;
-    put_banks(rt, library, lines, &each, came.banks)
+pub fn print(rt: &impl Print, library: &[u8], lines: &[u64], found: BankCounts) -> io::Result<()> {
+    put_banks(rt, library, lines, &found.lines, found.banks)
 }

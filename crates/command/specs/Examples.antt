@@ -1,12 +1,11 @@
 -- Command lines, and what they ask for.
-use Rattle.std.specs.Prelude.{ℕ, ◌≡◌, refl, List, [], ◌∷◌, map}
+use Rattle.std.specs.Prelude.{ℕ, ◌≡◌, refl, Ok, Err, List, [], ◌∷◌, map, Some, None}
 use Prim.Native.String.{String}
 use Rattle.lent.specs.Parts.{same}
 use Rattle.describe.specs.Describe.{text}
 use Rattle.image.specs.declared.cover.Stretches.{Stretches}
 use Rattle.image.specs.Cover.{no_stretches, one_more}
-use Rattle.listing_rules.specs.declared.Skip.{Skip}
-use Rattle.listing_rules.specs.declared.Skip.TheVariants.{Never, Above}
+use Rattle.listing_rules.specs.Listing.{SkipAmount}
 use Rattle.command.specs.Words.{mistake}
 use Rattle.command.specs.Numbers.{digit_of, digits_from, number_of}
 use Rattle.command.specs.Values.{number_read, number_value, rules_value}
@@ -17,16 +16,15 @@ use Rattle.command.specs.Arguments.{free_taken, taken, request_of, ended, settin
 use Rattle.command.specs.declared.mistake.Fault.TheVariants.{Twice, NoValue, NoLibrary, NotAStretch, NumberTooLarge, BothDepths}
 use Rattle.command.specs.declared.mistake.Fault.{Fault}
 use Rattle.command.specs.declared.arguments.Asked.{Asked}
-use Rattle.command.specs.declared.arguments.Requested.TheVariants.{Whole, Wrong}
 
 asked : List String → Asked
 asked words = settings_in (map text words)
 
 -- the image is word `image`, the library word `library`
-for : ℕ → ℕ → ℕ → ℕ → ℕ → ℕ → Skip → Stretches → Asked
+for : ℕ → ℕ → ℕ → ℕ → ℕ → ℕ → SkipAmount → Stretches → Asked
 for image library rules edition depth minimum skip withheld =
     record {
-      requested = Whole (record {
+      requested = Ok (record {
         image = image;
         library = library;
         settings = record { rules = rules; edition = edition; depth = depth; minimum = minimum; skip = skip };
@@ -36,22 +34,22 @@ for image library rules edition depth minimum skip withheld =
 
 -- the words up to this fault withhold nothing
 faulty : Fault → ℕ → Asked
-faulty fault i = record { requested = Wrong (mistake fault i); withheld = no_stretches }
+faulty fault i = record { requested = Err (mistake fault i); withheld = no_stretches }
 
-plain : asked ("aid.img" ∷ "routines.lib" ∷ []) ≡ for 1 2 1 1 1 3 Never no_stretches
+plain : asked ("aid.img" ∷ "routines.lib" ∷ []) ≡ for 1 2 1 1 1 3 None no_stretches
 unfolding asked for same kind_of settings_of free_taken taken request_of ended settings_from
 plain = refl
 
-withheld : asked ("aid.img" ∷ "routines.lib" ∷ "--withhold" ∷ "0x1204:8" ∷ []) ≡ for 1 2 1 1 1 3 Never (one_more no_stretches 0x1204 8)
+withheld : asked ("aid.img" ∷ "routines.lib" ∷ "--withhold" ∷ "0x1204:8" ∷ []) ≡ for 1 2 1 1 1 3 None (one_more no_stretches 0x1204 8)
 unfolding asked for same digit_of digits_from number_of number_read colon_in stretch_read stretch_value option_in kind_of settings_of free_taken taken request_of ended settings_from
 withheld = refl
 
 all-options : asked ("--rules" ∷ "found" ∷ "aid.img" ∷ "--no-check" ∷ "--min-fn-length" ∷ "0xF" ∷ "routines.lib" ∷ "--skip-multiple" ∷ "2" ∷ "--edition" ∷ "2" ∷ [])
-    ≡ for 3 7 0 2 0 15 (Above 2) no_stretches
+    ≡ for 3 7 0 2 0 15 (Some 2) no_stretches
 unfolding asked for same digit_of digits_from number_of number_read number_value rules_value option_in kind_of settings_of free_taken taken request_of ended settings_from
 all-options = refl
 
-deep : asked ("aid.img" ∷ "routines.lib" ∷ "--depth" ∷ "4" ∷ []) ≡ for 1 2 1 1 4 3 Never no_stretches
+deep : asked ("aid.img" ∷ "routines.lib" ∷ "--depth" ∷ "4" ∷ []) ≡ for 1 2 1 1 4 3 None no_stretches
 unfolding asked for same digit_of digits_from number_of number_read number_value option_in kind_of settings_of free_taken taken request_of ended settings_from
 deep = refl
 
@@ -64,7 +62,7 @@ other-first : asked ("--depth" ∷ "x" ∷ "aid.img" ∷ "routines.lib" ∷ "--n
 unfolding asked faulty same digit_of digits_from number_of number_read number_value option_in kind_of settings_of free_taken taken request_of ended settings_from
 other-first = refl
 
-several : asked ("--withhold" ∷ "0:1" ∷ "aid.img" ∷ "routines.lib" ∷ "--withhold" ∷ "2:3" ∷ []) ≡ for 3 4 1 1 1 3 Never (one_more (one_more no_stretches 0 1) 2 3)
+several : asked ("--withhold" ∷ "0:1" ∷ "aid.img" ∷ "routines.lib" ∷ "--withhold" ∷ "2:3" ∷ []) ≡ for 3 4 1 1 1 3 None (one_more (one_more no_stretches 0 1) 2 3)
 unfolding asked for same digit_of digits_from number_of number_read colon_in stretch_read stretch_value option_in kind_of settings_of free_taken taken request_of ended settings_from
 several = refl
 

@@ -1,8 +1,9 @@
 -- The functions from the words of the command line to the settings have one outcome each, by their contracts alone. Assumes nothing.
-use Rattle.std.specs.Prelude.{ℕ, ◌≡◌, List}
+use Rattle.std.specs.Prelude.{ℕ, ◌≡◌, List, Result}
 use Rattle.lent.specs.OneOutcome.{Determines, by-equation}
 use Rattle.image.specs.declared.cover.Stretches.{Stretches}
-use Rattle.command.specs.declared.stretch.Withheld.{Withheld}
+use Rattle.image.specs.declared.Stretch.{Stretch}
+use Rattle.command.specs.declared.mistake.Mistake.{Mistake}
 use Rattle.command.specs.declared.settings.Plain.{Plain}
 use Rattle.command.specs.declared.options.Valued.{Valued}
 use Rattle.command.specs.declared.options.Options.{Options}
@@ -31,7 +32,7 @@ rules-value-one word i = by-equation (rules_value word i)
 pub stretch-value-one : (word : List ℕ) (i : ℕ) → Determines (λ r. r ≡ stretch_value word i)
 stretch-value-one word i = by-equation (stretch_value word i)
 
-pub with-stretch-one : (known : Stretches) (read : Withheld) → Determines (λ r. r ≡ stretch_added known read)
+pub with-stretch-one : (known : Stretches) (read : Result Stretch Mistake) → Determines (λ r. r ≡ stretch_added known read)
 with-stretch-one known read = by-equation (stretch_added known read)
 
 pub kind-of-one : (word : List ℕ) → Determines (λ r. r ≡ kind_of word)

@@ -1,21 +1,16 @@
 -- The options of the command line, and what is known of them.
-use Rattle.std.specs.Prelude.{ℕ, Bool, true, false, List, [], ◌∷◌, eqb, length, get_or, if◌then◌else◌}
+use Rattle.std.specs.Prelude.{ℕ, Bool, true, false, List, [], ◌∷◌, Some, None, Result, Ok, Err, is_some, eqb, length, get_or, if◌then◌else◌}
 use Prim.Native.String.{String}
 use Rattle.lent.specs.Parts.{same}
 use Rattle.describe.specs.Describe.{text}
 use Rattle.command.specs.Values.{number_value, rules_value}
 use Rattle.command.specs.Stretches.{stretch_value}
-use Rattle.command.specs.declared.values.Read.{Read}
-use Rattle.command.specs.declared.stretch.Withheld.{Withheld}
+use Rattle.image.specs.declared.Stretch.{Stretch}
+use Rattle.command.specs.declared.mistake.Mistake.{Mistake}
 use Rattle.command.specs.declared.options.Valued as valued
 use Rattle.command.specs.declared.options.Valued.TheVariants.{Rules, Edition, Depth, Minimum, Skip, Withhold}
 use Rattle.command.specs.declared.options.Kind.{Kind}
 use Rattle.command.specs.declared.options.Kind.TheVariants.{NoCheck, Valued, Unknown, File}
-use Rattle.command.specs.declared.options.Value.{Value}
-use Rattle.command.specs.declared.options.Value.TheVariants.{Absent, Given}
-use Rattle.command.specs.declared.stretch.Withheld.TheVariants.{Stretch, Wrong}
-use Rattle.command.specs.declared.options.Held.{Held}
-use Rattle.command.specs.declared.options.Held.TheVariants.{Stretches, Wrong as WrongBefore}
 use Rattle.command.specs.declared.options.Options.{Options}
 
 -- the options by their words
@@ -47,49 +42,45 @@ kind_of word =
 
 -- where no option is given: references are checked, and nothing else is said
 abbrev pub no_options : Options
-no_options = record { rules = Absent; edition = Absent; check = true; depth = Absent; minimum = Absent; skip = Absent; withheld = Stretches }
-
-abbrev pub value_given : Value → Bool
-value_given Absent = false
-value_given (Given read) = true
+no_options = record { rules = None; edition = None; check = true; depth = None; minimum = None; skip = None; withheld = Ok tt }
 
 -- whether an option has its value already; there may be several stretches
 abbrev pub is_given : Options → valued.Valued → Bool
-is_given o Rules = value_given o.rules
-is_given o Edition = value_given o.edition
-is_given o Depth = value_given o.depth
-is_given o Minimum = value_given o.minimum
-is_given o Skip = value_given o.skip
+is_given o Rules = is_some o.rules
+is_given o Edition = is_some o.edition
+is_given o Depth = is_some o.depth
+is_given o Minimum = is_some o.minimum
+is_given o Skip = is_some o.skip
 is_given o Withhold = false
 
 -- an option's value is put in; the others stay
-abbrev pub with_rules : Options → Read → Options
+abbrev pub with_rules : Options → Result ℕ Mistake → Options
 with_rules o read =
-    record { rules = Given read; edition = o.edition; check = o.check; depth = o.depth; minimum = o.minimum; skip = o.skip; withheld = o.withheld }
+    record { rules = Some read; edition = o.edition; check = o.check; depth = o.depth; minimum = o.minimum; skip = o.skip; withheld = o.withheld }
 
-abbrev pub with_edition : Options → Read → Options
+abbrev pub with_edition : Options → Result ℕ Mistake → Options
 with_edition o read =
-    record { rules = o.rules; edition = Given read; check = o.check; depth = o.depth; minimum = o.minimum; skip = o.skip; withheld = o.withheld }
+    record { rules = o.rules; edition = Some read; check = o.check; depth = o.depth; minimum = o.minimum; skip = o.skip; withheld = o.withheld }
 
-abbrev pub with_depth : Options → Read → Options
+abbrev pub with_depth : Options → Result ℕ Mistake → Options
 with_depth o read =
-    record { rules = o.rules; edition = o.edition; check = o.check; depth = Given read; minimum = o.minimum; skip = o.skip; withheld = o.withheld }
+    record { rules = o.rules; edition = o.edition; check = o.check; depth = Some read; minimum = o.minimum; skip = o.skip; withheld = o.withheld }
 
-abbrev pub with_minimum : Options → Read → Options
+abbrev pub with_minimum : Options → Result ℕ Mistake → Options
 with_minimum o read =
-    record { rules = o.rules; edition = o.edition; check = o.check; depth = o.depth; minimum = Given read; skip = o.skip; withheld = o.withheld }
+    record { rules = o.rules; edition = o.edition; check = o.check; depth = o.depth; minimum = Some read; skip = o.skip; withheld = o.withheld }
 
-abbrev pub with_skip : Options → Read → Options
+abbrev pub with_skip : Options → Result ℕ Mistake → Options
 with_skip o read =
-    record { rules = o.rules; edition = o.edition; check = o.check; depth = o.depth; minimum = o.minimum; skip = Given read; withheld = o.withheld }
+    record { rules = o.rules; edition = o.edition; check = o.check; depth = o.depth; minimum = o.minimum; skip = Some read; withheld = o.withheld }
 
 -- one value more of --withhold; of several values that are wrong the first is told
-abbrev pub held_with : Held → Withheld → Held
-held_with Stretches (Stretch s) = Stretches
-held_with Stretches (Wrong m) = WrongBefore m
-held_with (WrongBefore m) read = WrongBefore m
+abbrev pub held_with : Result Unit Mistake → Result Stretch Mistake → Result Unit Mistake
+held_with (Ok u) (Ok s) = Ok tt
+held_with (Ok u) (Err m) = Err m
+held_with (Err m) read = Err m
 
-abbrev pub with_withheld : Options → Withheld → Options
+abbrev pub with_withheld : Options → Result Stretch Mistake → Options
 with_withheld o read =
     record { rules = o.rules; edition = o.edition; check = o.check; depth = o.depth; minimum = o.minimum; skip = o.skip; withheld = held_with o.withheld read }
 

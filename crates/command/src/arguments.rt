@@ -1,43 +1,30 @@
 // The whole command line of a program that takes an image and a library: what it asks for, told word by word.
 ghost use Rattle.std.specs.Prelude.{◌≡◌};
-ghost use Rattle.command.specs.Arguments.{begun, file_taken, unchecked_taken, option_taken, free_taken, taken, request_of, ended, withheld_after, after, FromWord, FromWords};
+ghost use Rattle.command.specs.Arguments.{begun, file_taken, unchecked_taken, option_taken, free_taken, taken, ended, withheld_after, after, FromWord, FromWords};
 
 use crate::mistake::{Fault, Mistake};
 use crate::options::{Kind, Options, Valued, is_given, kind_of, no_options, unchecked, with_value};
-use crate::settings::{Plain, Wanted, settings_of};
+use crate::settings::{Plain, settings_of};
 use crate::stretch::{stretch_value, with_stretch};
 use crate::words;
 use image::cover::{Stretches, no_stretches};
 use std::env::Env;
 use system::arguments;
 
-// What the next word may be: a file or an option, or only the value of the option before it.
-#[derive(Clone, Copy)]
-pub enum Expected {
-    Any,
-    Value(Valued),
-}
-
-// What is known of the words so far. A file is told by the number of its word; 0, the program's own name, stands for a file that is not named yet.
+// What is known of the words so far. A file is told by the number of its word, once it is named. `expected` is the option before the next word, of which that
+// word can only be the value.
 #[derive(Clone, Copy)]
 pub struct Given {
-    pub image: usize,
-    pub library: usize,
+    pub image: Option<usize>,
+    pub library: Option<usize>,
     pub options: Options,
-    pub expected: Expected,
+    pub expected: Option<Valued>,
 }
 
-// What one word more leads to.
-#[derive(Clone, Copy)]
-pub enum Step {
-    Next(Given),
-    Wrong(Mistake),
-}
-
-// The same, and what is withheld by then. It stands beside the step: no case of an enum may hold its numbers.
+// What one word more leads to, and what is withheld by then, which is told beside a mistake too.
 #[derive(Clone, Copy)]
 pub struct Reached {
-    pub step: Step,
+    pub step: Result<Given, Mistake>,
     pub withheld: Stretches,
 }
 
@@ -49,16 +36,10 @@ pub struct Request {
     pub settings: Plain,
 }
 
-#[derive(Clone, Copy)]
-pub enum Requested {
-    Whole(Request),
-    Wrong(Mistake),
-}
-
 // All that a command line asks for.
 #[derive(Clone, Copy)]
 pub struct Asked {
-    pub requested: Requested,
+    pub requested: Result<Request, Mistake>,
     pub withheld: Stretches,
 }
 
@@ -67,156 +48,113 @@ fn begin() -> Given
     ensures { result ≡ begun }
 {
     Given {
-        image: 0,
-        library: 0,
+        image: None,
+        library: None,
         options: no_options(),
-        expected: Expected::Any,
+        expected: None,
     }
 }
 
 // The first file is the image, the second the library.
-fn take_file(known: Given, i: usize) -> Step
+fn take_file(known: Given, i: usize) -> Result<Given, Mistake>
     ensures { result ≡ file_taken known i }
 {
-    let mut next = known;
-    if next.image == 0 {
-        next.image = i;
-        return Step::Next(next);
+    if known.image.is_none() {
+        return Ok(Given {
+            image: Some(i),
+            ..known
+        });
     }
-    if next.library == 0 {
-        next.library = i;
-        return Step::Next(next);
+    if known.library.is_none() {
+        return Ok(Given {
+            library: Some(i),
+            ..known
+        });
     }
-    Step::Wrong(Mistake {
-        fault: Fault::ThirdFile,
-        word: i,
-    })
+    Err(Fault::ThirdFile.at(i))
 }
 
 // An option that is given twice is refused, not settled by the last; but for --withhold, which is given once for each stretch.
-fn take_option(known: Given, option: Valued, i: usize) -> Step
+fn take_option(known: Given, option: Valued, i: usize) -> Result<Given, Mistake>
     ensures { result ≡ option_taken known option i }
 {
-    let options = known.options;
-    if is_given(options, option) {
-        return Step::Wrong(Mistake {
-            fault: Fault::Twice,
-            word: i,
-        });
+    if is_given(known.options, option) {
+        return Err(Fault::Twice.at(i));
     }
-    Step::Next(Given {
-        image: known.image,
-        library: known.library,
-        options,
-        expected: Expected::Value(option),
+    Ok(Given {
+        expected: Some(option),
+        ..known
     })
 }
 
-fn take_no_check(known: Given, i: usize) -> Step
+fn take_no_check(known: Given, i: usize) -> Result<Given, Mistake>
     ensures { result ≡ unchecked_taken known i }
 {
-    let options = known.options;
-    if options.check {
-        return Step::Next(Given {
-            image: known.image,
-            library: known.library,
-            options: unchecked(options),
-            expected: Expected::Any,
+    if known.options.check {
+        return Ok(Given {
+            options: unchecked(known.options),
+            expected: None,
+            ..known
         });
     }
-    Step::Wrong(Mistake {
-        fault: Fault::Twice,
-        word: i,
-    })
+    Err(Fault::Twice.at(i))
 }
 
 // Takes a word that is no option's value.
-fn take_free(known: Given, word: &[u8], i: usize) -> Step
+#[tactic(auto, unfolding(crate::specs::Arguments::free_taken))]
+fn take_free(known: Given, word: &[u8], i: usize) -> Result<Given, Mistake>
     ensures { result ≡ free_taken known word.now i }
 {
     if words::is_too_long(word) {
-        return Step::Wrong(Mistake {
-            fault: Fault::TooLong,
-            word: i,
-        });
+        return Err(Fault::TooLong.at(i));
     }
     match kind_of(word) {
         Kind::NoCheck => take_no_check(known, i),
         Kind::Valued(option) => take_option(known, option, i),
-        Kind::Unknown => Step::Wrong(Mistake {
-            fault: Fault::Unknown,
-            word: i,
-        }),
+        Kind::Unknown => Err(Fault::Unknown.at(i)),
         Kind::File => take_file(known, i),
     }
 }
 
 // Takes word i. A value that is wrong is told only once all words are gone through.
-fn take(known: Given, word: &[u8], i: usize) -> Step
+#[tactic(auto, unfolding(crate::specs::Arguments::taken))]
+fn take(known: Given, word: &[u8], i: usize) -> Result<Given, Mistake>
     ensures { result ≡ taken known word.now i }
 {
-    let expected = known.expected;
-    let Expected::Value(option) = expected else {
+    let Some(option) = known.expected else {
         return take_free(known, word, i);
     };
-    let options = known.options;
-    Step::Next(Given {
-        image: known.image,
-        library: known.library,
-        options: with_value(options, option, word, i),
-        expected: Expected::Any,
+    Ok(Given {
+        options: with_value(known.options, option, word, i),
+        expected: None,
+        ..known
     })
 }
 
-fn request_of(image: usize, library: usize, options: Options) -> Requested
-    ensures { result ≡ request_of image library options }
-{
-    match settings_of(options) {
-        Wanted::Settings(settings) => Requested::Whole(Request {
-            image,
-            library,
-            settings,
-        }),
-        Wanted::Wrong(m) => Requested::Wrong(m),
-    }
-}
-
 // All words are gone through: the last option must have its value, and both files must be named.
-fn end(known: Given, last: usize) -> Requested
+#[tactic(auto, unfolding(crate::specs::Arguments::ended, crate::specs::Arguments::request_of))]
+fn end(known: Given, last: usize) -> Result<Request, Mistake>
     ensures { result ≡ ended known last }
 {
-    let expected = known.expected;
-    if let Expected::Value(_) = expected {
-        return Requested::Wrong(Mistake {
-            fault: Fault::NoValue,
-            word: last,
-        });
+    if known.expected.is_some() {
+        return Err(Fault::NoValue.at(last));
     }
-    if known.image == 0 {
-        return Requested::Wrong(Mistake {
-            fault: Fault::NoImage,
-            word: 0,
-        });
-    }
-    if known.library == 0 {
-        return Requested::Wrong(Mistake {
-            fault: Fault::NoLibrary,
-            word: 0,
-        });
-    }
-    let options = known.options;
-    request_of(known.image, known.library, options)
+    let image = known.image.ok_or(Fault::NoImage.at(0))?;
+    let library = known.library.ok_or(Fault::NoLibrary.at(0))?;
+    let settings = settings_of(known.options)?;
+    Ok(Request {
+        image,
+        library,
+        settings,
+    })
 }
 
 // What is withheld once word i is taken: one stretch more, where the word is the value of --withhold.
-fn withheld_after(expected: Expected, withheld: Stretches, word: &[u8], i: usize) -> Stretches
+fn withheld_after(expected: Option<Valued>, withheld: Stretches, word: &[u8], i: usize) -> Stretches
     ensures { result ≡ withheld_after expected withheld word.now i }
 {
-    let Expected::Value(option) = expected else {
-        return withheld;
-    };
-    match option {
-        Valued::Withhold => with_stretch(withheld, stretch_value(word, i)),
+    match expected {
+        Some(Valued::Withhold) => with_stretch(withheld, stretch_value(word, i)),
         _ => withheld,
     }
 }
@@ -224,10 +162,9 @@ fn withheld_after(expected: Expected, withheld: Stretches, word: &[u8], i: usize
 fn reach(known: Given, withheld: Stretches, word: &[u8], i: usize) -> Reached
     ensures { result ≡ after known withheld word.now i }
 {
-    let expected = known.expected;
     Reached {
         step: take(known, word, i),
-        withheld: withheld_after(expected, withheld, word, i),
+        withheld: withheld_after(known.expected, withheld, word, i),
     }
 }
 
@@ -247,26 +184,21 @@ pub fn read_request(rt: &impl Env) -> Asked
     let count = arguments::count(rt);
     let mut known = begin();
     let mut withheld = no_stretches();
-    let mut i = 1;
-    while i < count {
+    for i in 1..count {
         let reached = take_argument(rt, known, withheld, i);
-        let step = reached.step;
         withheld = reached.withheld;
-        match step {
-            Step::Next(next) => {
-                known = next;
-            }
-            Step::Wrong(m) => {
+        match reached.step {
+            Ok(next) => known = next,
+            Err(m) => {
                 return Asked {
-                    requested: Requested::Wrong(m),
+                    requested: Err(m),
                     withheld,
                 };
             }
         }
-        i += 1;
     }
     Asked {
-        requested: end(known, i - 1),
+        requested: end(known, count.saturating_sub(1)),
         withheld,
     }
 }

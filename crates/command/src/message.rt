@@ -18,7 +18,7 @@ pub fn say_number(rt: &impl StandardError, n: u64) {
 }
 
 // Word i of the command line, as it was given.
-fn quote(rt: &(impl Env + StandardError), i: usize) {
+pub fn quote(rt: &(impl Env + StandardError), i: usize) {
     let mut room = [0u8; 4096];
     say(rt, b"'");
     if let Ok(n) = rt.arg(i, &mut room) {

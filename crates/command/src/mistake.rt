@@ -1,9 +1,13 @@
 // What is wrong with a command line, and how that is said.
-use crate::message::{about, say, say_number};
+ghost use Rattle.std.specs.Prelude.{◌≡◌};
+
+use crate::message::{quote, say, say_number};
+use crate::number::NumberError;
 use std::env::Env;
+use std::fmt;
 use system::standard_error::StandardError;
 
-#[derive(Clone, Copy)]
+#[derive(Clone, Copy, Debug, PartialEq, Eq)]
 pub enum Fault {
     TooLong,
     Unknown,
@@ -20,69 +24,73 @@ pub enum Fault {
 }
 
 // Which fault, and the number of the word that has it; 0 for a word that is not there.
-#[derive(Clone, Copy)]
+#[derive(Clone, Copy, Debug, PartialEq, Eq)]
 pub struct Mistake {
     pub fault: Fault,
     pub word: usize,
 }
 
-// A word that is too long, or an option that is none, too many, not taken beside another, or lacks its value.
-fn option_words(rt: &(impl Env + StandardError), fault: Fault, i: usize) {
-    match fault {
-        Fault::TooLong => {
-            say(rt, b"an argument is longer than 4096 bytes: number ");
-            say_number(rt, i as u64);
+impl Fault {
+    // This fault of word i.
+    pub fn at(self, i: usize) -> Mistake
+        ensures { result ≡ record { fault = self; word = i } }
+    {
+        Mistake {
+            fault: self,
+            word: i,
         }
-        Fault::Unknown => about(rt, b"there is no option ", i, b""),
-        Fault::Twice => about(rt, b"the option ", i, b" is given twice"),
-        Fault::NoValue => about(rt, b"the option ", i, b" lacks its value"),
-        Fault::BothDepths => say(
-            rt,
-            b"--no-check is --depth 0, and only one of the two is taken",
-        ),
-        _ => file_words(rt, fault, i),
     }
 }
 
-// A file too many, or one that is not named.
-fn file_words(rt: &(impl Env + StandardError), fault: Fault, i: usize) {
-    match fault {
-        Fault::ThirdFile => about(
-            rt,
-            b"only an image and a library are taken, and there is also ",
-            i,
-            b"",
-        ),
-        Fault::NoImage => say(rt, b"an image and a library are to be named"),
-        Fault::NoLibrary => say(rt, b"a library is to be named behind the image"),
-        _ => value_words(rt, fault, i),
+impl From<NumberError> for Fault {
+    ghost use Rattle.command.specs.Words.{number_fault};
+
+    ghost from_gives = { λ e fault. fault ≡ number_fault e };
+
+    fn from(e: NumberError) -> Fault {
+        match e {
+            NumberError::TooLarge => Fault::NumberTooLarge,
+            NumberError::NotANumber => Fault::NotANumber,
+        }
     }
 }
 
-// A value that is none.
-fn value_words(rt: &(impl Env + StandardError), fault: Fault, i: usize) {
+// What is said of a fault, up to the word that has it.
+impl fmt::Display for Fault {
+    fn fmt<W: fmt::Write>(&self, f: &mut fmt::Formatter<W>) -> fmt::Result {
+        f.write_str(match self {
+            Fault::TooLong => "an argument is longer than 4096 bytes: number ",
+            Fault::Unknown => "there is no option ",
+            Fault::Twice | Fault::NoValue => "the option ",
+            Fault::ThirdFile => "only an image and a library are taken, and there is also ",
+            Fault::NoImage => "an image and a library are to be named",
+            Fault::NoLibrary => "a library is to be named behind the image",
+            Fault::NotANumber => "a number is decimal, or hexadecimal behind 0x, and not ",
+            Fault::NumberTooLarge => "a number is at most 18446744073709551615, and not ",
+            Fault::NoSuchRules => "the rules are found or documented, and not ",
+            Fault::NotAStretch => "what is withheld is START:LENGTH, and not ",
+            Fault::BothDepths => "--no-check is --depth 0, and only one of the two is taken",
+        })
+    }
+}
+
+// What is said behind the word.
+fn words_behind(fault: Fault) -> &'static str {
     match fault {
-        Fault::NotANumber => about(
-            rt,
-            b"a number is decimal, or hexadecimal behind 0x, and not ",
-            i,
-            b"",
-        ),
-        Fault::NumberTooLarge => about(
-            rt,
-            b"a number is at most 18446744073709551615, and not ",
-            i,
-            b"",
-        ),
-        Fault::NoSuchRules => about(rt, b"the rules are found or documented, and not ", i, b""),
-        Fault::NotAStretch => about(rt, b"what is withheld is START:LENGTH, and not ", i, b""),
-        _ => {}
+        Fault::Twice => " is given twice",
+        Fault::NoValue => " lacks its value",
+        _ => "",
     }
 }
 
 pub fn say_usage(rt: &(impl Env + StandardError), m: Mistake) {
-    let fault = m.fault;
     say(rt, b"usage: ");
-    option_words(rt, fault, m.word);
+    let _ = rt.eprint(m.fault);
+    match m.fault {
+        Fault::TooLong => say_number(rt, m.word as u64),
+        Fault::NoImage | Fault::NoLibrary | Fault::BothDepths => {}
+        _ => quote(rt, m.word),
+    }
+    say(rt, words_behind(m.fault).as_bytes());
     say(rt, b" (--help tells all)\n");
 }

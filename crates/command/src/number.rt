@@ -1,88 +1,57 @@
 // Numbers as they are written on the command line: decimal, or hexadecimal behind 0x.
-ghost use Rattle.std.specs.Prelude.{◌≡◌, ◌≤◌, ◌<◌, drop};
-ghost use Rattle.command.specs.Numbers.{digit_of, digits_from, is_hexadecimal, number_of};
+ghost use Rattle.std.specs.Prelude.{◌≡◌, ◌≤◌, ◌<◌};
+ghost use Rattle.command.specs.Numbers.{digit_of, digits_from, number_of};
 
-#[derive(Clone, Copy)]
-pub enum Number {
-    Value(u64),
+// Why a text is no number that is taken.
+#[derive(Clone, Copy, Debug, PartialEq, Eq)]
+pub enum NumberError {
     TooLarge,
     NotANumber,
 }
 
-const LARGEST: u64 = 0xffff_ffff_ffff_ffff;
-
-fn wide(x: u8) -> u64
-    ensures { result ≡ x }
-{
-    x as u64
-}
-
 // What a digit stands for; 16 for a byte that is no digit.
+#[tactic(auto, unfolding(crate::specs::Numbers::digit_of))]
 fn digit(b: u8) -> u64
     ensures { result ≡ digit_of b }
 {
-    if b < b'0' {
-        return 16;
+    match b {
+        b'0'..=b'9' => u64::from(b - b'0'),
+        b'A'..=b'F' => u64::from(b - b'A' + 10),
+        b'a'..=b'f' => u64::from(b - b'a' + 10),
+        _ => 16,
     }
-    if b <= b'9' {
-        return wide(b - 48);
-    }
-    if b < b'A' {
-        return 16;
-    }
-    if b <= b'F' {
-        return wide(b - 55);
-    }
-    if b < b'a' {
-        return 16;
-    }
-    if b <= b'f' {
-        return wide(b - 87);
-    }
-    16
 }
 
-// The number that the digits of a base stand for, from a place on.
-fn digits(text: &[u8], from: usize, base: u64) -> Number
+// The number that the digits of a base stand for.
+fn digits(text: &[u8], base: u64) -> Result<u64, NumberError>
     requires { (0 < base) × (base ≤ 16) }
-    ensures { result ≡ digits_from base 0 (drop from text.now) }
+    ensures { result ≡ digits_from base 0 text.now }
 {
-    let mut n = 0;
-    let mut i = from;
-    while i < text.len() {
-        let d = digit(text[i]);
+    let mut n: u64 = 0;
+    for b in text {
+        let d = digit(*b);
         if base <= d {
-            return Number::NotANumber;
+            return Err(NumberError::NotANumber);
         }
-        if (LARGEST - d) / base < n {
-            return Number::TooLarge;
-        }
-        n = n * base + d;
-        i += 1;
+        let Some(shifted) = n.checked_mul(base) else {
+            return Err(NumberError::TooLarge);
+        };
+        let Some(next) = shifted.checked_add(d) else {
+            return Err(NumberError::TooLarge);
+        };
+        n = next;
     }
-    Number::Value(n)
+    Ok(n)
 }
 
-fn is_hexadecimal(text: &[u8]) -> bool
-    ensures { result ≡ is_hexadecimal text.now }
-{
-    if text.len() < 3 {
-        return false;
-    }
-    if text[0] == b'0' {
-        return text[1] == b'x';
-    }
-    false
-}
-
-pub fn number_in(text: &[u8]) -> Number
+// A text with no digit is no number.
+#[tactic(auto, unfolding(crate::specs::Numbers::number_of))]
+pub fn number_in(text: &[u8]) -> Result<u64, NumberError>
     ensures { result ≡ number_of text.now }
 {
-    if text.len() == 0 {
-        return Number::NotANumber;
+    match text {
+        [] => Err(NumberError::NotANumber),
+        [b'0', b'x', _, ..] => digits(&text[2..], 16),
+        _ => digits(text, 10),
     }
-    if is_hexadecimal(text) {
-        return digits(text, 2, 16);
-    }
-    digits(text, 0, 10)
 }

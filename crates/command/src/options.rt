@@ -1,14 +1,15 @@
 // The options by their words, and what is known of them so far.
 ghost use Rattle.std.specs.Prelude.{◌≡◌};
-ghost use Rattle.command.specs.Options.{option_of, kind_of, no_options, value_given, is_given, held_with, with_rules, with_edition, with_depth, with_minimum, with_skip, with_withheld, with_value, unchecked_of};
+ghost use Rattle.command.specs.Options.{option_of, kind_of, no_options, is_given, held_with, with_value, unchecked_of};
 
 use crate::mistake::Mistake;
-use crate::stretch::{Withheld, stretch_value};
-use crate::values::{Read, number_value, rules_value};
+use crate::stretch::stretch_value;
+use crate::values::{number_value, rules_value};
+use image::Stretch;
 use lent::names::same;
 
 // The options that have a value, which is the next word.
-#[derive(Clone, Copy)]
+#[derive(Clone, Copy, Debug, PartialEq, Eq)]
 pub enum Valued {
     Rules,
     Edition,
@@ -19,7 +20,7 @@ pub enum Valued {
 }
 
 // What a word is that is no option's value.
-#[derive(Clone, Copy)]
+#[derive(Clone, Copy, Debug, PartialEq, Eq)]
 pub enum Kind {
     NoCheck,
     Valued(Valued),
@@ -27,32 +28,21 @@ pub enum Kind {
     File,
 }
 
-// The value of an option that takes a number or the rules' word, if the option is given.
-#[derive(Clone, Copy)]
-pub enum Value {
-    Absent,
-    Given(Read),
-}
-
-// The values of --withhold, which may be given more than once: all so far are stretches, or the first that is none.
-#[derive(Clone, Copy)]
-pub enum Held {
-    Stretches,
-    Wrong(Mistake),
-}
-
-// The options so far. `check` is false once --no-check is given; that --depth is not given beside it is asked behind the last word.
+// The options so far: the value of each that is given, or what is wrong with it. `check` is false once --no-check is given; that --depth is not given beside it
+// is asked behind the last word. --withhold may be given more than once: all its values so far are stretches, or the first that is none is kept.
 #[derive(Clone, Copy)]
 pub struct Options {
-    pub rules: Value,
-    pub edition: Value,
+    pub rules: Option<Result<u64, Mistake>>,
+    pub edition: Option<Result<u64, Mistake>>,
     pub check: bool,
-    pub depth: Value,
-    pub minimum: Value,
-    pub skip: Value,
-    pub withheld: Held,
+    pub depth: Option<Result<u64, Mistake>>,
+    pub minimum: Option<Result<u64, Mistake>>,
+    pub skip: Option<Result<u64, Mistake>>,
+    pub withheld: Result<(), Mistake>,
 }
 
+// A chain of tests: as a `match` on byte strings 75 goals stay open, one for each byte at which a word may be another.
+#[tactic(auto, unfolding(crate::specs::Options::option_in))]
 fn option_of(word: &[u8]) -> Kind
     ensures { result ≡ option_of word.now }
 {
@@ -81,51 +71,27 @@ fn option_of(word: &[u8]) -> Kind
 }
 
 // A word that begins with - is an option, any other a file.
+#[tactic(auto, unfolding(crate::specs::Options::kind_of))]
 pub fn kind_of(word: &[u8]) -> Kind
     ensures { result ≡ kind_of word.now }
 {
-    if word.len() == 0 {
-        return Kind::File;
+    match word {
+        [b'-', ..] => option_of(word),
+        _ => Kind::File,
     }
-    if word[0] == b'-' {
-        return option_of(word);
-    }
-    Kind::File
 }
 
 pub fn no_options() -> Options
     ensures { result ≡ no_options }
 {
     Options {
-        rules: Value::Absent,
-        edition: Value::Absent,
+        rules: None,
+        edition: None,
         check: true,
-        depth: Value::Absent,
-        minimum: Value::Absent,
-        skip: Value::Absent,
-        withheld: Held::Stretches,
-    }
-}
-
-fn is_value_given(value: Value) -> bool
-    ensures { result ≡ value_given value }
-{
-    match value {
-        Value::Absent => false,
-        Value::Given(_) => true,
-    }
-}
-
-// One value more of --withhold; one that was wrong before is told.
-fn held_with(known: Held, read: Withheld) -> Held
-    ensures { result ≡ held_with known read }
-{
-    match known {
-        Held::Stretches => match read {
-            Withheld::Stretch(_) => Held::Stretches,
-            Withheld::Wrong(m) => Held::Wrong(m),
-        },
-        Held::Wrong(m) => Held::Wrong(m),
+        depth: None,
+        minimum: None,
+        skip: None,
+        withheld: Ok(()),
     }
 }
 
@@ -133,134 +99,23 @@ fn held_with(known: Held, read: Withheld) -> Held
 pub fn is_given(o: Options, option: Valued) -> bool
     ensures { result ≡ is_given o option }
 {
-    let rules = o.rules;
-    let edition = o.edition;
-    let depth = o.depth;
-    let minimum = o.minimum;
-    let skip = o.skip;
     match option {
-        Valued::Rules => is_value_given(rules),
-        Valued::Edition => is_value_given(edition),
-        Valued::Depth => is_value_given(depth),
-        Valued::Minimum => is_value_given(minimum),
-        Valued::Skip => is_value_given(skip),
+        Valued::Rules => o.rules.is_some(),
+        Valued::Edition => o.edition.is_some(),
+        Valued::Depth => o.depth.is_some(),
+        Valued::Minimum => o.minimum.is_some(),
+        Valued::Skip => o.skip.is_some(),
         Valued::Withhold => false,
     }
 }
 
-fn with_rules(o: Options, read: Read) -> Options
-    ensures { result ≡ with_rules o read }
+// One value more of --withhold; one that was wrong before is told.
+fn held_with(known: Result<(), Mistake>, read: Result<Stretch, Mistake>) -> Result<(), Mistake>
+    ensures { result ≡ held_with known read }
 {
-    let edition = o.edition;
-    let depth = o.depth;
-    let minimum = o.minimum;
-    let skip = o.skip;
-    let withheld = o.withheld;
-    Options {
-        rules: Value::Given(read),
-        edition,
-        check: o.check,
-        depth,
-        minimum,
-        skip,
-        withheld,
-    }
-}
-
-fn with_edition(o: Options, read: Read) -> Options
-    ensures { result ≡ with_edition o read }
-{
-    let rules = o.rules;
-    let depth = o.depth;
-    let minimum = o.minimum;
-    let skip = o.skip;
-    let withheld = o.withheld;
-    Options {
-        rules,
-        edition: Value::Given(read),
-        check: o.check,
-        depth,
-        minimum,
-        skip,
-        withheld,
-    }
-}
-
-fn with_depth(o: Options, read: Read) -> Options
-    ensures { result ≡ with_depth o read }
-{
-    let rules = o.rules;
-    let edition = o.edition;
-    let minimum = o.minimum;
-    let skip = o.skip;
-    let withheld = o.withheld;
-    Options {
-        rules,
-        edition,
-        check: o.check,
-        depth: Value::Given(read),
-        minimum,
-        skip,
-        withheld,
-    }
-}
-
-fn with_minimum(o: Options, read: Read) -> Options
-    ensures { result ≡ with_minimum o read }
-{
-    let rules = o.rules;
-    let edition = o.edition;
-    let depth = o.depth;
-    let skip = o.skip;
-    let withheld = o.withheld;
-    Options {
-        rules,
-        edition,
-        check: o.check,
-        depth,
-        minimum: Value::Given(read),
-        skip,
-        withheld,
-    }
-}
-
-fn with_skip(o: Options, read: Read) -> Options
-    ensures { result ≡ with_skip o read }
-{
-    let rules = o.rules;
-    let edition = o.edition;
-    let depth = o.depth;
-    let minimum = o.minimum;
-    let withheld = o.withheld;
-    Options {
-        rules,
-        edition,
-        check: o.check,
-        depth,
-        minimum,
-        skip: Value::Given(read),
-        withheld,
-    }
-}
-
-fn with_withheld(o: Options, read: Withheld) -> Options
-    ensures { result ≡ with_withheld o read }
-{
-    let rules = o.rules;
-    let edition = o.edition;
-    let depth = o.depth;
-    let minimum = o.minimum;
-    let skip = o.skip;
-    let withheld = o.withheld;
-    Options {
-        rules,
-        edition,
-        check: o.check,
-        depth,
-        minimum,
-        skip,
-        withheld: held_with(withheld, read),
-    }
+    known?;
+    read?;
+    Ok(())
 }
 
 // The options with the value of one more, which is word i.
@@ -268,12 +123,30 @@ pub fn with_value(o: Options, option: Valued, word: &[u8], i: usize) -> Options
     ensures { result ≡ with_value o option word.now i }
 {
     match option {
-        Valued::Rules => with_rules(o, rules_value(word, i)),
-        Valued::Edition => with_edition(o, number_value(word, i)),
-        Valued::Depth => with_depth(o, number_value(word, i)),
-        Valued::Minimum => with_minimum(o, number_value(word, i)),
-        Valued::Skip => with_skip(o, number_value(word, i)),
-        Valued::Withhold => with_withheld(o, stretch_value(word, i)),
+        Valued::Rules => Options {
+            rules: Some(rules_value(word, i)),
+            ..o
+        },
+        Valued::Edition => Options {
+            edition: Some(number_value(word, i)),
+            ..o
+        },
+        Valued::Depth => Options {
+            depth: Some(number_value(word, i)),
+            ..o
+        },
+        Valued::Minimum => Options {
+            minimum: Some(number_value(word, i)),
+            ..o
+        },
+        Valued::Skip => Options {
+            skip: Some(number_value(word, i)),
+            ..o
+        },
+        Valued::Withhold => Options {
+            withheld: held_with(o.withheld, stretch_value(word, i)),
+            ..o
+        },
     }
 }
 
@@ -281,7 +154,5 @@ pub fn with_value(o: Options, option: Valued, word: &[u8], i: usize) -> Options
 pub fn unchecked(o: Options) -> Options
     ensures { result ≡ unchecked_of o }
 {
-    let mut next = o;
-    next.check = false;
-    next
+    Options { check: false, ..o }
 }

@@ -1,16 +1,17 @@
 // The list on standard output, a line at a time, so that a list of any length is printed.
+use describe::NoRoom;
 use lent::names::name;
 use lent::part::Part;
 use listing_rules::rows::line_at;
-use printing::{Printed, print_heading, print_line};
+use printing::{print_heading, print_line};
 use std::io;
 use std::io::ErrorKind;
 
 // Writes out what was put into the room. No line is longer than the room: an address takes 18 columns at most, a name 257, a description 89.
-fn write(rt: &impl Print, printed: Printed, room: &[u8]) -> io::Result<()> {
+fn write(rt: &impl Print, printed: Result<usize, NoRoom>, room: &[u8]) -> io::Result<()> {
     match printed {
-        Printed::Written(len) => rt.write_all(name(room, Part { at: 0, len })),
-        Printed::NoRoom => Err(io::Error::from(ErrorKind::WriteZero)),
+        Ok(len) => rt.write_all(name(room, Part { at: 0, len })),
+        Err(NoRoom) => Err(io::Error::from(ErrorKind::WriteZero)),
     }
 }
 

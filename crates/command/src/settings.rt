@@ -1,12 +1,10 @@
 // The settings that the options ask for. Where an option is not given, they are as the command's help says.
 ghost use Rattle.std.specs.Prelude.{◌≡◌};
-ghost use Rattle.command.specs.SettingsOf.{number_or, depth_of, skip_added, rest_added, numbers_added, settings_of, settings_with};
+ghost use Rattle.command.specs.SettingsOf.{number_or, depth_of, skip_read, settings_of, settings_with};
 
 use crate::mistake::{Fault, Mistake};
-use crate::options::{Held, Options, Value};
-use crate::values::Read;
+use crate::options::Options;
 use image::cover::Stretches;
-use listing_rules::Skip;
 use run::Settings;
 
 // Settings but for what is withheld.
@@ -16,13 +14,7 @@ pub struct Plain {
     pub edition: u64,
     pub depth: u64,
     pub minimum: usize,
-    pub skip: Skip,
-}
-
-#[derive(Clone, Copy)]
-pub enum Wanted {
-    Settings(Plain),
-    Wrong(Mistake),
+    pub skip: Option<usize>,
 }
 
 // The rule set where nothing is said: as documented.
@@ -38,111 +30,67 @@ const DEPTH: u64 = 1;
 // is not among the papers.
 const MINIMUM: u64 = 3;
 
-fn number_or(value: Value, otherwise: u64) -> Read
+// An option's value, or what holds where the option is not given.
+fn number_or(value: Option<Result<u64, Mistake>>, otherwise: u64) -> Result<u64, Mistake>
     ensures { result ≡ number_or value otherwise }
 {
-    match value {
-        Value::Absent => Read::Number(otherwise),
-        Value::Given(read) => read,
-    }
+    value.unwrap_or(Ok(otherwise))
 }
 
 // To what depth references are checked. --no-check is --depth 0, and may not stand beside it: that is told as a wrong depth is.
-fn depth_of(check: bool, value: Value) -> Read
+fn depth_of(check: bool, value: Option<Result<u64, Mistake>>) -> Result<u64, Mistake>
     ensures { result ≡ depth_of check value }
 {
     if check {
         return number_or(value, DEPTH);
     }
     match value {
-        Value::Absent => Read::Number(0),
-        Value::Given(_) => Read::Wrong(Mistake {
-            fault: Fault::BothDepths,
-            word: 0,
-        }),
+        None => Ok(0),
+        Some(_) => Err(Fault::BothDepths.at(0)),
     }
 }
 
-// Settings that leave no address out, with the skip amount still to be put in.
-fn with_skip(known: Plain, value: Value) -> Wanted
-    ensures { result ≡ skip_added known value }
+// No address is left out where no skip amount is given.
+fn skip_of(value: Option<Result<u64, Mistake>>) -> Result<Option<usize>, Mistake>
+    ensures { result ≡ skip_read value }
 {
-    let Value::Given(read) = value else {
-        return Wanted::Settings(known);
-    };
-    match read {
-        Read::Number(amount) => Wanted::Settings(Plain {
-            rules: known.rules,
-            edition: known.edition,
-            depth: known.depth,
-            minimum: known.minimum,
-            skip: Skip::Above(amount as usize),
-        }),
-        Read::Wrong(m) => Wanted::Wrong(m),
-    }
-}
-
-// Stretches that are right are put in later.
-fn with_rest(o: Options, rules: u64, edition: u64, depth: u64, minimum: u64) -> Wanted
-    ensures { result ≡ rest_added o rules edition depth minimum }
-{
-    let held = o.withheld;
-    let skip = o.skip;
-    match held {
-        Held::Stretches => with_skip(
-            Plain {
-                rules,
-                edition,
-                depth,
-                minimum: minimum as usize,
-                skip: Skip::Never,
-            },
-            skip,
-        ),
-        Held::Wrong(m) => Wanted::Wrong(m),
-    }
-}
-
-fn with_numbers(o: Options, rules: u64, edition: u64) -> Wanted
-    ensures { result ≡ numbers_added o rules edition }
-{
-    let depth = o.depth;
-    let minimum = o.minimum;
-    match depth_of(o.check, depth) {
-        Read::Number(depth) => match number_or(minimum, MINIMUM) {
-            Read::Number(least) => with_rest(o, rules, edition, depth, least),
-            Read::Wrong(m) => Wanted::Wrong(m),
-        },
-        Read::Wrong(m) => Wanted::Wrong(m),
+    match value {
+        None => Ok(None),
+        Some(read) => Ok(Some(read? as usize)),
     }
 }
 
 // Of several values that are wrong the rules' is told first, then the edition, the depth, the minimum, the first stretch that is, and the skip amount.
-pub fn settings_of(o: Options) -> Wanted
+// Stretches that are right are put in later.
+#[tactic(auto, unfolding(crate::specs::SettingsOf::settings_of))]
+pub fn settings_of(o: Options) -> Result<Plain, Mistake>
     ensures { result ≡ settings_of o }
 {
-    let rules = o.rules;
-    let edition = o.edition;
-    match number_or(rules, RULES) {
-        Read::Number(set) => match number_or(edition, EDITION) {
-            Read::Number(edition) => with_numbers(o, set, edition),
-            Read::Wrong(m) => Wanted::Wrong(m),
-        },
-        Read::Wrong(m) => Wanted::Wrong(m),
-    }
+    let rules = number_or(o.rules, RULES)?;
+    let edition = number_or(o.edition, EDITION)?;
+    let depth = depth_of(o.check, o.depth)?;
+    let minimum = number_or(o.minimum, MINIMUM)?;
+    o.withheld?;
+    let skip = skip_of(o.skip)?;
+    Ok(Plain {
+        rules,
+        edition,
+        depth,
+        minimum: minimum as usize,
+        skip,
+    })
 }
 
 // The settings with what is withheld.
 pub fn settings_with(plain: Plain, withheld: Stretches) -> Settings
     ensures { result ≡ settings_with plain withheld }
 {
-    let skip = plain.skip;
     Settings {
         rules: plain.rules,
         edition: plain.edition,
         depth: plain.depth,
         minimum: plain.minimum,
-        skip,
+        skip: plain.skip,
         withheld,
     }
 }

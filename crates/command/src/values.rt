@@ -1,66 +1,46 @@
-// The values of the options that are numbers, or words for numbers.
+// The values of the options that are numbers, or words for numbers. Each is word i, or a part of it.
 ghost use Rattle.std.specs.Prelude.{◌≡◌};
 ghost use Rattle.command.specs.Values.{number_read, number_value, rules_value};
 
 use crate::mistake::{Fault, Mistake};
-use crate::number::{Number, number_in};
+use crate::number::number_in;
 use crate::words::is_too_long;
 use lent::names::same;
 
-// What an option's value, which is word i, comes to.
-#[derive(Clone, Copy)]
-pub enum Read {
-    Number(u64),
-    Wrong(Mistake),
-}
-
 // The number of a text that is word i, or a part of it.
-pub fn read_number(text: &[u8], i: usize) -> Read
+#[tactic(auto, unfolding(crate::specs::Values::number_read))]
+pub fn read_number(text: &[u8], i: usize) -> Result<u64, Mistake>
     ensures { result ≡ number_read text.now i }
 {
     match number_in(text) {
-        Number::Value(n) => Read::Number(n),
-        Number::TooLarge => Read::Wrong(Mistake {
-            fault: Fault::NumberTooLarge,
-            word: i,
-        }),
-        Number::NotANumber => Read::Wrong(Mistake {
-            fault: Fault::NotANumber,
-            word: i,
-        }),
+        Ok(n) => Ok(n),
+        Err(e) => Err(Fault::from(e).at(i)),
     }
 }
 
-pub fn number_value(word: &[u8], i: usize) -> Read
+#[tactic(auto, unfolding(crate::specs::Values::number_value))]
+pub fn number_value(word: &[u8], i: usize) -> Result<u64, Mistake>
     ensures { result ≡ number_value word.now i }
 {
     if is_too_long(word) {
-        return Read::Wrong(Mistake {
-            fault: Fault::TooLong,
-            word: i,
-        });
+        return Err(Fault::TooLong.at(i));
     }
     read_number(word, i)
 }
 
 // The rule set's number.
-pub fn rules_value(word: &[u8], i: usize) -> Read
+#[tactic(auto, unfolding(crate::specs::Values::rules_value))]
+pub fn rules_value(word: &[u8], i: usize) -> Result<u64, Mistake>
     ensures { result ≡ rules_value word.now i }
 {
     if is_too_long(word) {
-        return Read::Wrong(Mistake {
-            fault: Fault::TooLong,
-            word: i,
-        });
+        return Err(Fault::TooLong.at(i));
     }
     if same(word, b"found") {
-        return Read::Number(0);
+        return Ok(0);
     }
     if same(word, b"documented") {
-        return Read::Number(1);
+        return Ok(1);
     }
-    Read::Wrong(Mistake {
-        fault: Fault::NoSuchRules,
-        word: i,
-    })
+    Err(Fault::NoSuchRules.at(i))
 }

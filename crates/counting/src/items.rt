@@ -2,16 +2,6 @@
 use lent::part::Part;
 use omf51::{Content, Definition, Fixup, ModuleId};
 
-// A byte as a size.
-fn wide(x: u8) -> usize {
-    x as usize
-}
-
-// An id as a size.
-fn id_number(id: ModuleId) -> usize {
-    id.0 as usize
-}
-
 // The sum of two numbers that are first cut to 16 bits each, so that no sum is too large.
 pub fn plus(sum: usize, x: usize) -> usize {
     sum % 65536 + x % 65536
@@ -25,8 +15,8 @@ fn of_part(p: Part) -> usize {
 // The sum of a segment without its name.
 fn of_segment(id: ModuleId, info: u8, relocation: u8, size: usize) -> usize {
     plus(
-        plus(id_number(id), wide(info)),
-        plus(wide(relocation), size),
+        plus(usize::from(id.0), usize::from(info)),
+        plus(usize::from(relocation), size),
     )
 }
 
@@ -41,24 +31,24 @@ pub fn of_definition(d: Definition) -> usize {
             name,
         } => plus(of_segment(id, info, relocation, size), of_part(name)),
         Definition::Public { id, offset, name } => {
-            plus(plus(id_number(id), offset), of_part(name))
+            plus(plus(usize::from(id.0), offset), of_part(name))
         }
         Definition::External { id, info, name } => {
-            plus(plus(id_number(id), wide(info)), of_part(name))
+            plus(plus(usize::from(id.0), usize::from(info)), of_part(name))
         }
     }
 }
 
 // The sum of a content.
 pub fn of_content(c: Content) -> usize {
-    plus(plus(id_number(c.id), c.offset), of_part(c.part))
+    plus(plus(usize::from(c.id.0), c.offset), of_part(c.part))
 }
 
 // The sum of a fixup.
 pub fn of_fixup(f: Fixup) -> usize {
-    let kinds = plus(wide(f.kind), wide(f.block));
+    let kinds = plus(usize::from(f.kind), usize::from(f.block));
     plus(
         plus(plus(1, f.location), kinds),
-        plus(id_number(f.id), f.offset),
+        plus(usize::from(f.id.0), f.offset),
     )
 }

@@ -6,18 +6,14 @@ mod items;
 mod passes;
 
 use crate::passes::over_modules;
-use collect::Collection;
 use collect::entry::collect;
 use image::fixup::Rules;
-use lent::refusal::number;
 use lent::rows::put;
-use library::Reading;
 use library::file::read;
+use listing::Found;
 use listing::all_rows::list_rows;
-use listing_rules::Skip;
 use omf51::Edition;
-use printing::{Printed, print};
-use search::Searched;
+use printing::print;
 use search::entry::search;
 use search_rules::Asked;
 
@@ -28,8 +24,8 @@ const NOTHING: [u64; 0] = [];
 #[unsafe(no_mangle)]
 pub extern "C" fn count_reading(library: &[u8]) -> usize {
     match read(library, Edition::One) {
-        Reading::Modules { first, count } => over_modules(library, first, count),
-        Reading::Refused(r) => 0,
+        Ok(reading) => over_modules(library, reading.first, reading.count),
+        Err(r) => 0,
     }
 }
 
@@ -37,8 +33,8 @@ pub extern "C" fn count_reading(library: &[u8]) -> usize {
 #[unsafe(no_mangle)]
 pub extern "C" fn count_places(library: &[u8]) -> usize {
     match read(library, Edition::One) {
-        Reading::Modules { first, count } => count,
-        Reading::Refused(r) => 0,
+        Ok(reading) => reading.count,
+        Err(r) => 0,
     }
 }
 
@@ -55,17 +51,17 @@ pub extern "C" fn count_collecting(
     masks: &mut [u8],
 ) -> u8 {
     match read(library, Edition::One) {
-        Reading::Modules { first, count } => match collect(
+        Ok(reading) => match collect(
             library,
             Rules::AsFound,
-            first,
+            reading.first,
             segments,
             references,
             symbols,
             bytes,
             masks,
         ) {
-            Collection::Done(c) => {
+            Ok(c) => {
                 let cells = [
                     c.segments as u64,
                     c.references as u64,
@@ -75,9 +71,9 @@ pub extern "C" fn count_collecting(
                 put(counts, 0, &cells);
                 0
             }
-            Collection::Refused(r) => number(r),
+            Err(r) => u8::from(r),
         },
-        Reading::Refused(r) => number(r),
+        Err(r) => u8::from(r),
     }
 }
 
@@ -111,21 +107,18 @@ pub extern "C" fn count_searching(
         image, &NOTHING, asked, library, n, segments, references, symbols, bytes, masks, placed,
         noted, positions, goals,
     ) {
-        Searched::Done(rows) => {
+        Ok(rows) => {
             let cells = [rows.placed as u64, rows.noted as u64];
             put(counts, 0, &cells);
             0
         }
-        Searched::Refused(r) => number(r),
+        Err(r) => u8::from(r),
     }
 }
 
 // The skip amount, if there is one.
-fn skip_of(skips: bool, amount: usize) -> Skip {
-    if skips {
-        return Skip::Above(amount);
-    }
-    Skip::Never
+fn skip_of(skips: bool, amount: usize) -> Option<usize> {
+    skips.then_some(amount)
 }
 
 // Lists the names of the rows that a search left, `names` of them noted names, with its heads, under rule set 0 and with
@@ -148,11 +141,7 @@ pub extern "C" fn count_listing(
     lines: &mut [u64],
 ) -> u8 {
     let skip = skip_of(skips, amount);
-    let filled = list_rows(
-        image,
-        &NOTHING,
-        Rules::AsFound,
-        skip,
+    let found = Found {
         library,
         segments,
         n,
@@ -161,9 +150,8 @@ pub extern "C" fn count_listing(
         positions,
         noted,
         goals,
-        names,
-        lines,
-    );
+    };
+    let filled = list_rows(image, &NOTHING, Rules::AsFound, &found, skip, names, lines);
     if filled.over {
         return 9;
     }
@@ -175,8 +163,5 @@ pub extern "C" fn count_listing(
 // Prints n lines, and gives the length of the text; 0 if it does not fit.
 #[unsafe(no_mangle)]
 pub extern "C" fn count_printing(library: &[u8], lines: &[u64], n: usize, out: &mut [u8]) -> usize {
-    match print(library, lines, n, out) {
-        Printed::Written(size) => size,
-        Printed::NoRoom => 0,
-    }
+    print(library, lines, n, out).unwrap_or(0)
 }

@@ -1,65 +1,51 @@
 // Each module of a library is gone over: once over its definitions, and once over its contents, each content with its fixups.
 use crate::items::{of_content, of_definition, of_fixup, plus};
+use library::Places;
+use library::edition::EditionOne;
 use library::items::contents::next_content;
 use library::items::decoded::{next_definition, next_fixup};
 use library::items::entries::start;
 use library::items::{Cursor, NextContent, NextDefinition, NextFixup};
 use library::module::module_at;
-use library::{ModuleAt, Places};
 
 // The sum of all definitions of a module.
 fn over_definitions(library: &[u8], definitions: usize) -> usize {
     let mut sum = 0;
     let mut c = start(definitions);
-    loop {
-        match next_definition(library, c) {
-            NextDefinition::Item { definition, rest } => {
-                sum = plus(sum, of_definition(definition));
-                c = rest;
-            }
-            NextDefinition::Done => {
-                return sum;
-            }
-        }
+    while let Some(NextDefinition { definition, rest }) = next_definition(library, c) {
+        sum = plus(sum, of_definition(definition));
+        c = rest;
     }
+    sum
 }
 
 // The sum of the fixups of a content, from a cursor on.
 fn over_fixups(library: &[u8], from: Cursor) -> usize {
     let mut sum = 0;
     let mut c = from;
-    loop {
-        match next_fixup(library, c) {
-            NextFixup::Item { fixup, rest } => {
-                sum = plus(sum, of_fixup(fixup));
-                c = rest;
-            }
-            NextFixup::Done => {
-                return sum;
-            }
-        }
+    while let Some(NextFixup { fixup, rest }) = next_fixup(library, c) {
+        sum = plus(sum, of_fixup(fixup));
+        c = rest;
     }
+    sum
 }
 
 // The sum of all contents of a module, with their fixups.
 fn over_contents(library: &[u8], contents: usize) -> usize {
     let mut sum = 0;
     let mut at = contents;
-    loop {
-        match next_content(library, at) {
-            NextContent::Item {
-                content,
-                fixups,
-                rest,
-            } => {
-                sum = plus(sum, plus(of_content(content), over_fixups(library, fixups)));
-                at = rest;
-            }
-            NextContent::Done => {
-                return sum;
-            }
-        }
+    while let Some(
+        NextContent {
+            content,
+            fixups,
+            rest,
+        },
+    ) = next_content(library, at)
+    {
+        sum = plus(sum, plus(of_content(content), over_fixups(library, fixups)));
+        at = rest;
     }
+    sum
 }
 
 // The sum of a module.
@@ -74,14 +60,12 @@ fn over_module(library: &[u8], places: Places) -> usize {
 pub fn over_modules(library: &[u8], first: usize, count: usize) -> usize {
     let mut sum = 0;
     let mut at = first;
-    let mut i = 0;
-    while i < count {
-        let ModuleAt::Whole(places) = module_at(library, at) else {
+    for _ in 0..count {
+        let Ok(Some(places)) = module_at::<EditionOne>(library, at) else {
             return sum;
         };
         sum = plus(sum, over_module(library, places));
         at = places.next;
-        i += 1;
     }
     sum
 }

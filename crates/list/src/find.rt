@@ -1,13 +1,17 @@
 // The run: both files, what is lent, and what comes of it.
 use crate::memory;
+use crate::memory::{NOTED_NUMBERS, PLACED_NUMBERS};
 use command::file;
-use command::file::{Loaded, bytes_of, load};
+use command::file::load;
 use command::library_room::{is_refused, taken};
+use command::memory::{
+    LINE_NUMBERS, PATTERN, REFERENCE_NUMBERS, SEGMENT_NUMBERS, SYMBOL_NUMBERS, filled,
+};
 use command::output::print;
 use command::refusal_words::say_refused;
 use lent::refusal::Refusal;
 use libfind::entry::find_names;
-use run::{Answer, Settings};
+use run::Settings;
 use std::env::Env;
 use std::fs::Files;
 use std::io;
@@ -22,14 +26,14 @@ fn find(
     library: &[u8],
     settings: Settings,
 ) -> io::Result<()> {
-    let mut segments = command::memory::segments();
-    let mut references = command::memory::references();
-    let mut symbols = command::memory::symbols();
-    let mut bytes = command::memory::pattern();
-    let mut masks = command::memory::pattern();
-    let mut placed = memory::placed();
-    let mut noted = memory::noted();
-    let mut lines = command::memory::lines();
+    let mut segments = filled::<u64, SEGMENT_NUMBERS>(0);
+    let mut references = filled::<u64, REFERENCE_NUMBERS>(0);
+    let mut symbols = filled::<u64, SYMBOL_NUMBERS>(0);
+    let mut bytes = filled::<u8, PATTERN>(0);
+    let mut masks = filled::<u8, PATTERN>(0);
+    let mut placed = filled::<u64, PLACED_NUMBERS>(0);
+    let mut noted = filled::<u64, NOTED_NUMBERS>(0);
+    let mut lines = filled::<u64, LINE_NUMBERS>(0);
     match find_names(
         image,
         library,
@@ -43,8 +47,8 @@ fn find(
         &mut noted,
         &mut lines,
     ) {
-        Answer::Done(counts) => print(rt, library, &lines, counts.lines),
-        Answer::Refused(r) => {
+        Ok(counts) => print(rt, library, &lines, counts.lines),
+        Err(r) => {
             say_refused(rt, r, memory::lent());
             Ok(())
         }
@@ -77,17 +81,12 @@ pub fn list<R: Env + Files + Print + StandardError>(
     settings: Settings,
 ) -> io::Result<()> {
     let mut first = file::room();
-    let Loaded::Size(in_image) = load(rt, image, &mut first) else {
+    let Some(image) = load(rt, image, &mut first) else {
         return Ok(());
     };
     let mut second = file::room();
-    let Loaded::Size(in_library) = load(rt, library, &mut second) else {
+    let Some(library) = load(rt, library, &mut second) else {
         return Ok(());
     };
-    find_in(
-        rt,
-        bytes_of(&first, in_image),
-        bytes_of(&second, in_library),
-        settings,
-    )
+    find_in(rt, image, library, settings)
 }

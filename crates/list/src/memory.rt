@@ -10,14 +10,11 @@ const PLACED: usize = 8192;
 
 const NOTED: usize = 8192;
 
+// How many numbers the rows take: eight for a symbol that is placed, six for a name that is noted.
+pub const PLACED_NUMBERS: usize = 8 * PLACED;
+
+pub const NOTED_NUMBERS: usize = 6 * NOTED;
+
 pub fn lent() -> Counts {
     lent_with(PLACED, NOTED)
-}
-
-pub fn placed() -> [u64; 65536] {
-    [0u64; 65536]
-}
-
-pub fn noted() -> [u64; 49152] {
-    [0u64; 49152]
 }

@@ -1,11 +1,11 @@
 // What a run comes to, as 18 numbers: the refusal's number, or 0; the seven counts, zeros with a refusal; a digest of each of the eight lists as they are left;
 // and a size with a digest: of an image's list its printed form. With a refusal nothing is printed.
-use crate::digest::{of_bytes, of_numbers};
+use crate::digest::of_numbers;
 use lent::names::name;
 use lent::part::Part;
-use lent::refusal::number;
-use printing::{Printed, print};
-use run::{Answer, Counts};
+use lent::refusal::Refusal;
+use printing::print;
+use run::Counts;
 
 pub fn digests_of(
     segments: &[u64],
@@ -21,8 +21,8 @@ pub fn digests_of(
         of_numbers(segments),
         of_numbers(references),
         of_numbers(symbols),
-        of_bytes(bytes),
-        of_bytes(masks),
+        of_numbers(bytes),
+        of_numbers(masks),
         of_numbers(placed),
         of_numbers(noted),
         of_numbers(lines),
@@ -30,44 +30,33 @@ pub fn digests_of(
 }
 
 // The last two numbers.
-#[derive(Clone, Copy)]
+#[derive(Clone, Copy, Debug, Default, PartialEq, Eq)]
 pub struct Last {
     pub size: usize,
     pub digest: u64,
 }
 
-fn no_last() -> Last {
-    Last { size: 0, digest: 0 }
-}
-
 // The printed form of so many lines; nothing without room for it.
 fn print_of(library: &[u8], lines: &[u64], n: usize, text: &mut [u8]) -> Last {
-    match print(library, lines, n, text) {
-        Printed::Written(size) => Last {
-            size,
-            digest: of_bytes(name(text, Part { at: 0, len: size })),
-        },
-        Printed::NoRoom => no_last(),
+    let Ok(size) = print(library, lines, n, text) else {
+        return Last::default();
+    };
+    Last {
+        size,
+        digest: of_numbers(name(text, Part { at: 0, len: size })),
     }
 }
 
 // What is printed of an answer.
-fn printed_of(library: &[u8], lines: &[u64], came: Answer, text: &mut [u8]) -> Last {
+fn printed_of(
+    library: &[u8],
+    lines: &[u64],
+    came: Result<Counts, Refusal>,
+    text: &mut [u8],
+) -> Last {
     match came {
-        Answer::Done(c) => print_of(library, lines, c.lines, text),
-        Answer::Refused(_) => no_last(),
-    }
-}
-
-fn no_counts() -> Counts {
-    Counts {
-        segments: 0,
-        references: 0,
-        symbols: 0,
-        pattern: 0,
-        placed: 0,
-        noted: 0,
-        lines: 0,
+        Ok(c) => print_of(library, lines, c.lines, text),
+        Err(_) => Last::default(),
     }
 }
 
@@ -94,10 +83,10 @@ fn numbers(number: u64, c: Counts, left: [u64; 8], last: Last) -> [u64; 18] {
     ]
 }
 
-pub fn numbers_of(came: Answer, left: [u64; 8], last: Last) -> [u64; 18] {
+pub fn numbers_of(came: Result<Counts, Refusal>, left: [u64; 8], last: Last) -> [u64; 18] {
     match came {
-        Answer::Done(c) => numbers(0, c, left, last),
-        Answer::Refused(r) => numbers(number(r) as u64, no_counts(), left, last),
+        Ok(c) => numbers(0, c, left, last),
+        Err(r) => numbers(u64::from(u8::from(r)), Counts::default(), left, last),
     }
 }
 
@@ -105,7 +94,7 @@ pub fn numbers_of(came: Answer, left: [u64; 8], last: Last) -> [u64; 18] {
 pub fn answer_of(
     library: &[u8],
     lines: &[u64],
-    came: Answer,
+    came: Result<Counts, Refusal>,
     left: [u64; 8],
     text: &mut [u8],
 ) -> [u64; 18] {

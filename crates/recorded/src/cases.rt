@@ -4,10 +4,9 @@ use crate::header::{
     DEPTH_AT, LENT_AT, SETTINGS, SETTINGS_AT, SIZE, has_depth, has_scene, told_settings,
 };
 use crate::numbers::{eight_at, four_at};
-use crate::show::{cut_short, say};
+use crate::show::say;
 use lent::names::name;
 use lent::part::Part;
-use lent::rows::clear_bytes;
 use std::env::Env;
 use std::fs::Files;
 use std::io::Read;
@@ -17,28 +16,22 @@ use system::files::fill;
 use system::standard_error::{StandardError, fail};
 
 // How long image and library are.
-#[derive(Clone, Copy)]
+#[derive(Clone, Copy, Debug, Default, PartialEq, Eq)]
 pub struct Scene {
     pub image: usize,
     pub library: usize,
 }
 
-#[derive(Clone, Copy)]
-pub enum Next {
-    Case(Scene),
-    End,
-    CutShort,
-}
+// That the file ends within a case.
+#[derive(Clone, Copy, Debug, PartialEq, Eq)]
+pub struct CutShort;
 
 // Nothing says that a file ends, so the loop over its cases counts them; no file here has as many.
 pub const LIMIT: u64 = 100000;
 
-// Before the first case.
-pub fn no_scene() -> Scene {
-    Scene {
-        image: 0,
-        library: 0,
-    }
+// Room for an image or a library; it is made here, so that the checker never writes it out.
+pub fn room<const N: usize>() -> [u8; N] {
+    [0; N]
 }
 
 // The bytes of a room that are an image or a library.
@@ -94,117 +87,74 @@ pub fn begins_with(rt: &impl Print, file: &mut impl Read, wanted: u64) -> bool {
     false
 }
 
-// Whether so many bytes are there; then they stand in the room from a place on.
-fn fill_part(file: &mut impl Read, room: &mut [u8], at: usize, size: usize) -> bool {
-    if room.len() < at {
-        return false;
+// Fills a part of a room.
+fn fill_part(file: &mut impl Read, part: &mut [u8]) -> Result<(), CutShort> {
+    if fill(file, part).size < part.len() {
+        return Err(CutShort);
     }
-    if room.len() - at < size {
-        return false;
-    }
-    fill(file, &mut room[at..at + size]).size == size
+    Ok(())
 }
 
-// Whether the stored bytes are there; then the room begins with them, and with zeros up to the size.
-fn fill_up(file: &mut impl Read, room: &mut [u8], stored: usize, size: usize) -> bool {
-    if size < stored {
-        return false;
+// Fills the front of a room with the stored bytes, and with zeros up to the size.
+fn fill_up(
+    file: &mut impl Read,
+    room: &mut [u8],
+    stored: usize,
+    size: usize,
+) -> Result<(), CutShort> {
+    if size < stored || room.len() < size {
+        return Err(CutShort);
     }
-    if room.len() < size {
-        return false;
-    }
-    clear_bytes(&mut room[stored..size]);
-    fill_part(file, room, 0, stored)
+    room[stored..size].fill(0);
+    fill_part(file, &mut room[..stored])
 }
 
 // The next image and library.
-fn next_scene(file: &mut impl Read, image: &mut [u8], library: &mut [u8]) -> Next {
+fn next_scene(
+    file: &mut impl Read,
+    image: &mut [u8],
+    library: &mut [u8],
+) -> Result<Scene, CutShort> {
     let mut sizes = [0u8; 16];
-    if fill(file, &mut sizes).size < 16 {
-        return Next::CutShort;
-    }
+    fill_part(file, &mut sizes)?;
     let scene = Scene {
         image: four_at(&sizes, 4) as usize,
         library: four_at(&sizes, 12) as usize,
     };
-    if !fill_up(file, image, four_at(&sizes, 0) as usize, scene.image) {
-        return Next::CutShort;
-    }
-    if !fill_up(file, library, four_at(&sizes, 8) as usize, scene.library) {
-        return Next::CutShort;
-    }
-    Next::Case(scene)
+    fill_up(file, image, four_at(&sizes, 0) as usize, scene.image)?;
+    fill_up(file, library, four_at(&sizes, 8) as usize, scene.library)?;
+    Ok(scene)
 }
 
-// Whether a depth is there that is told.
-fn fill_depth(file: &mut impl Read, header: &mut [u8]) -> bool {
-    if has_depth(header) {
-        return fill_part(file, header, DEPTH_AT, LENT_AT - DEPTH_AT);
-    }
-    true
-}
-
-// Whether the rest of a header is there: the settings that are told, and what stands behind all of them.
-fn fill_header(file: &mut impl Read, header: &mut [u8]) -> bool {
+// The rest of a header: the settings that are told, a depth if one is told, and what stands behind all of them.
+fn fill_header(file: &mut impl Read, header: &mut [u8; SIZE]) -> Result<(), CutShort> {
     let told = told_settings(header);
     if SETTINGS < told {
-        return false;
+        return Err(CutShort);
     }
-    if !fill_part(file, header, SETTINGS_AT, told * 8) {
-        return false;
+    fill_part(file, &mut header[SETTINGS_AT..SETTINGS_AT + told * 8])?;
+    if has_depth(header) {
+        fill_part(file, &mut header[DEPTH_AT..LENT_AT])?;
     }
-    if !fill_depth(file, header) {
-        return false;
-    }
-    fill_part(file, header, LENT_AT, SIZE - LENT_AT)
+    fill_part(file, &mut header[LENT_AT..])
 }
 
-// The next case: its header, which is zeros before; image and library begin with what it is run on.
-fn read_case(
-    file: &mut impl Read,
-    header: &mut [u8],
-    image: &mut [u8],
-    library: &mut [u8],
-    before: Scene,
-) -> Next {
-    let mut start = [0u8; 2];
-    let n = fill(file, &mut start).size;
-    if n == 0 {
-        return Next::End;
-    }
-    if n < 2 {
-        return Next::CutShort;
-    }
-    begin(header, start[0], start[1]);
-    if !fill_header(file, header) {
-        return Next::CutShort;
-    }
-    if has_scene(header) {
-        return next_scene(file, image, library);
-    }
-    Next::Case(before)
-}
-
-fn begin(header: &mut [u8], flags: u8, told: u8) {
-    if 2 <= header.len() {
-        header[0] = flags;
-        header[1] = told;
-    }
-}
-
-// The same; says so where the case, before which so many passed, is cut short.
+// The next case, if there is one: its header, which is zeros before; image and library begin with what it is run on.
 pub fn next_case(
-    rt: &impl Print,
     file: &mut impl Read,
-    passed: u64,
-    header: &mut [u8],
+    header: &mut [u8; SIZE],
     image: &mut [u8],
     library: &mut [u8],
     before: Scene,
-) -> Next {
-    let next = read_case(file, header, image, library, before);
-    if let Next::CutShort = next {
-        cut_short(rt, passed);
+) -> Result<Option<Scene>, CutShort> {
+    match fill(file, &mut header[..SETTINGS_AT]).size {
+        0 => return Ok(None),
+        SETTINGS_AT => {}
+        _ => return Err(CutShort),
     }
-    next
+    fill_header(file, header)?;
+    if has_scene(header) {
+        return Ok(Some(next_scene(file, image, library)?));
+    }
+    Ok(Some(before))
 }

@@ -6,26 +6,14 @@ fn take_in(h: u64, x: u64) -> u64 {
     (h % PRIME * 65599 + x % PRIME + 1) % PRIME
 }
 
-pub fn of_numbers(numbers: &[u64]) -> u64 {
+// The digest of numbers of 64 bits, or of bytes.
+pub fn of_numbers<T: Copy>(numbers: &[T]) -> u64
+where
+    u64: From<T>,
+{
     let mut h = 0;
-    let mut i = 0;
-    while i < numbers.len() {
-        h = take_in(h, numbers[i]);
-        i += 1;
-    }
-    h
-}
-
-fn wide(x: u8) -> u64 {
-    x as u64
-}
-
-pub fn of_bytes(bytes: &[u8]) -> u64 {
-    let mut h = 0;
-    let mut i = 0;
-    while i < bytes.len() {
-        h = take_in(h, wide(bytes[i]));
-        i += 1;
+    for n in numbers {
+        h = take_in(h, u64::from(*n));
     }
     h
 }

@@ -2,9 +2,8 @@
 // of 18 numbers.
 ghost use Rattle.std.specs.Prelude.{◌≤◌};
 
-use crate::numbers::{eight_at, four_at, within};
+use crate::numbers::{eight_at, four_at};
 use image::cover::{Stretches, no_stretches, one_more};
-use listing_rules::Skip;
 use run::Settings;
 
 const CHECK: u8 = 1;
@@ -41,15 +40,12 @@ pub const SIZE: usize = 418;
 
 const ANSWER: usize = 18;
 
-pub fn no_header() -> [u8; 418] {
-    [0u8; 418]
+pub fn no_header() -> [u8; SIZE] {
+    [0; SIZE]
 }
 
 fn byte_at(header: &[u8], i: usize) -> u8 {
-    if i < header.len() {
-        return header[i];
-    }
-    0
+    header.get(i).copied().unwrap_or(0)
 }
 
 fn has(header: &[u8], flag: u8) -> bool {
@@ -72,7 +68,7 @@ pub fn has_depth(header: &[u8]) -> bool {
 }
 
 pub fn told_settings(header: &[u8]) -> usize {
-    byte_at(header, 1) as usize
+    usize::from(byte_at(header, 1))
 }
 
 fn setting(header: &[u8], i: usize) -> u64 {
@@ -82,11 +78,8 @@ fn setting(header: &[u8], i: usize) -> u64 {
     eight_at(header, SETTINGS_AT + i * 8)
 }
 
-fn skip_of(header: &[u8]) -> Skip {
-    if has(header, SKIP) {
-        return Skip::Above(setting(header, 2) as usize);
-    }
-    Skip::Never
+fn skip_of(header: &[u8]) -> Option<usize> {
+    has(header, SKIP).then(|| setting(header, 2) as usize)
 }
 
 fn edition_of(header: &[u8]) -> u64 {
@@ -113,12 +106,8 @@ fn withheld_by(header: &[u8]) -> Stretches {
     if START < told {
         w = one_more(w, setting(header, START), setting(header, START + 1));
     }
-    let mut i = FURTHER;
-    while i < SETTINGS {
-        if i < told {
-            w = one_more(w, setting(header, i), setting(header, i + 1));
-        }
-        i += 2;
+    for i in (FURTHER..told.min(SETTINGS)).step_by(2) {
+        w = one_more(w, setting(header, i), setting(header, i + 1));
     }
     w
 }
@@ -146,7 +135,7 @@ fn lent_length(header: &[u8], i: usize) -> usize {
 pub fn lent_within(header: &[u8], i: usize, room: usize) -> usize
     ensures { result ≤ room }
 {
-    within(room, lent_length(header, i))
+    lent_length(header, i).min(room)
 }
 
 // A number of the recorded answer.

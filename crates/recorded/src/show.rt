@@ -1,6 +1,6 @@
 // What is written on standard output. Cases are numbered from 1 on.
 use crate::header::recorded;
-use crate::tally::{NUMBERS, agreed, at, lines, own};
+use crate::tally::Tally;
 
 pub fn say(rt: &impl Print, text: &[u8]) {
     let _ = rt.write_all(text);
@@ -19,11 +19,9 @@ fn case_after(rt: &impl Print, passed: u64) {
 pub fn differ(rt: &impl Print, passed: u64, header: &[u8], came: &[u64]) {
     case_after(rt, passed);
     say(rt, b", recorded and came:");
-    let mut i = 0;
-    while i < came.len() {
+    for (i, n) in came.iter().enumerate() {
         say_number(rt, b" ", recorded(header, i));
-        say_number(rt, b"/", came[i]);
-        i += 1;
+        say_number(rt, b"/", *n);
     }
     say(rt, b"\n");
 }
@@ -34,29 +32,27 @@ pub fn cut_short(rt: &impl Print, passed: u64) {
 }
 
 // The numbers that came up.
-fn refusals(rt: &impl Print, tally: &[u64]) {
-    let mut i = 1;
-    while i < NUMBERS {
-        if at(tally, i) != 0 {
-            say_number(rt, b", refused with ", i as u64);
-            say_number(rt, b" ", at(tally, i));
+fn refusals(rt: &impl Print, tally: &Tally) {
+    for (number, n) in tally.by_number.iter().enumerate().skip(1) {
+        if *n != 0 {
+            say_number(rt, b", refused with ", number as u64);
+            say_number(rt, b" ", *n);
         }
-        i += 1;
     }
 }
 
 // How many of the cases that passed agree, and what these come to; `agree` has the words between the two.
-pub fn outcomes(rt: &impl Print, tally: &[u64], passed: u64, agree: &[u8]) {
-    say_number(rt, b"", agreed(tally));
+pub fn outcomes(rt: &impl Print, tally: &Tally, passed: u64, agree: &[u8]) {
+    say_number(rt, b"", tally.agreed());
     say_number(rt, b" of ", passed);
-    say_number(rt, agree, at(tally, 0));
+    say_number(rt, agree, tally.by_number[0]);
     refusals(rt, tally);
 }
 
 // The same of whole runs.
-pub fn total(rt: &impl Print, tally: &[u64], passed: u64) {
+pub fn total(rt: &impl Print, tally: &Tally, passed: u64) {
     outcomes(rt, tally, passed, b" recorded runs agree: done ");
-    say_number(rt, b"; ", own(tally));
-    say_number(rt, b" are the Rust's own; lines ", lines(tally));
+    say_number(rt, b"; ", tally.own);
+    say_number(rt, b" are the Rust's own; lines ", tally.lines);
     say(rt, b"\n");
 }

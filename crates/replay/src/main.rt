@@ -2,20 +2,18 @@
 // holds what came of it against what is recorded (README.md).
 #![tactic(auto)]
 
-mod compare;
 mod trial;
 
-// A library of 1,048,577 bytes is refused as too long; the array is made here, so that the checker never writes it out.
-fn library_room() -> [u8; 1048832] {
-    [0u8; 1048832]
-}
+use crate::trial::run_back;
+use recorded::cases::{open, room};
+use recorded::compare::compare_all;
 
 fn main(rt: HostRuntime) {
-    let Some(mut cases) = recorded::cases::open(&rt, 1) else {
+    let Some(mut cases) = open(&rt, 1) else {
         return;
     };
-    let mut image = [0u8; 65792];
-    let mut library = library_room();
-    let mut tally = recorded::tally::no_case();
-    compare::compare_all(&rt, &mut cases, &mut image, &mut library, &mut tally);
+    let mut image = room::<65792>();
+    // A library of 1,048,577 bytes is refused as too long.
+    let mut library = room::<1048832>();
+    compare_all(&rt, &mut cases, &mut image, &mut library, run_back);
 }

@@ -1,7 +1,6 @@
 // A whole run with lent memory that is full of something else before.
 use libfind::entry::find_names;
 use recorded::answer::{answer_of, digests_of};
-use recorded::cases::{Scene, start};
 use recorded::header::{lent_within, settings_of};
 use run::Settings;
 
@@ -64,7 +63,7 @@ fn with_rows(
 }
 
 // With as much as is to be lent for the collection.
-fn with_rooms(image: &[u8], library: &[u8], header: &[u8]) -> [u64; 18] {
+pub fn run_back(image: &[u8], library: &[u8], header: &[u8]) -> [u64; 18] {
     let mut segments = [0xa5a5_a5a5_a5a5_a5a5u64; 4096];
     let mut references = [0xa5a5_a5a5_a5a5_a5a5u64; 8192];
     let mut symbols = [0xa5a5_a5a5_a5a5_a5a5u64; 2048];
@@ -85,11 +84,4 @@ fn with_rooms(image: &[u8], library: &[u8], header: &[u8]) -> [u64; 18] {
         &mut bytes[0..b],
         &mut masks[0..m],
     )
-}
-
-// What a run on what image and library begin with comes to.
-pub fn run_back(image: &[u8], library: &[u8], scene: Scene, header: &[u8]) -> [u64; 18] {
-    let own_image = start(image, scene.image);
-    let own_library = start(library, scene.library);
-    with_rooms(own_image, own_library, header)
 }

@@ -2,25 +2,19 @@
 // (README.md).
 #![tactic(auto)]
 
-mod compare;
 mod trial;
 
-// No case has a longer file: a common part and 17 banks, one too many. Both rooms are made by functions, so that the checker never writes them out.
-fn file_room() -> [u8; 589824] {
-    [0u8; 589824]
-}
-
-// A library of 1,048,577 bytes is refused as too long.
-fn library_room() -> [u8; 1048832] {
-    [0u8; 1048832]
-}
+use crate::trial::run_back;
+use recorded::cases::{open, room};
+use recorded::compare::compare_all;
 
 fn main(rt: HostRuntime) {
-    let Some(mut cases) = recorded::cases::open(&rt, 1) else {
+    let Some(mut cases) = open(&rt, 1) else {
         return;
     };
-    let mut file = file_room();
-    let mut library = library_room();
-    let mut tally = recorded::tally::no_case();
-    compare::compare_all(&rt, &mut cases, &mut file, &mut library, &mut tally);
+    // No case has a longer file: a common part and 17 banks, one too many.
+    let mut file = room::<589824>();
+    // A library of 1,048,577 bytes is refused as too long.
+    let mut library = room::<1048832>();
+    compare_all(&rt, &mut cases, &mut file, &mut library, run_back);
 }

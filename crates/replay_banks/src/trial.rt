@@ -1,34 +1,16 @@
 // A run on a board with lent memory that is full of something else before.
-use bank_rules::BankAnswer;
+use bank_rules::BankCounts;
 use banks::entry::find_banks;
 use recorded::answer::{Last, digests_of, numbers_of};
-use recorded::cases::{Scene, start};
 use recorded::digest::of_numbers;
 use recorded::header::{lent_within, settings_of};
-use run::{Answer, Settings};
+use run::Settings;
 
-// 0 if two digests are the same.
-fn apart(a: u64, b: u64) -> u64 {
-    if a == b {
-        return 0;
-    }
-    1
-}
-
-// The number of banks, and the digest of how many lines each has. With a refusal 0 is recorded for both: there is no bank, and all 16 numbers are 0.
-fn last_of(came: BankAnswer) -> Last {
-    let answer = came.answer;
-    let lines = came.lines;
-    let digest = of_numbers(&lines);
-    match answer {
-        Answer::Done(_) => Last {
-            size: came.banks,
-            digest,
-        },
-        Answer::Refused(_) => Last {
-            size: came.banks,
-            digest: apart(digest, of_numbers(&[0u64; 16])),
-        },
+// The number of banks, and the digest of how many lines each has.
+fn last_of(found: BankCounts) -> Last {
+    Last {
+        size: found.banks,
+        digest: of_numbers(&found.lines),
     }
 }
 
@@ -52,12 +34,16 @@ fn with_lists(
     let left = digests_of(
         segments, references, symbols, bytes, masks, placed, noted, lines,
     );
-    let answer = came.answer;
-    numbers_of(answer, left, last_of(came))
+    // With a refusal there is no bank, and 0 is recorded for both numbers.
+    let (answer, last) = match came {
+        Ok(found) => (Ok(found.counts), last_of(found)),
+        Err(r) => (Err(r), Last::default()),
+    };
+    numbers_of(answer, left, last)
 }
 
 // With as much as is to be lent. The rooms are full of numbers that no row has, so that what is to be zero afterwards was set to it.
-fn with_rooms(file: &[u8], library: &[u8], header: &[u8]) -> [u64; 18] {
+pub fn run_back(file: &[u8], library: &[u8], header: &[u8]) -> [u64; 18] {
     let mut segments = [0xa5a5_a5a5_a5a5_a5a5u64; 256];
     let mut references = [0xa5a5_a5a5_a5a5_a5a5u64; 192];
     let mut symbols = [0xa5a5_a5a5_a5a5_a5a5u64; 192];
@@ -87,11 +73,4 @@ fn with_rooms(file: &[u8], library: &[u8], header: &[u8]) -> [u64; 18] {
         &mut noted[0..n],
         &mut lines[0..l],
     )
-}
-
-// What a run on what file and library begin with comes to.
-pub fn run_back(file: &[u8], library: &[u8], scene: Scene, header: &[u8]) -> [u64; 18] {
-    let own_file = start(file, scene.image);
-    let own_library = start(library, scene.library);
-    with_rooms(own_file, own_library, header)
 }

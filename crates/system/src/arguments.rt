@@ -21,7 +21,8 @@ pub fn count(rt: &impl Env) -> usize {
     usize::MAX
 }
 
-// Puts word i, which names a file, at the front of a room, and answers how long it is.
+// Puts word i, which names a file, at the front of a room, and answers how long it is. The errors are matched here, and
+// not by a `From`, since both types are std's.
 pub fn path_of(rt: &impl Env, i: usize, room: &mut [u8]) -> io::Result<usize>
     ensures { IfOk result (λ n. IsPrefixLen n room.new) }
 {

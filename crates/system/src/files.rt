@@ -7,7 +7,8 @@ use std::io;
 use std::io::{ErrorKind, Read};
 use std::str::from_utf8;
 
-// How many bytes of a room were filled, and what kept it from more, where that is an error and not the file's end.
+// How many bytes of a room were filled, and what kept it from more, where that is an error and not the file's end. It is
+// no `Result`, since the bytes that were read before an error count too.
 #[derive(Clone, Copy)]
 pub struct Filled {
     pub size: usize,
@@ -29,12 +30,8 @@ pub fn fill(file: &mut impl Read, room: &mut [u8]) -> Filled
     let mut size = 0;
     while size < room.len() {
         match file.read(&mut room[size..]) {
-            Ok(n) => {
-                if n == 0 {
-                    return Filled { size, error: None };
-                }
-                size += n;
-            }
+            Ok(0) => return Filled { size, error: None },
+            Ok(n) => size += n,
             Err(e) => {
                 return Filled {
                     size,

@@ -22,14 +22,10 @@ const LONGEST: usize = 320;
 fn words_end(text: &[u8]) -> usize
     ensures { result ≤ length text.now }
 {
-    let mut end = text.len();
-    while 0 < end {
-        end -= 1;
-        if text[end] == b'(' {
-            return end.saturating_sub(1);
-        }
+    match text.iter().rposition(|b| *b == b'(') {
+        Some(at) => at.saturating_sub(1),
+        None => text.len(),
     }
-    text.len()
 }
 
 // The words of an error, without its number.

@@ -1,61 +1,33 @@
-use Prim.Native.Nat.{ℕ, ◌+◌, ◌-◌, ◌*◌, ◌/◌, ◌≤◌, ◌<◌}
-use mathlib.Core.Path.{refl, sym, ◌∙◌}
-use native.Mathlib.Nat.{div-lt_iff_lt-mul, le-div_iff_mul-le}
-use native.Mathlib.Omega.{arith}
+use Rattle.std.proofs.Common.{ℕ, ◌+◌, ◌*◌, ◌≡◌, drop, sym, ap, ◌∙◌, arith}
+use Rattle.command.specs.Numbers.{digits_from}
 use Rattle.command.specs.NumberLaws.{digits-none, digits-large, digits-turn, digits-end}
 use Rattle.command.proofs.number.digits.Goals as goal
 
--- the test for a number that is too large, without a sum that could be
-over : (base n d : ℕ) → 0 < base → d ≤ 16 → (0xFFFFFFFFFFFFFFFF - d) / base < n → 0xFFFFFFFFFFFFFFFF < n * base + d
-over base n d p s h = let m = (div-lt_iff_lt-mul p).0 h in omega (arith, m)
-
-within : (base n d : ℕ) → 0 < base → d ≤ 16 → n ≤ (0xFFFFFFFFFFFFFFFF - d) / base → n * base + d ≤ 0xFFFFFFFFFFFFFFFF
-within base n d p s h = let m = (le-div_iff_mul-le p).0 h in omega (arith, m)
-
-pub loop-i-init : goal.loop-i-init
-loop-i-init c =
-    record { positive = omega arith; small = omega arith; same = refl }
-
 pub returns-then-base-d : goal.returns-then-base-d
 returns-then-base-d c =
-    let a = c.args in
-    let l = c.loop-i in
-    sym (digits-none a.base l.n a.text.now l.i (omega arith) c.digit-d.ensures (omega arith)) ∙ l.invariant.same
+    let l = c.loop-b in
+    sym (digits-none c.args.base l.n c.args.text.now l.b-index (omega arith) c.digit-d.ensures (omega arith)) ∙ l.invariant
 
-pub returns-then-d-base : goal.returns-then-d-base
-returns-then-d-base c =
-    let a = c.args in
-    let l = c.loop-i in
-    sym (digits-large a.base l.n a.text.now l.i (omega arith) c.digit-d.ensures (omega arith)
-    (over a.base l.n _ l.invariant.positive (omega arith) c.if-d-base.true))
-    ∙ l.invariant.same
+pub returns-in_default : goal.returns-in_default
+returns-in_default c =
+    let l = c.loop-b in
+    sym (digits-large c.args.base l.n c.args.text.now l.b-index (omega arith) c.digit-d.ensures (omega arith) (omega (arith, c.in_default.ensures))) ∙ l.invariant
 
-pub overflow_mul-n : goal.overflow_mul-n
-overflow_mul-n c =
-    let a = c.args in
-    let l = c.loop-i in
-    omega (arith, within a.base l.n c.digit-d.result l.invariant.positive (omega arith) (omega arith))
+pub returns-in_default-checked_add : goal.returns-in_default-checked_add
+returns-in_default-checked_add c =
+    let l = c.loop-b in
+    sym (digits-large c.args.base l.n c.args.text.now l.b-index (omega arith) c.digit-d.ensures (omega arith)
+    (omega (arith, c.in-Some.ensures, c.in_default-checked_add.ensures))) ∙ l.invariant
 
-pub overflow_add-n : goal.overflow_add-n
-overflow_add-n c =
-    let a = c.args in
-    let l = c.loop-i in
-    omega (arith, within a.base l.n c.digit-d.result l.invariant.positive (omega arith) (omega arith))
-
-pub loop-i-preserved : goal.loop-i-preserved
-loop-i-preserved c =
-    let a = c.args in
-    let l = c.loop-i in
-    record {
-      positive = l.invariant.positive;
-      small = l.invariant.small;
-      same = sym (digits-turn a.base l.n a.text.now l.i (omega arith) c.digit-d.ensures (omega arith)
-          (within a.base l.n _ l.invariant.positive (omega arith) (omega arith)))
-          ∙ l.invariant.same;
-    }
+pub loop-b-preserved : goal.loop-b-preserved
+loop-b-preserved c =
+    let l = c.loop-b in
+    let sum : c.in-Some-checked_add.next ≡ l.n * c.args.base + c.digit-d.result = omega (arith, c.in-Some.ensures, c.in-Some-checked_add.ensures) in
+    ap (λ (n : ℕ). digits_from c.args.base n (drop (l.b-index + 1) c.args.text.now)) sum
+    ∙ (sym (digits-turn c.args.base l.n c.args.text.now l.b-index (omega arith) c.digit-d.ensures (omega arith) (omega (arith, c.in-Some.ensures, c.in-Some-checked_add.ensures)))
+    ∙ l.invariant)
 
 pub returns : goal.returns
 returns c =
-    let a = c.args in
-    let l = c.loop-i in
-    sym (digits-end a.base l.n a.text.now l.i (omega arith)) ∙ l.invariant.same
+    let l = c.loop-b in
+    sym (digits-end c.args.base l.n c.args.text.now l.b-index (omega arith)) ∙ l.invariant

@@ -1,31 +1,31 @@
 -- `read_stretch` reads the number before the colon, then the number behind it. Assumes nothing.
-use mathlib.Core.Path.{refl, sym, ◌∙◌}
+use Rattle.std.proofs.Common.{length, refl, sym, ◌∙◌}
+use Rattle.std.proofs.lemmas.Result.{err_from_is_err_and}
 use borrow.Author.Tests.{le-leb}
-use lib.ListN.{length}
-use Rattle.command.specs.Stretches.{stretch_read}
-use Rattle.command.specs.StretchLaws.{stretch-of}
+use Rattle.command.specs.Stretches.{colon_in, stretch_read}
+use Rattle.command.specs.StretchLaws.{stretch-of, colon-none, colon-some}
 use Rattle.command.proofs.stretch.read_stretch.Goals as goal
 
-pub returns-then-word-at : goal.returns-then-word-at
+pub returns-in_default : goal.returns-in_default
 unfolding stretch_read
-returns-then-word-at c =
-    rw (← c.colon-at.ensures, le-leb (length c.args.word.now) c.colon-at.result c.if-word-at.true)
+returns-in_default c =
+    let word = c.args.word.now in
+    rw (c.at.ensures, le-leb (length word) (colon_in word) (colon-none word (sym c.colon.ensures ∙ c.in_default.is)))
 
-pub returns-in-Number-read_number : goal.returns-in-Number-read_number
-returns-in-Number-read_number c =
-    let a = c.args in
-    stretch-of a.word.now a.i c.colon-at.ensures c.if-word-at.false
-    (sym c.in-Number.is ∙ c.read_number.ensures)
-    (sym c.in-Number-read_number.is ∙ c.read_number-in-Number.ensures)
+pub returns-in_err-start : goal.returns-in_err-start
+returns-in_err-start c =
+    let p = err_from_is_err_and c.from_residual.result c.from_residual.ensures.1 in
+    let at = colon-some c.args.word.now c.in-Some.at (sym c.colon.ensures ∙ c.in-Some.is) in
+    rw (p.1, p.2) (stretch-of c.args.word.now c.args.i at.0 at.1 (sym c.in_err-start.was ∙ c.read_number.ensures) refl)
 
-pub returns-in-Wrong-read_number : goal.returns-in-Wrong-read_number
-returns-in-Wrong-read_number c =
-    let a = c.args in
-    stretch-of a.word.now a.i c.colon-at.ensures c.if-word-at.false
-    (sym c.in-Number.is ∙ c.read_number.ensures)
-    (sym c.in-Wrong-read_number.is ∙ c.read_number-in-Number.ensures)
+pub returns-in_err-len : goal.returns-in_err-len
+returns-in_err-len c =
+    let p = err_from_is_err_and c.from_residual-in_err-len.result c.from_residual-in_err-len.ensures.1 in
+    let at = colon-some c.args.word.now c.in-Some.at (sym c.colon.ensures ∙ c.in-Some.is) in
+    rw (p.1, p.2)
+    (stretch-of c.args.word.now c.args.i at.0 at.1 (sym c.in_ok-start.was ∙ c.read_number.ensures) (sym c.in_err-len.was ∙ c.read_number-2.ensures))
 
-pub returns-in-Wrong : goal.returns-in-Wrong
-returns-in-Wrong c =
-    let a = c.args in
-    stretch-of a.word.now a.i c.colon-at.ensures c.if-word-at.false (sym c.in-Wrong.is ∙ c.read_number.ensures) refl
+pub returns : goal.returns
+returns c =
+    let at = colon-some c.args.word.now c.in-Some.at (sym c.colon.ensures ∙ c.in-Some.is) in
+    stretch-of c.args.word.now c.args.i at.0 at.1 (sym c.in_ok-start.was ∙ c.read_number.ensures) (sym c.in_ok-len.was ∙ c.read_number-2.ensures)

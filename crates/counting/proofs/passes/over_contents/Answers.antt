@@ -5,4 +5,4 @@ use Rattle.counting.proofs.passes.over_contents.Goals as goal
 pub loop-content-smaller : goal.loop-content-smaller
 loop-content-smaller c =
     fewer-sections c.args.library.now c.loop-content.at
-    (sym c.next_content.ensures ∙ c.in-Item.is)
+    (sym c.next_content.ensures ∙ c.in-Some.is)
