@@ -72,6 +72,16 @@ module _ (k x i : ℕ) (h : Stands k x i) where
   within_same [] = refl
   within_same (s ∷ rest) = rw (one_same s, within_same rest) refl
 
+-- what is shown of the file grows with it
+pub place-grows : (k x y : ℕ) → x ≤ y → place k x ≤ place k y
+place-grows k x y l = both (min x 32768) (min y 32768) (min (x - bank_start k) 32768) (min (y - bank_start k) 32768) (less x y l) (less (x - bank_start k) (y - bank_start k) (omega (arith, l)))
+  where
+    less : (x y : ℕ) → x ≤ y → min x 32768 ≤ min y 32768
+    less x y h = omega (arith, h)
+
+    both : (a b c d : ℕ) → a ≤ b → c ≤ d → a + c ≤ b + d
+    both a b c d h g = omega (arith, h, g)
+
 -- the numbers of a cover, cut
 cut-stretches : (k : ℕ) (xs : List ℕ) → stretches_in (cut_numbers k xs) ≡ map (cut_one k) (stretches_in xs)
 unfolding stretches_in cut_numbers

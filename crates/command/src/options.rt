@@ -41,7 +41,8 @@ pub struct Options {
     pub withheld: Result<(), Mistake>,
 }
 
-// A chain of tests: as a `match` on byte strings 75 goals stay open, one for each byte at which a word may be another.
+// It is a chain of tests, since as a `match` on byte strings 75 goals stay open, one for each byte at which a word may be
+// another.
 #[tactic(auto, unfolding(crate::specs::Options::option_in))]
 fn option_of(word: &[u8]) -> Kind
     ensures { result ≡ option_of word.now }

@@ -1,15 +1,16 @@
 -- Laws of descriptions: what the words of a name come to, and what is written. Assumes nothing.
-use Rattle.std.specs.Prelude.{ℕ, suc, ◌+◌, ◌-◌, ◌≤◌, ◌≡◌, refl, Bool, true, false, length, take, drop, set, Ok, Some, if◌then◌else◌}
+use Rattle.std.specs.Prelude.{ℕ, suc, ◌+◌, ◌-◌, ◌≤◌, ◌<◌, ◌≡◌, refl, Bool, true, false, length, take, drop, set, Ok, Err, Some, None, if◌then◌else◌}
 use Rattle.std.proofs.Math.Path.{sym, ap}
 use Rattle.std.proofs.Common.{◌∙◌, add-zero, zero-add, add-suc, suc-add, arith, drop-drop, append_assoc, length-append, le-leb}
 use mathlib.Core.List.{List, [], ◌∷◌, ◌++◌, append-nil}
 use Rattle.std.proofs.Math.Option.{none, some}
 use Rattle.std.proofs.Math.ListN.{get_elem?}
+use Rattle.std.proofs.lemmas.Bool.{lt-leb}
 use Rattle.std.proofs.lemmas.List.Edits.{sets, sets-eq}
 use borrow.Rule.Slice.PartMut.{put_mid}
 use Rattle.lent.specs.Lists.{place_of}
 use Rattle.describe.specs.Describe.{Words, Said, front, signs, types, operations, starts_with, one_of, word_off, text, more, ◌or◌, perhaps, moving, said_in, description, describe}
-use Rattle.describe.specs.Described.{Answer, unless_missing, Put, described}
+use Rattle.describe.specs.Described.{Answer, unless_missing, Put, answered, described}
 
 -- a word that may be missing
 pub perhaps-said : (words : Words) (name : List ℕ) {w s : Said} → s ≡ unless_missing w name → w ≡ one_of words name → s ≡ perhaps (one_of words) name
@@ -83,6 +84,12 @@ sets-front out t h = sets-eq t out 0 (omega arith) ∙ rw zero-add
 
 -- what is answered
 module _ (name out : List ℕ) where
+  pub undescribed : none ≡ describe name → ◌≡◌ {A = Answer × List ℕ} (Ok None, out) (described name out)
+  undescribed e = ap (λ o. answered o out) e
+
+  pub too_short : {t : List ℕ} → some t ≡ describe name → length out < length t → ◌≡◌ {A = Answer × List ℕ} (Err (record {}), out) (described name out)
+  too_short {t} e h = rw (sym e, lt-leb (length t) (length out) h)
+
   pub fits : {t after : List ℕ} {end : ℕ} → some t ≡ describe name → length t ≤ length out → Put out 0 t after end
       → ◌≡◌ {A = Answer × List ℕ} (Ok (Some end), after) (described name out)
   fits {t} e h p = rw (p.ends, p.stored, sym e, le-leb (length t) (length out) h, sets-front out t h, zero-add)

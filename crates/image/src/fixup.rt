@@ -19,7 +19,8 @@ pub enum Kind {
 }
 
 // The target of a reference: an address; or none, since its bytes pass the image's end, or, where they do not, since one
-// of them is withheld. It is no `Result`, since nobody hands a missing target on: each caller tells the two reasons apart.
+// of them is withheld. It is no `Result`, since no caller hands a missing target on: the check of references tells why there
+// is none, and the others pass it over.
 #[derive(Clone, Copy, Debug, PartialEq, Eq)]
 pub enum Target {
     At(u64),

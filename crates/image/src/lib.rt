@@ -105,7 +105,8 @@ fn part_agrees(image: &[u8], bytes: &[u8], masks: &[u8], at: usize, i: usize) ->
 }
 
 // How many of the first n bytes of a pattern agree with the image, found by parts of 32: all n, or the bytes before the
-// first part that does not agree. The last part overlaps the one before it where 32 does not divide n.
+// first part that does not agree. The last part overlaps the one before it where 32 does not divide n, so that this is no
+// walk over a range.
 fn parts_agreeing(image: &[u8], bytes: &[u8], masks: &[u8], at: usize, n: usize) -> usize
     requires { (32 ≤ n) × Reaches image.now bytes.now masks.now at n }
     ensures { Agreeing image.now bytes.now masks.now at n result }

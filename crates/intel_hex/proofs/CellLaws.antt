@@ -10,6 +10,7 @@ use native.Mathlib.Omega.{arith}
 use borrow.Author.Tests.{not-true, not-false, ne_eqb, lt-ltb, le-ltb, le-leb, lt-leb}
 use Rattle.std.specs.Int.Bits.{bit_or}
 use Rattle.std.proofs.Math.ListN.{length}
+use Rattle.std.proofs.lemmas.List.{length-replicate}
 use Rattle.std.proofs.lemmas.List.Edits.{sets}
 use Rattle.lent.specs.Lists.{one, any, from}
 use Rattle.lent.specs.ListLaws.{from-turn}
@@ -60,6 +61,10 @@ zero-at (suc n) (suc k) = zero-at n k
 pub no-memory : memory_in no_cells ≡ nothing
 unfolding memory_in no_cells
 no-memory = fun_ext (λ k. rw (zero-at 65536 k))
+
+pub no_length : length no_cells ≡ 65536
+unfolding no_cells
+no_length = length-replicate {A = ℕ} 65536 0
 
 -- what is given: within the bytes, and outside of them
 module _ (address : ℕ) (bytes : List ℕ) (memory : Memory) (k : ℕ) where

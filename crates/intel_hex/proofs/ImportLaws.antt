@@ -13,7 +13,7 @@ use Rattle.intel_hex.specs.Outcome.{made, refused, stored}
 use Rattle.intel_hex.specs.Digits.{bytes_at}
 use Rattle.intel_hex.specs.Record.{Step, data_record, record_at}
 use Rattle.intel_hex.specs.Import.{Memory, given, any_given, end_after, byte_or, image_of, after, walk, imported}
-use Rattle.intel_hex.specs.Cells.{no_cells, byte_in, memory_in, image_in, made_in, Noted}
+use Rattle.intel_hex.specs.Cells.{no_cells, byte_in, memory_in, image_in, end_in, made_in, Noted}
 use Rattle.intel_hex.proofs.CellLaws.{no-memory}
 use Rattle.intel_hex.specs.declared.HexRefusal.{HexRefusal}
 use Rattle.intel_hex.specs.declared.HexRefusal.TheVariants.{NoRoom, GivenTwice}
@@ -74,6 +74,9 @@ end-most most end address size h l = chosen (λ n. n ≤ most) (eqb size 0) (λ 
 module _ (text before last : List ℕ) {r s : Result ℕ HexRefusal} (n : Noted text before last r) (none : before ≡ no_cells) (e : r ≡ s) where
   pub came : made_in s last ≡ imported text
   came = ap (λ a. made_in a last) (sym e) ∙ n.same ∙ ap (λ m. walk text (length text + 1) 0 m 0) (ap memory_in none ∙ no-memory)
+
+  pub end-within : end_in s ≤ 65536
+  end-within = rw e at n.within
 
 module _ (text cells : List ℕ) (end : ℕ) (out : List ℕ) (e : made_in (Ok end) cells ≡ imported text) where
   image : made (image_in cells end) ≡ imported text

@@ -27,6 +27,13 @@ summed s None = None
 abbrev pub added : ℕ → ℕ → Option ℕ → Option ℕ
 added others s t = if eqb others 0 then summed s t else None
 
+pub added_none : (text : List ℕ) (at n : ℕ) → added 0 0 (sum_of text at n) ≡ sum_of text at n
+added_none text at n = go (are_digits text at n)
+  where
+    go : (t : Bool) → summed 0 (if t then Some (sum (bytes_at text at n) % 256) else None) ≡ (if t then Some (sum (bytes_at text at n) % 256) else None)
+    go true = ap Some (omega arith)
+    go false = refl
+
 -- a digit leaves nothing of its value's upper half
 none_left : (d : ℕ) → eqb (d / 16) 0 ≡ ltb d 16
 none_left d =

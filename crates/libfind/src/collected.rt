@@ -150,7 +150,7 @@ fn asked_of(settings: Settings) -> Asked
     }
 }
 
-// The rule set of a number that was accepted.
+// The rule set of a number that was accepted. A `From` would say that every number is a rule set.
 pub fn rules_of(number: u64) -> Rules
     ensures { result ≡ rules_of number }
 {

@@ -20,7 +20,7 @@ fn is_bare(positions: &[u32], goals: &[u32], at: usize) -> bool
     some == 0
 }
 
-// Passes over positions without rows from `from` on, part by part.
+// Passes over positions without rows from `from` on, part by part, and so by no range.
 fn skip_parts(positions: &[u32], goals: &[u32], from: usize, end: usize) -> usize
     ensures { Skips positions.now goals.now from end result }
 {

@@ -8,3 +8,4 @@ pub mod OutcomeLaws
 pub mod ReachesExamples
 pub mod ReachesLaws
 pub mod RecordLaws
+pub mod TypeLaws

@@ -9,7 +9,7 @@ use crate::types::Allowed;
 use crate::{Edition, Frame};
 use lent::refusal::Refusal;
 
-// The edition of a number: 2, or else 1.
+// The edition of a number: 2, or else 1. A `From` would say that every number is an edition.
 pub fn edition_of(number: u64) -> Edition
     ensures { result ≡ edition_of number }
 {

@@ -1,6 +1,6 @@
 -- The targets that the code works out are rule set 1's. Assumes nothing.
 use Rattle.std.specs.Prelude.{ℕ, ◌+◌, ◌-◌, ◌%◌, ◌^◌, ◌≤◌, ◌<◌, ◌≡◌, refl, Bool, true, false, List, ltb, length, if◌then◌else◌}
-use Rattle.std.proofs.Common.{sym, ap, ◌∙◌, arith}
+use Rattle.std.proofs.Common.{sym, ap, ◌∙◌, arith, lt-ltb, le-ltb}
 use Rattle.image.specs.View.{view, cell_at}
 use Rattle.image.specs.declared.Stretch.{Stretch}
 use Rattle.image.specs.Window.{is_apart}
@@ -45,6 +45,17 @@ page-sum pos a b h l = omega arith
 
 long-sum : (a b : ℕ) → a < 256 → b < 256 → long_to a b ≡ addr16 a b % 65536
 long-sum a b h l = omega arith
+
+-- a jump by a signed byte, of either sign; and the row of an instruction by where it leads
+pub short-low : (next b : ℕ) → b < 128 → (next % 65536 + b) % 65536 ≡ short_to next b
+short-low next b h = rw (lt-ltb b 128 h)
+
+pub short-high : (next b : ℕ) → 128 ≤ b → (next % 65536 + b + 65280) % 65536 ≡ short_to next b
+short-high next b h = rw (le-ltb b 128 h) (omega arith)
+
+pub row-by : (image : List ℕ) (at next opcode : ℕ) (l : Leads) {t : ℕ} → leads_of opcode ≡ l → t ≡ target_by image next opcode l
+    → ◌≡◌ {A = Row} (record { address = at; what = what_of l t }) (row_by image at next opcode)
+row-by image at next opcode l e q = rw (q, e)
 
 -- an LJMP and an LCALL have three bytes
 long-ends : (opcode : ℕ) (l : Leads) → opcode < 256 → leads_of opcode ≡ l → place_of l + bytes_of l ≡ 3 → 0 < lead_number l → length_of opcode ≡ 3

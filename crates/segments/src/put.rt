@@ -10,8 +10,7 @@ use image::fixup::Kind;
 use lent::rows;
 use lent::rows::Row;
 
-// Where a segment may stand, as two numbers: 0 and 0 for anywhere, 1 and the address for an absolute content. These are
-// functions and no `From`, here and in rows.rt: `Seat` and `Kind` are of another crate.
+// Where a segment may stand, as two numbers: 0 and 0 for anywhere, 1 and the address for an absolute content.
 fn seat_pair(seat: Seat) -> Pair
     ensures { result ≡ seat_pair seat }
 {
@@ -42,7 +41,7 @@ fn goal_triple(goal: Goal) -> Triple
     }
 }
 
-// The number of a kind in the file.
+// The number of a kind in the file. It is a function and no `From`, as `kind_from` is, since `Kind` is of another crate.
 fn kind_number(kind: Kind) -> u64
     ensures { result ≡ kind_number kind }
 {

@@ -30,7 +30,8 @@ fn name_place(
 }
 
 // Puts the symbols of the public definitions inside the window, going over the flagged blocks; a block
-// without a flag is passed over at once. `publics` has the public definitions of id 0 by offset; n of them count.
+// without a flag is passed over at once. `publics` has the public definitions of id 0 by offset; n of them count. The place
+// goes on by one or by a block, so that this is no walk over a range.
 fn name_blocks(
     library: &[u8],
     window: Window,
