@@ -99,7 +99,10 @@ returns-in_err-c c =
     record {
       tells = s.ensures.tells;
       long = lengths-on i.long s.ensures.long;
-      stored = subst (After (collect a.rules lib (items_at lib (module_at lib) a.from)) (left (goal.at.returns-in_err-c c).After-store_module)) (sym (handed_on c.from_residual.result c.from_residual.ensures.1)) (collecting-lacks a.rules lib (items_at lib (module_at lib) a.from) (held (goal.at.returns-in_err-c c).After-store_module) (left (goal.at.returns-in_err-c c).After-store_module) l.c s.result (module_of One lib p)
+      stored = subst (After (collect a.rules lib (items_at lib (module_at lib) a.from)) (left (goal.at.returns-in_err-c c).After-store_module))
+          (sym (handed_on c.from_residual.result c.from_residual.ensures.1))
+          (collecting-lacks a.rules lib (items_at lib (module_at lib) a.from) (held (goal.at.returns-in_err-c c).After-store_module)
+          (left (goal.at.returns-in_err-c c).After-store_module) l.c s.result (module_of One lib p)
           (modules-step One lib l.at (stands (goal.at.returns-in_err-c c).After-store_module)) (i.collecting a.rules o) (s.ensures.extends a.rules o) c.in_err-c.was);
     }
 
@@ -117,7 +120,8 @@ loop-module-preserved c =
     let p = c.in-Ok-Some.module in
     let on : (rules : Rules) → c.is_own-own.result ≡ own_by rules → Collecting rules lib (items_at lib (module_at lib) a.from)
     (items_at lib (module_at lib) p.next) (left (goal.at.loop-module-preserved c).After-store_module) c.in_ok-c.c = λ rules o. collecting-on rules lib
-    (items_at lib (module_at lib) a.from) (held (goal.at.loop-module-preserved c).After-store_module) (left (goal.at.loop-module-preserved c).After-store_module) l.c s.result (module_of One lib p) (modules-step One lib l.at (stands (goal.at.loop-module-preserved c).After-store_module))
+    (items_at lib (module_at lib) a.from) (held (goal.at.loop-module-preserved c).After-store_module)
+    (left (goal.at.loop-module-preserved c).After-store_module) l.c s.result (module_of One lib p) (modules-step One lib l.at (stands (goal.at.loop-module-preserved c).After-store_module))
     (i.collecting rules o) (s.ensures.extends rules o) c.in_ok-c.was in (
       record {
         table-long = c.table-1.given ∙ l.invariant.0.table-long;

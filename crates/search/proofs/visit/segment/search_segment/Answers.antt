@@ -75,7 +75,8 @@ returns c =
 
 pub loop-at-smaller : goal.loop-at-smaller
 loop-at-smaller c =
-    let reached : Reached c.args.view.image.now (stretches_in c.args.view.s.now) c.name-pattern.result.now c.name-masked.result.now c.loop-at.left c.in-Some.field-0.at c.in-Some.field-0.rest = stepped-at c.args.view.image.now (stretches_in c.args.view.s.now) c.name-pattern.result.now c.name-masked.result.now
+    let reached : Reached c.args.view.image.now (stretches_in c.args.view.s.now) c.name-pattern.result.now c.name-masked.result.now c.loop-at.left
+    c.in-Some.field-0.at c.in-Some.field-0.rest = stepped-at c.args.view.image.now (stretches_in c.args.view.s.now) c.name-pattern.result.now c.name-masked.result.now
     c.loop-at.left c.in-Some.is c.next_place.ensures in
     reached-less c.args.view.image.now (stretches_in c.args.view.s.now) c.name-pattern.result.now c.name-masked.result.now
     c.loop-at.left (reached)
@@ -84,9 +85,11 @@ pub loop-at-preserved : goal.loop-at-preserved
 loop-at-preserved c =
     let rows : Stored = stored_in c.args.store in
     let cells : List ℕ = seen c.args.view in
-    let reached : Reached c.args.view.image.now (stretches_in c.args.view.s.now) c.name-pattern.result.now c.name-masked.result.now c.loop-at.left c.in-Some.field-0.at c.in-Some.field-0.rest = stepped-at c.args.view.image.now (stretches_in c.args.view.s.now) c.name-pattern.result.now c.name-masked.result.now
+    let reached : Reached c.args.view.image.now (stretches_in c.args.view.s.now) c.name-pattern.result.now c.name-masked.result.now c.loop-at.left
+    c.in-Some.field-0.at c.in-Some.field-0.rest = stepped-at c.args.view.image.now (stretches_in c.args.view.s.now) c.name-pattern.result.now c.name-masked.result.now
     c.loop-at.left c.in-Some.is c.next_place.ensures in
-    let decided : let a = c.args in KnownDeep (cells) a.asked a.library.now (rows) a.store.n c.segment_at-row.result c.in-Some.field-0.at c.if-asked-gt1.deep × ToldOf (cells) a.asked (rows) a.store.n c.if-asked-gt1.told = let a = c.args in
+    let decided : let a = c.args in KnownDeep (cells) a.asked a.library.now (rows) a.store.n c.segment_at-row.result c.in-Some.field-0.at
+    c.if-asked-gt1.deep × ToldOf (cells) a.asked (rows) a.store.n c.if-asked-gt1.told = let a = c.args in
     let Deep : Bool → Type 0 = KnownDeep (cells) a.asked a.library.now (rows) a.store.n c.segment_at-row.result c.in-Some.field-0.at in
     let True : List ℕ → Type 0 = ToldOf (cells) a.asked (rows) a.store.n in
     elim c.if-asked-gt1.branch [
