@@ -11,7 +11,7 @@ use Rattle.bank_rules.specs.Banks.{Has}
 use Rattle.banks.specs.Turns.{FindsView, joined_counts}
 use Rattle.banks.specs.BoardLaws.{Shown, shown-starts, shown-room, shown-on, shown-stops, shown-ends}
 use Rattle.banks.proofs.views.find_views.Goals as goal
-use Rattle.banks.proofs.views.find_views.Goals.{After-without_rows-counts}
+use Rattle.banks.proofs.views.find_views.Goals.{After-without_rows-counts, In-Ok}
 
 abbrev lent : (c : After-without_rows-counts) → Lent
 lent c =
@@ -69,82 +69,61 @@ returns-in-Err c =
     (lent (goal.at.returns-in-Err c).After-without_rows-counts) a.collected c.loop-k.invariant (omega (arith, c.loop-k-test.true)) (has-view)
     (kept) (finds _ told) (c.fill.ensures.after (λ y e. e))
 
+-- the lists as the turn began, and behind the bank's list, where it was made
+abbrev turn : (c : In-Ok) → Lent
+turn c =
+    let l = c.loop-k in lent_lists l.segments l.references l.symbols l.bytes l.masks l.placed l.noted l.lines
+
+abbrev after : (c : In-Ok) → Lent
+after c =
+    let q = c.find_view.new in lent_lists q.segments q.references q.symbols q.bytes q.masks q.placed q.noted q.lines
+
+abbrev begun : (c : In-Ok) → Lent
+begun c =
+    let a = c.args in lent_lists a.segments.now a.references.now a.symbols.now a.bytes.now a.masks.now a.placed.now a.noted.now a.lines.now
+
+abbrev cells : (c : In-Ok) → List ℕ
+cells c =
+    view c.args.file.now (cover c.args.settings)
+
+kept : (c : In-Ok) → SameLengths (after c) (turn c)
+kept c = record {
+  segments = c.segments-1.given;
+  references = c.references-1.given;
+  symbols = c.symbols-1.given;
+  bytes = c.bytes-1.given;
+  masks = c.masks-1.given;
+  placed = c.placed-1.given;
+  noted = c.noted-1.given;
+  lines = c.lines-1.given;
+}
+
+on : (c : In-Ok) → let a = c.args in let l = c.loop-k in let next = c.in-Ok.next in Shown (cells c) a.library.now a.settings a.banks (begun c) a.collected (l.k + 1) (after c)
+    (joined_counts l.counts next (l.counts.lines + next.lines)) (set l.each l.k next.lines)
+on c =
+    let a = c.args in
+    let l = c.loop-k in
+    let has-bank : Has l.k a.file.now = omega (arith, c.loop-k-test.true, c.requires.0) in
+    let has-view : Has l.k (cells c) = omega (arith, has-bank, view-length a.file.now (cover a.settings)) in
+    let few : l.k < 16 = omega (arith, c.loop-k-test.true, c.requires.2) in
+    shown-on (cells c) a.library.now a.settings a.banks (begun c) a.collected l.invariant (omega (arith, c.loop-k-test.true)) (has-view) (kept c)
+    (subst (λ x. FindsView (cells c) a.library.now a.settings a.collected l.k (l.counts.lines * 4) (turn c) x (after c)) c.in-Ok.is c.find_view.ensures) (few)
+
 pub overflow_add-counts : goal.overflow_add-counts
 overflow_add-counts c =
-    let turn : Lent = let l = c.loop-k in lent_lists l.segments l.references l.symbols l.bytes l.masks l.placed l.noted l.lines in
-    let after : Lent = let q = c.find_view.new in
-    lent_lists q.segments q.references q.symbols q.bytes q.masks q.placed q.noted q.lines in
-    let kept : SameLengths (after) (turn) = record {
-      segments = c.segments-1.given;
-      references = c.references-1.given;
-      symbols = c.symbols-1.given;
-      bytes = c.bytes-1.given;
-      masks = c.masks-1.given;
-      placed = c.placed-1.given;
-      noted = c.noted-1.given;
-      lines = c.lines-1.given;
-    } in
-    let has-bank : let a = c.args in Has c.loop-k.k a.file.now = omega (arith, c.loop-k-test.true, c.requires.0) in
-    let has-view : Has c.loop-k.k (seen (goal.at.overflow_add-counts c).After-without_rows-counts) = let a = c.args in omega (arith, has-bank, view-length a.file.now (cover a.settings)) in
-    let few : c.loop-k.k < 16 = omega (arith, c.loop-k-test.true, c.requires.2) in
-    let finds : (r : Answer) → c.find_view.result ≡ r → let a = c.args in let l = c.loop-k in FindsView
-    (seen (goal.at.overflow_add-counts c).After-without_rows-counts) a.library.now a.settings a.collected l.k (l.counts.lines * 4) (turn) r (after) = λ _ e. let a = c.args in
-    let l = c.loop-k in
-    subst (λ x. FindsView (seen (goal.at.overflow_add-counts c).After-without_rows-counts) a.library.now a.settings a.collected l.k (l.counts.lines * 4) (turn) x (after)) e c.find_view.ensures in
-    let kept-all : SameLengths (after) (lent (goal.at.overflow_add-counts c).After-without_rows-counts) = let k = kept in
-    let l = c.loop-k.invariant.listed.long in
-    record {
-      segments = k.segments ∙ l.segments;
-      references = k.references ∙ l.references;
-      symbols = k.symbols ∙ l.symbols;
-      bytes = k.bytes ∙ l.bytes;
-      masks = k.masks ∙ l.masks;
-      placed = k.placed ∙ l.placed;
-      noted = k.noted ∙ l.noted;
-      lines = k.lines ∙ l.lines;
-    } in
-    let on : let a = c.args in let l = c.loop-k in let next = c.in-Ok.next in Shown
-    (seen (goal.at.overflow_add-counts c).After-without_rows-counts) a.library.now a.settings a.banks
-    (lent (goal.at.overflow_add-counts c).After-without_rows-counts) a.collected (l.k + 1) (after)
-    (joined_counts l.counts next (l.counts.lines + next.lines)) (set l.each l.k next.lines) = let a = c.args in
-    shown-on (seen (goal.at.overflow_add-counts c).After-without_rows-counts) a.library.now a.settings a.banks
-    (lent (goal.at.overflow_add-counts c).After-without_rows-counts) a.collected c.loop-k.invariant (omega (arith, c.loop-k-test.true)) (has-view)
-    (kept) (finds _ c.in-Ok.is) (few) in
+    let ok = (goal.at.overflow_add-counts c).In-Ok in
     let a = c.args in
     omega (
       arith,
-      shown-room (seen (goal.at.overflow_add-counts c).After-without_rows-counts) a.library.now a.settings a.banks
-          (lent (goal.at.overflow_add-counts c).After-without_rows-counts) a.collected (on),
-      (kept-all).lines,
+      shown-room (cells ok) a.library.now a.settings a.banks (begun ok) a.collected (on ok),
+      (kept ok).lines,
+      c.loop-k.invariant.listed.long.lines,
       c.well_formed,
     )
 
 pub loop-k-preserved : goal.loop-k-preserved
 loop-k-preserved c =
-    let turn : Lent = let l = c.loop-k in lent_lists l.segments l.references l.symbols l.bytes l.masks l.placed l.noted l.lines in
-    let after : Lent = let q = c.find_view.new in
-    lent_lists q.segments q.references q.symbols q.bytes q.masks q.placed q.noted q.lines in
-    let kept : SameLengths (after) (turn) = record {
-      segments = c.segments-1.given;
-      references = c.references-1.given;
-      symbols = c.symbols-1.given;
-      bytes = c.bytes-1.given;
-      masks = c.masks-1.given;
-      placed = c.placed-1.given;
-      noted = c.noted-1.given;
-      lines = c.lines-1.given;
-    } in
-    let has-bank : let a = c.args in Has c.loop-k.k a.file.now = omega (arith, c.loop-k-test.true, c.requires.0) in
-    let has-view : Has c.loop-k.k (seen (goal.at.loop-k-preserved c).After-without_rows-counts) = let a = c.args in omega (arith, has-bank, view-length a.file.now (cover a.settings)) in
-    let few : c.loop-k.k < 16 = omega (arith, c.loop-k-test.true, c.requires.2) in
-    let finds : (r : Answer) → c.find_view.result ≡ r → let a = c.args in let l = c.loop-k in FindsView
-    (seen (goal.at.loop-k-preserved c).After-without_rows-counts) a.library.now a.settings a.collected l.k (l.counts.lines * 4) (turn) r (after) = λ _ e. let a = c.args in
-    let l = c.loop-k in
-    subst (λ x. FindsView (seen (goal.at.loop-k-preserved c).After-without_rows-counts) a.library.now a.settings a.collected l.k (l.counts.lines * 4) (turn) x (after)) e c.find_view.ensures in
-    let a = c.args in
-    shown-on (seen (goal.at.loop-k-preserved c).After-without_rows-counts) a.library.now a.settings a.banks
-    (lent (goal.at.loop-k-preserved c).After-without_rows-counts) a.collected c.loop-k.invariant (omega (arith, c.loop-k-test.true)) (has-view)
-    (kept) (finds _ c.in-Ok.is) (few)
+    on (goal.at.loop-k-preserved c).In-Ok
 
 pub returns : goal.returns
 returns c =
