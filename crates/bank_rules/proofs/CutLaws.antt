@@ -134,7 +134,7 @@ module _ (k : ℕ) (xs : List ℕ) where
   pub cutting-starts : Cutting xs 0
   cutting-starts = record { within = omega arith; long = refl; cut = refl; left = refl }
 
-  cutting-on : {now : List ℕ} {i : ℕ} → i + 1 < length xs → Cutting now i → (first last : ℕ) → first ≡ place k (get_or now i 0)
+  pub cutting-on : {now : List ℕ} {i : ℕ} → i + 1 < length xs → Cutting now i → (first last : ℕ) → first ≡ place k (get_or now i 0)
       → last ≡ place k (get_or now i 0 + get_or now (i + 1) 0) → Cutting (set (set now i first) (i + 1) (last - first)) (i + 2)
   cutting-on {now} {i} h c first last e f = record {
     within = omega arith;

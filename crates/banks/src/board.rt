@@ -11,7 +11,7 @@ pub const BANK: usize = 32768;
 // A file has so many bytes at least, the common part and a bank, and at most, the common part and 16 banks.
 const SMALLEST_BOARD: usize = 65536;
 
-const LONGEST_BOARD: usize = 557056;
+pub const LONGEST_BOARD: usize = 557056;
 
 // Whether a file of this length is a common part and 1 to 16 banks.
 fn is_banked(size: usize) -> bool

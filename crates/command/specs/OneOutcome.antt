@@ -1,13 +1,15 @@
 -- The functions from the words of the command line to the settings have one outcome each, by their contracts alone. Assumes nothing.
-use Rattle.std.specs.Prelude.{ℕ, ◌≡◌, List, Result}
+use Rattle.std.specs.Prelude.{ℕ, ◌≡◌, List, Result, replicate}
 use Rattle.lent.specs.OneOutcome.{Determines, by-equation}
 use Rattle.image.specs.declared.cover.Stretches.{Stretches}
 use Rattle.image.specs.declared.Stretch.{Stretch}
+use Rattle.command.specs.declared.mistake.Fault.{Fault}
 use Rattle.command.specs.declared.mistake.Mistake.{Mistake}
+use Rattle.command.specs.declared.number.NumberError.{NumberError}
 use Rattle.command.specs.declared.settings.Plain.{Plain}
 use Rattle.command.specs.declared.options.Valued.{Valued}
 use Rattle.command.specs.declared.options.Options.{Options}
-use Rattle.command.specs.Words.{too_long}
+use Rattle.command.specs.Words.{too_long, number_fault}
 use Rattle.command.specs.Numbers.{number_of}
 use Rattle.command.specs.Values.{number_read, number_value, rules_value}
 use Rattle.command.specs.Stretches.{stretch_value, stretch_added}
@@ -55,3 +57,14 @@ settings-of-one o = by-equation (settings_of o)
 
 pub settings-with-one : (plain : Plain) (withheld : Stretches) → Determines (λ r. r ≡ settings_with plain withheld)
 settings-with-one plain withheld = by-equation (settings_with plain withheld)
+
+-- a fault and its word; the fault of a number that can't be read
+pub fault-at-one : (fault : Fault) (i : ℕ) → Determines (λ (m : Mistake). m ≡ record { fault = fault; word = i })
+fault-at-one fault i = by-equation (record { fault = fault; word = i })
+
+pub fault-from-one : (e : NumberError) → Determines (λ fault. fault ≡ number_fault e)
+fault-from-one e = by-equation (number_fault e)
+
+-- a list to lend, of any items
+pub filled-one : {T : Type 0} (n : ℕ) (item : T) → Determines (λ list. list ≡ replicate n item)
+filled-one n item = by-equation (replicate n item)

@@ -1,7 +1,7 @@
 -- Laws of descriptions: what the words of a name come to, and what is written. Assumes nothing.
-use Rattle.std.specs.Prelude.{ℕ, suc, ◌+◌, ◌-◌, ◌≤◌, ◌<◌, ◌≡◌, refl, Bool, true, false, length, take, drop, set, Ok, Err, Some, None, if◌then◌else◌}
+use Rattle.std.specs.Prelude.{ℕ, suc, ◌+◌, ◌-◌, ◌≤◌, ◌<◌, ◌≡◌, refl, Bool, true, false, length, take, drop, set, get_or, Ok, Err, Some, None, if◌then◌else◌}
 use Rattle.std.proofs.Math.Path.{sym, ap}
-use Rattle.std.proofs.Common.{◌∙◌, add-zero, zero-add, add-suc, suc-add, arith, drop-drop, append_assoc, length-append, le-leb}
+use Rattle.std.proofs.Common.{◌∙◌, add-zero, zero-add, add-suc, suc-add, arith, drop-drop, drop_of_length-le, append_assoc, length-append, le-leb}
 use mathlib.Core.List.{List, [], ◌∷◌, ◌++◌, append-nil}
 use Rattle.std.proofs.Math.Option.{none, some}
 use Rattle.std.proofs.Math.ListN.{get_elem?}
@@ -9,8 +9,17 @@ use Rattle.std.proofs.lemmas.Bool.{lt-leb}
 use Rattle.std.proofs.lemmas.List.Edits.{sets, sets-eq}
 use borrow.Rule.Slice.PartMut.{put_mid}
 use Rattle.lent.specs.Lists.{place_of}
-use Rattle.describe.specs.Describe.{Words, Said, front, signs, types, operations, starts_with, one_of, word_off, text, more, ◌or◌, perhaps, moving, said_in, description, describe}
-use Rattle.describe.specs.Described.{Answer, unless_missing, Put, answered, described}
+use Rattle.lent.specs.PartLaws.{drop-turn}
+use Rattle.describe.specs.Describe.{Words, Said, front, signs, types, operations, moves, memories, into, starts_with, one_of, word_off, text, more, ◌or◌, perhaps, moving, said_in, description, describe}
+use Rattle.describe.specs.Described.{Answer, said, unless_missing, Put, answered, described}
+
+-- what all words say, spelled out
+pub said-is : said
+    ≡ text "signed unsigned char (8-bit) int (16-bit) general pointer long (r3-r0) long (32-bit) float "
+    ++ text "additionsubtractionmultiplydivisioncomparebitwise andbitwise orbitwise xornegationlogical notshift leftshift right"
+    ++ text "load from post-increment load from pre-increment load from constant store to store to "
+    ++ text "xdatapdata (external ram)idata (indirect ram access)code spacegeneral pointer with offsetgeneral pointer into r3-r0"
+said-is = refl
 
 -- a word that may be missing
 pub perhaps-said : (words : Words) (name : List ℕ) {w s : Said} → s ≡ unless_missing w name → w ≡ one_of words name → s ≡ perhaps (one_of words) name
@@ -58,6 +67,18 @@ module _ (name : List ℕ) {x sign l₁ l₂ : List ℕ} (e₁ : some (x, l₁) 
       → said_in (more sign (more kind (moving l₃))) ≡ describe name
   moves-on e₃ e₄ = rw (sym e₄) at (kinds e₃)
 
+module _ (sign kind name : List ℕ) where
+  pub no_move : none ≡ one_of moves name → none ≡ said_in (more sign (more kind (moving name)))
+  no_move e = rw (sym e)
+
+  pub no-memory : {verb l₁ : List ℕ} → some (verb, l₁) ≡ one_of moves name → none ≡ one_of memories l₁
+      → none ≡ said_in (more sign (more kind (moving name)))
+  no-memory e₁ e₂ = rw (sym e₁, sym e₂)
+
+  pub all_moved : {verb memory last l₁ l₂ l₃ : List ℕ} → some (verb, l₁) ≡ one_of moves name → some (memory, l₂) ≡ one_of memories l₁
+      → some (last, l₃) ≡ perhaps (one_of into) l₂ → some (sign ++ (kind ++ (verb ++ (memory ++ last)))) ≡ said_in (more sign (more kind (moving name)))
+  all_moved e₁ e₂ e₃ = rw (sym e₁, sym e₂, sym e₃)
+
 -- a text written at once
 pub put-whole : (out : List ℕ) (at n : ℕ) {t u : List ℕ} → length t ≡ n → at + n ≤ length out → u ≡ t → Put out at t (put_mid at (at + n - at) out u) (at + n)
 put-whole out at n {t} l h e =
@@ -66,6 +87,17 @@ put-whole out at n {t} l h e =
       ends = ap (λ k. at + k) (sym l);
       stored = rw (e, rest, drop-drop n at out, sym l) (sym (sets-eq t out at (omega arith) ∙ append_assoc (take at out) t (drop (at + length t) out)));
     }
+
+-- a text, byte by byte
+module _ (at : ℕ) (t out : List ℕ) where
+  pub text-none : sets out (at + 0) (drop 0 t) ≡ sets out at t
+  text-none = rw add-zero
+
+  pub text-more : (j : ℕ) → j < length t → sets (set out (at + j) (get_or t j 0)) (at + (j + 1)) (drop (j + 1) t) ≡ sets out (at + j) (drop j t)
+  text-more j h = let next : at + (j + 1) ≡ suc (at + j) = omega arith in rw (drop-turn t j 0 h, next)
+
+  pub text-all : (j : ℕ) → length t ≤ j → out ≡ sets out (at + j) (drop j t)
+  text-all j h = rw (drop_of_length-le t h)
 
 -- and piece by piece
 sets_more : (out : List ℕ) (at : ℕ) (s t : List ℕ) → sets (sets out at s) (at + length s) t ≡ sets out at (s ++ t)

@@ -61,14 +61,16 @@ fn size(s: Sentence) -> usize
     s.sign.len() + s.kind.len() + s.verb.len() + s.memory.len() + s.into.len()
 }
 
-// Puts a text at a place of the buffer, and answers where it ends.
+// Puts a text at a place of the buffer, and answers where it ends. It goes byte by byte: with `copy_from_slice` the archives for C
+// need `memmove` from whoever links them.
 pub fn put(out: &mut [u8], at: usize, text: &[u8]) -> usize
     requires { at + length text.now ≤ length out.old }
     ensures { Put out.old at text.now out.new result }
 {
-    let end = at + text.len();
-    out[at..end].copy_from_slice(text);
-    end
+    for j in 0..text.len() {
+        out[at + j] = text[j];
+    }
+    at + text.len()
 }
 
 // Writes a sentence into the buffer, and answers how many bytes it takes.

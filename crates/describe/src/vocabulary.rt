@@ -6,10 +6,7 @@ ghost use Rattle.describe.specs.Described.{words_of, said_by};
 use crate::words::{Taken, Word};
 
 // What all such names begin with; it says nothing.
-const FRONT_WORDS: [Word; 1] = [Word {
-    letters: b"?C?",
-    says: b"",
-}];
+const FRONT: &[u8] = b"?C?";
 
 // Signs, which may be missing.
 const SIGN_WORDS: [Word; 2] = [
@@ -174,11 +171,15 @@ pub fn one_of<'a>(name: &'a [u8], words: &[Word]) -> Option<Taken<'a>>
     None
 }
 
-// Takes what all such names begin with off the name.
+// Takes what all such names begin with off the name. It is the one word of its list, and most names lack it: they are passed by
+// without a look through a list.
 pub fn front(name: &[u8]) -> Option<Taken>
     ensures { said_by result ≡ one_of front name.now }
 {
-    one_of(name, &FRONT_WORDS)
+    let Some(rest) = name.strip_prefix(FRONT) else {
+        return None;
+    };
+    Some(Taken { says: b"", rest })
 }
 
 // Takes a sign off the name.

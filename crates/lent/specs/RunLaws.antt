@@ -4,13 +4,13 @@ use Rattle.std.proofs.Common.{sym, ◌∙◌, arith, eqb-true, eq-eqb}
 use Rattle.std.proofs.Math.Bool.{and-eq-true_iff}
 use Rattle.std.proofs.lemmas.Bool.{false≢true}
 use Rattle.std.proofs.Math.Decide.{dec_lt}
-use Rattle.std.specs.Int.Bits.{bit_or, or_add_and}
+use Rattle.std.specs.Int.Bits.{bit_or, bit_xor, or_add_and, xor_add_and, xor_self}
 use Rattle.std.proofs.lemmas.Nat.{and_le_l, and_le_r}
 use Rattle.lent.specs.ChoiceLaws.{same_test, both}
 use Rattle.lent.specs.Lists.{all, from}
 use Rattle.lent.specs.ListLaws.{every, if-every}
 
--- `or` leaves nothing of two nothings only
+-- `or` leaves nothing of two nothings only, and `xor` nothing of two equals only
 pub or-none : (a b : ℕ) → eqb (bit_or a b) 0 ≡ (eqb a 0 && eqb b 0)
 or-none a b = same_test (eqb (bit_or a b) 0) (eqb a 0 && eqb b 0) there back
   where
@@ -26,6 +26,15 @@ or-none a b = same_test (eqb (bit_or a b) 0) (eqb a 0 && eqb b 0) there back
     back e =
         let nothing = both (eqb a 0) (eqb b 0) e in
         eq-eqb (bit_or a b) 0 (omega (arith, eqb-true a 0 nothing.0, eqb-true b 0 nothing.1, or_add_and a b))
+
+pub xor-none : (a b : ℕ) → eqb (bit_xor a b) 0 ≡ eqb a b
+xor-none a b = same_test (eqb (bit_xor a b) 0) (eqb a b) there back
+  where
+    there : eqb (bit_xor a b) 0 ≡ true → eqb a b ≡ true
+    there e = eq-eqb a b (omega (arith, eqb-true (bit_xor a b) 0 e, xor_add_and a b, and_le_l a b, and_le_r a b))
+
+    back : eqb a b ≡ true → eqb (bit_xor a b) 0 ≡ true
+    back e = rw (eqb-true a b e, xor_self b)
 
 -- a run with one more; a run that fails within another; fewer that pass; a run that takes up where the numbers before are known to pass
 module _ (p : ℕ → Bool) where

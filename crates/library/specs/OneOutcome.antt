@@ -9,14 +9,21 @@ use Rattle.omf51.specs.Reader.{many}
 use Rattle.omf51.specs.Module.{sections_by, module_by}
 use Rattle.omf51.specs.Ends.{end_of, reached}
 use Rattle.library.specs.declared.Places.{Places}
-use Rattle.library.specs.Passes.{holds, record_end, all_end_by, sections_end_by, places_by, places_read}
+use Rattle.library.specs.Passes.{allowed_for, holds, record_end, record_end_by, all_end_by, sections_end_by, places_by, places_read}
 use Rattle.library.specs.Reading.{count_of, reading}
+
+pub allowed-for-one : (what : Entries) → Determines (λ r. r ≡ allowed_for what)
+allowed-for-one what = by-equation (allowed_for what)
 
 pub holds-one : (what : Entries) (kind : ℕ) → Determines (λ r. r ≡ holds what kind)
 holds-one what kind = by-equation (holds what kind)
 
 pub record-end-one : (library : List ℕ) (what : Entries) (at : ℕ) → Determines (λ r. r ≡ record_end what library at)
 record-end-one library what at = by-equation (record_end what library at)
+
+-- and in either edition
+pub record-end-by-one : (library : List ℕ) (edition : Edition) (what : Entries) (at : ℕ) → Determines (λ r. r ≡ record_end_by edition what library at)
+record-end-by-one library edition what at = by-equation (record_end_by edition what library at)
 
 reached-apart : (a b : Result ℕ Refusal) → reached a ≡ reached b → a ≡ b
 reached-apart (Ok n) (Ok m) e = cc

@@ -22,7 +22,7 @@ use omf51::types::Allowed;
 
 // The header or end record at a place, by its type `kind`: its body has a name and `more` bytes behind it; bytes behind these are
 // left over.
-fn named_at<E: ReadBy>(
+pub fn named_at<E: ReadBy>(
     library: &[u8],
     kind: u8,
     more: u8,

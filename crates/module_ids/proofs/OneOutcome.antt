@@ -7,8 +7,15 @@ use Rattle.omf51.specs.declared.ModuleId.{ModuleId}
 use Rattle.omf51.specs.declared.Definition.{Definition}
 use Rattle.segments.specs.Ids.{code_info, is_kept, id_of}
 use Rattle.module_ids.specs.declared.IdRow.{IdRow}
-use Rattle.module_ids.specs.IdRows.{id_cells, id_row_at}
+use Rattle.module_ids.specs.declared.Mark.{Mark}
+use Rattle.module_ids.specs.IdRows.{mark_number, mark_from, id_cells, id_row_at}
 use Rattle.module_ids.specs.Noted.{Filled}
+
+pub mark-number-one : (mark : Mark) → Determines (λ n. n ≡ mark_number mark)
+mark-number-one mark = by-equation (mark_number mark)
+
+pub mark-from-one : (n : ℕ) → Determines (λ mark. mark ≡ mark_from n)
+mark-from-one n = by-equation (mark_from n)
 
 pub code-info-one : (info : ℕ) → Determines (λ r. r ≡ code_info info)
 code-info-one info = by-equation (code_info info)

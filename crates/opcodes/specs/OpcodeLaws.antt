@@ -7,7 +7,7 @@ use Rattle.lent.specs.ListLaws.{every}
 use Rattle.opcodes.specs.declared.Leads.{Leads}
 use Rattle.opcodes.specs.declared.Leads.TheVariants.{Nowhere, PageJump, PageCall, LongJump, LongCall, ShortJump, LaterJump}
 use Rattle.opcodes.specs.Lengths.{length_of}
-use Rattle.opcodes.specs.Leads.{leads_of, lead_number, place_of, bytes_of}
+use Rattle.opcodes.specs.Leads.{leads_of, lead_number, lead_table, place_of, bytes_of}
 
 -- the table that a rule makes, computed over all places, has at each place what the rule gives there
 table-from : (rule : ℕ → ℕ) (at n k : ℕ) → k < n → get_or (map rule (from at n)) k 0 ≡ rule (at + k)
@@ -52,6 +52,11 @@ later-is PageCall h = absurd (omega arith)
 later-is LongJump h = absurd (omega arith)
 later-is LongCall h = absurd (omega arith)
 later-is ShortJump h = absurd (omega arith)
+
+-- the table of all leads has the lead of each opcode, by its number
+pub lead_at : (opcode : ℕ) → opcode < 256 → get_or lead_table opcode 0 ≡ lead_number (leads_of opcode)
+unfolding lead_table
+lead_at opcode h = table_at (λ k. lead_number (leads_of k)) opcode h
 
 -- what holds of every opcode, from a test computed over all of them
 of-all : (p : ℕ → Bool) → all p (from 0 256) ≡ true → (opcode : ℕ) → opcode < 256 → p opcode ≡ true

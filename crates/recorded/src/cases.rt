@@ -139,14 +139,18 @@ fn fill_header(file: &mut impl Read, header: &mut [u8; SIZE]) -> Result<(), CutS
     fill_part(file, &mut header[LENT_AT..])
 }
 
-// The next case, if there is one: its header, which is zeros before; image and library begin with what it is run on.
+// The next case, if there is one: its header, which is zeros before; image and library begin with what it is run on. A header
+// that has no room for a case's counts as cut short.
 pub fn next_case(
     file: &mut impl Read,
-    header: &mut [u8; SIZE],
+    header: &mut [u8],
     image: &mut [u8],
     library: &mut [u8],
     before: Scene,
 ) -> Result<Option<Scene>, CutShort> {
+    let Some(header) = header.first_chunk_mut::<SIZE>() else {
+        return Err(CutShort);
+    };
     match fill(file, &mut header[..SETTINGS_AT]).size {
         0 => return Ok(None),
         SETTINGS_AT => {}

@@ -10,3 +10,4 @@ pub mod AddedSymbols
 pub mod AddedSymbolLaws
 pub mod merge
 pub mod symbols_by_offset
+pub mod OneOutcome

@@ -103,7 +103,7 @@ pub fn next_entry(library: &[u8], what: Entries, from: Cursor) -> Option<NextEnt
 }
 
 // The next definition from the cursor on. It mostly stands in the cursor's body or in the record that follows, so that these are
-// tried without a loop, and other records by a call.
+// tried before the loop over further records (`next_entry`).
 pub fn next_in_definitions(library: &[u8], from: Cursor) -> Option<NextEntry>
     ensures { result ≡ next_entry Definitions library.now from }
 {

@@ -24,3 +24,6 @@ module _ (noted : List ℕ) (i t : ℕ) (is : t ≡ target_at noted i) where
           go : Dec (k < i) → r ≤ target_at noted k
           go (yes y) = omega (arith, h.least k y b, e.first)
           go (no y) = let s = here-same k (omega (arith, l, y)) in omega (arith, s, e.second (omega (arith, b, s)))
+
+pub before-all : (noted : List ℕ) (n i bound top least : ℕ) → n ≤ i → NoneBefore noted i bound top least → NoneBefore noted n bound top least
+before-all noted n i bound top least l h = record { not-less = h.not-less; least = λ k b. h.least k (omega (arith, l, b)) }

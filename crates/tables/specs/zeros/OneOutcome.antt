@@ -1,7 +1,8 @@
 -- A table that is made has one outcome, by the contract alone. Assumes nothing.
-use Rattle.std.specs.Prelude.{◌≡◌, ℕ, List}
+use Rattle.std.specs.Prelude.{◌≡◌, ℕ}
 use Rattle.lent.specs.OneOutcome.{Determines, by-equation}
-use Rattle.tables.specs.zeros.Zeros.{zero_list}
+use Rattle.tables.specs.zeros.Zeros.{repeated}
 
-pub zeros-one : (n : ℕ) → Determines (λ (r : List ℕ). r ≡ zero_list n)
-zeros-one n = by-equation (zero_list n)
+-- whatever the zero of its type is; `zero_list n` is `repeated n 0`
+pub zeros-one : {A : Type 0} (n : ℕ) (zero : A) → Determines (λ r. r ≡ repeated n zero)
+zeros-one n zero = by-equation (repeated n zero)
