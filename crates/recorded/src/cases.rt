@@ -148,14 +148,16 @@ pub fn next_case(
     library: &mut [u8],
     before: Scene,
 ) -> Result<Option<Scene>, CutShort> {
-    let Some(header) = header.first_chunk_mut::<SIZE>() else {
-        return Err(CutShort);
-    };
-    match fill(file, &mut header[..SETTINGS_AT]).size {
+    let mut start = [0u8; SETTINGS_AT];
+    match fill(file, &mut start).size {
         0 => return Ok(None),
         SETTINGS_AT => {}
         _ => return Err(CutShort),
     }
+    let Some(header) = header.first_chunk_mut::<SIZE>() else {
+        return Err(CutShort);
+    };
+    header[..SETTINGS_AT].copy_from_slice(&start);
     fill_header(file, header)?;
     if has_scene(header) {
         return Ok(Some(next_scene(file, image, library)?));
